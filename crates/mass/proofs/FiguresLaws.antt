@@ -1,0 +1,78 @@
+-- The figures by tonnes and rests, as the code works them out. Assumes nothing.
+use Prim.Native.Nat.{ℕ, _+_, _-_, _*_, _/_, _<_, _≤_, min}
+use mathlib.Core.Path.{_≡_, refl, sym, ap, _∙_}
+use native.Mathlib.Nat.{mul-add, mul-assoc, mul-le-mul}
+use native.Mathlib.Omega.{arith}
+use lib.Dec.{ltb, leb}
+use borrow.Author.Tests.{lt-ltb, le-ltb, lt-leb, le-leb}
+use Rattle.mass.specs.declared.Kg.{Kg}
+use Rattle.mass.specs.declared.ledger.Ledgers.{Ledgers}
+use Rattle.mass.specs.declared.figures.Warming.{Warming}
+use Rattle.mass.specs.Rounding.{halfUp}
+use Rattle.mass.specs.Ledger.{tonne, mostTonnes, total, ledgerOf}
+use Rattle.mass.specs.Figures.{kgOf, AllSound, Mild, co2eOf, decisive, mustReport}
+use Rattle.mass.proofs.Splitting.{if-lt}
+
+-- Half a kilogram more, and what is left of one falls away: whole tonnes are whole kilograms.
+pub kgOf-parts : (n x : ℕ) (r : Kg) → r .0 ≡ n * 1000 + (x + 500000000000) / 1000000000000 → r ≡ kgOf (n * tonne + x)
+unfolding kgOf halfUp
+kgOf-parts n x r e =
+    let p : r .0 ≡ halfUp (n * tonne + x) 1000000000000 = omega arith in
+    λ i. record { 0 = p i }
+
+-- A warming value of at most 1,000, of at most m.
+pub mild-le : {k m x : ℕ} → k ≤ 1000 → x ≤ m → k * x ≤ 1000 * m
+mild-le h l = mul-le-mul h l
+
+share : (k n x : ℕ) → k * (n * tonne + x) ≡ k * n * tonne + k * x
+share k n x = mul-add k (n * tonne) x ∙ ap (λ (y : ℕ). y + k * x) (sym (mul-assoc k n tonne))
+
+pub co2eOf-parts : (t : Ledgers) (w : Warming) →
+    (t .fossil .tonnes + t .biomass .tonnes + w .ch4 * t .ch4 .tonnes + w .n2o * t .n2o .tonnes) * tonne
+    + (t .fossil .rest .0 + t .biomass .rest .0 + w .ch4 * t .ch4 .rest .0 + w .n2o * t .n2o .rest .0)
+    ≡ co2eOf t w
+unfolding co2eOf total
+co2eOf-parts t w =
+    omega (
+      arith,
+      share (w .ch4) (t .ch4 .tonnes) (t .ch4 .rest .0),
+      share (w .n2o) (t .n2o .tonnes) (t .n2o .rest .0),
+    )
+
+pub biomass-le-co2eOf : (t : Ledgers) (w : Warming) → total (t .biomass) ≤ co2eOf t w
+unfolding co2eOf
+biomass-le-co2eOf t w = omega arith
+
+-- Some 10^15 t: 2,002 ledgers at their most.
+pub co2eOf-tonnes-le : (t : Ledgers) (w : Warming) → AllSound t → Mild w → ledgerOf (co2eOf t w) .tonnes ≤ 10000000000000000
+unfolding ledgerOf co2eOf total
+co2eOf-tonnes-le t w s m =
+    let fossil = s .fossil-sound in
+    let biomass = s .biomass-sound in
+    omega (
+      arith,
+      mild-le (m .ch4-le) (most (t .ch4 .tonnes) (t .ch4 .rest .0) (s .ch4-sound .tonnes-le) (s .ch4-sound .canonical)),
+      mild-le (m .n2o-le) (most (t .n2o .tonnes) (t .n2o .rest .0) (s .n2o-sound .tonnes-le) (s .n2o-sound .canonical)),
+    )
+  where
+    most : (n x : ℕ) → n ≤ mostTonnes → x < tonne → n * tonne + x ≤ (mostTonnes + 1) * tonne
+    most n x h l = omega arith
+
+pub decisive-large : (v b : ℕ) → 25000 * tonne ≤ v → decisive v b ≡ v
+unfolding decisive
+decisive-large v b h = rw (le-ltb v (25000 * tonne) h)
+
+pub decisive-small : (v b : ℕ) → v < 25000 * tonne → decisive v b ≡ v - min b (15000 * tonne)
+unfolding decisive
+decisive-small v b h = rw (lt-ltb v (25000 * tonne) h)
+
+-- Whole tonnes decide, since 10,000 t are whole.
+pub mustReport-tonnes : (v b : ℕ) → leb 10000 (ledgerOf (decisive v b) .tonnes) ≡ mustReport v b
+unfolding ledgerOf mustReport
+mustReport-tonnes v b = whole (decisive v b)
+  where
+    whole : (d : ℕ) → leb 10000 (d / tonne) ≡ leb (10000 * tonne) d
+    whole d =
+        if-lt d (10000 * tonne)
+        (λ l. lt-leb 10000 (d / tonne) (omega arith) ∙ sym (lt-leb (10000 * tonne) d l))
+        (λ l. le-leb 10000 (d / tonne) (omega arith) ∙ sym (le-leb (10000 * tonne) d l))

@@ -1,0 +1,34 @@
+-- No mass of fuel passes 4,000,000 t, so that 64 bits hold it. Assumes nothing.
+use Prim.Native.Nat.{ℕ, _*_, _≤_}
+use native.Mathlib.Nat.{mul-le-mul, mul-le-mul-right, le-trans}
+use lib.Dec.{lit≤}
+use Rattle.mass.specs.declared.fuel.Amount.{Amount}
+use Rattle.mass.specs.declared.fuel.Heat.{Heat}
+use Rattle.mass.specs.declared.fuel.Carbon.{Carbon}
+use Rattle.mass.specs.declared.fuel.Co2Factor.{Co2Factor}
+use Rattle.mass.specs.declared.fuel.TraceFactor.{TraceFactor}
+use Rattle.mass.specs.Fuel.{HeatInReach, CarbonInReach, co2OfHeat, co2OfCarbon, traceOfHeat}
+
+pub heat-product-le : {a h x : ℕ} → HeatInReach a h x → a * h * x ≤ 4000000000000000000
+heat-product-le r = mul-le-mul (mul-le-mul (r .amount-le) (r .heat-le)) (r .factor-le)
+
+pub heat-le : {a h x : ℕ} → HeatInReach a h x → a * h ≤ 20000000000000
+heat-le r = mul-le-mul (r .amount-le) (r .heat-le)
+
+pub carbon-le : {a c : ℕ} → CarbonInReach a c → a * c ≤ 400000000000000
+carbon-le r = mul-le-mul (r .amount-le) (r .carbon-le)
+
+pub carbon-product-le : {a c : ℕ} → CarbonInReach a c → a * c * 3664 ≤ 1465600000000000000
+carbon-product-le r = mul-le-mul-right 3664 (carbon-le r)
+
+pub co2OfHeat-le : (a : Amount) (h : Heat) (x : Co2Factor) → HeatInReach (a .0) (h .0) (x .0) → co2OfHeat a h x .0 ≤ 4000000000000000000
+unfolding co2OfHeat
+co2OfHeat-le a h x = heat-product-le
+
+pub co2OfCarbon-le : (a : Amount) (c : Carbon) → CarbonInReach (a .0) (c .0) → co2OfCarbon a c .0 ≤ 4000000000000000000
+unfolding co2OfCarbon
+co2OfCarbon-le a c r = le-trans (carbon-product-le r) (lit≤ tt)
+
+pub traceOfHeat-le : (a : Amount) (h : Heat) (x : TraceFactor) → HeatInReach (a .0) (h .0) (x .0) → traceOfHeat a h x .0 ≤ 4000000000000000000
+unfolding traceOfHeat
+traceOfHeat-le a h x = heat-product-le

@@ -1,0 +1,15 @@
+-- The argument, from arithmetic to the promises: laws on plain values, worked cases, uniqueness.
+pub mod Splitting
+pub mod RoundingLaws
+pub mod NearestLaws
+pub mod ShiftLaws
+pub mod UnitsLaws
+pub mod ReadingLaws
+pub mod ProductLaws
+pub mod MultipleLaws
+pub mod HourLaws
+pub mod FuelLaws
+pub mod LedgerLaws
+pub mod FiguresLaws
+pub mod Cases
+pub mod Unique

@@ -1,0 +1,73 @@
+-- Below the least exponent the multiple is under a half. From there on the fraction is the same in
+-- smaller numbers: k × digits is below 2^63, and 16 to 63 places are shifted. Assumes nothing.
+use Prim.Native.Nat.{ℕ, _+_, _-_, _*_, _^_, _≤_, _<_}
+use mathlib.Core.Path.{_≡_, sym, ap, _∙_, subst}
+use native.Mathlib.Nat.{mod-lt, mul-le-mul-right}
+use native.Mathlib.Omega.{arith}
+use lib.Dec.{T}
+use lib.Pow.{pow-pos}
+use lib.Ieee.{binary64, toBits}
+use borrow.Author.Needs.{needs}
+use Rattle.mass.specs.Rounding.{nearestTo}
+use Rattle.mass.specs.Units.{unitsIn, fieldUnits}
+use Rattle.mass.proofs.ReadingLaws.{natural→number}
+use Rattle.mass.proofs.MultipleLaws.{exponent, digits, unitsIn-toBits, multiple-vanishes, exponent-le, multiple-reduced}
+use Rattle.mass.proofs.rounding.round_multiple.Statement.{statement}
+use Rattle.mass.proofs.rounding.round_multiple.Tie as tie
+
+abbrev bits : tie.Start → ℕ
+bits c = toBits binary64 (c .args .p)
+
+units : (c : tie.Start) → unitsIn binary64 (c .args .p) ≡ fieldUnits binary64 (exponent (bits c)) (digits (bits c))
+units c = unitsIn-toBits (c .args .p) (subst T (sym (c .good .1 .0 .1)) tt) (c .pre .1 .0)
+
+few : (c : tie.Start) → digits (bits c) < 2 ^ 52
+few c = mod-lt _ (pow-pos 52)
+
+at-most : (c : tie.Start) → exponent (bits c) ≤ 1059
+at-most c = exponent-le (exponent (bits c)) (digits (bits c)) (subst (λ (u : ℕ). u ≤ 100000000000 * 2 ^ 1074) (units c) (c .pre .1 .1))
+
+room : (k t : ℕ) → k ≤ 1000 → t < 2 ^ 52 → k * (2 ^ 52 + t) < 2 ^ 63
+room k t h l = omega (arith, mul-le-mul-right (2 ^ 52 + t) h)
+
+float-to-bits-bits : tie.Need-float-to-bits-bits
+float-to-bits-bits c = natural→number (c .args .p) (c .pre .1 .0)
+
+returns : tie.Need-returns
+returns c =
+    let s = c .before in
+    sym (ap (λ (u : ℕ). nearestTo (s .args .k * u) (2 ^ 1074)) (units s)
+    ∙ multiple-vanishes (s .args .k) (exponent (bits s)) (digits (bits s)) (s .pre .0) (few s) (c .if1 .taken))
+
+add-digits : tie.Need-add-digits
+add-digits c = search needs
+
+mul-round-shifted : tie.Need-mul-round-shifted
+mul-round-shifted c = omega (arith, room (c .before .args .k) (digits (bits (c .before))) (c .before .pre .0) (few (c .before)))
+
+sub-round-shifted : tie.Need-sub-round-shifted
+sub-round-shifted c = omega (arith, at-most (c .before))
+
+round-shifted-requires : tie.Need-round-shifted-requires
+round-shifted-requires c κs =
+    (room (c .before .args .k) (digits (bits (c .before))) (c .before .pre .0) (few (c .before)), omega (arith, at-most (c .before)))
+
+returns-2 : tie.Need-returns-2
+returns-2 c =
+    let e = c .before in
+    let s = e .before in
+    c .round-shifted .ensures
+    ∙ multiple-reduced (s .args .k) (exponent (bits s)) (digits (bits s)) (e .if1 .left) (at-most s)
+    ∙ ap (λ (u : ℕ). nearestTo (s .args .k * u) (2 ^ 1074)) (sym (units s))
+
+pub round-multiple-spec : {M : Type 1} → statement M
+round-multiple-spec =
+    tie.close
+    (tie.spec
+    float-to-bits-bits
+    returns
+    add-digits
+    mul-round-shifted
+    sub-round-shifted
+    round-shifted-requires
+    returns-2)
