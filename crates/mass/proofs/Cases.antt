@@ -1,5 +1,5 @@
 -- The sums worked by hand, as far as they are masses: P1 to P3, P7 to P12. Assumes nothing.
-use Prim.Native.Nat.{ℕ, _*_}
+use Prim.Native.Nat.{_*_}
 use mathlib.Core.Bool.{true, false}
 use mathlib.Core.Path.{_≡_, refl}
 use lib.Ieee.{ofBits}

@@ -1,9 +1,9 @@
 -- The figures by tonnes and rests, as the code works them out. Assumes nothing.
 use Prim.Native.Nat.{ℕ, _+_, _-_, _*_, _/_, _<_, _≤_, min}
-use mathlib.Core.Path.{_≡_, refl, sym, ap, _∙_}
+use mathlib.Core.Path.{_≡_, sym, ap, _∙_}
 use native.Mathlib.Nat.{mul-add, mul-assoc, mul-le-mul}
 use native.Mathlib.Omega.{arith}
-use lib.Dec.{ltb, leb}
+use lib.Dec.{leb}
 use borrow.Author.Tests.{lt-ltb, le-ltb, lt-leb, le-leb}
 use Rattle.mass.specs.declared.Kg.{Kg}
 use Rattle.mass.specs.declared.ledger.Ledgers.{Ledgers}
@@ -14,7 +14,8 @@ use Rattle.mass.specs.Figures.{kgOf, AllSound, Mild, co2eOf, decisive, m
 use Rattle.mass.proofs.Splitting.{if-lt}
 
 -- Half a kilogram more, and what is left of one falls away: whole tonnes are whole kilograms.
-pub kgOf-parts : (n x : ℕ) (r : Kg) → r .0 ≡ n * 1000 + (x + 500000000000) / 1000000000000 → r ≡ kgOf (n * tonne + x)
+pub kgOf-parts : (n x : ℕ) (r : Kg) → r .0 ≡ n * 1000 + (x + 500000000000) / 1000000000000
+    → r ≡ kgOf (n * tonne + x)
 unfolding kgOf halfUp
 kgOf-parts n x r e =
     let p : r .0 ≡ halfUp (n * tonne + x) 1000000000000 = omega arith in
@@ -44,7 +45,8 @@ unfolding co2eOf
 biomass-le-co2eOf t w = omega arith
 
 -- Some 10^15 t: 2,002 ledgers at their most.
-pub co2eOf-tonnes-le : (t : Ledgers) (w : Warming) → AllSound t → Mild w → ledgerOf (co2eOf t w) .tonnes ≤ 10000000000000000
+pub co2eOf-tonnes-le : (t : Ledgers) (w : Warming) → AllSound t → Mild w
+    → ledgerOf (co2eOf t w) .tonnes ≤ 10000000000000000
 unfolding ledgerOf co2eOf total
 co2eOf-tonnes-le t w s m =
     let fossil = s .fossil-sound in

@@ -21,14 +21,17 @@ carbon-le r = mul-le-mul (r .amount-le) (r .carbon-le)
 pub carbon-product-le : {a c : ℕ} → CarbonInReach a c → a * c * 3664 ≤ 1465600000000000000
 carbon-product-le r = mul-le-mul-right 3664 (carbon-le r)
 
-pub co2OfHeat-le : (a : Amount) (h : Heat) (x : Co2Factor) → HeatInReach (a .0) (h .0) (x .0) → co2OfHeat a h x .0 ≤ 4000000000000000000
+pub co2OfHeat-le : (a : Amount) (h : Heat) (x : Co2Factor) → HeatInReach (a .0) (h .0) (x .0)
+    → co2OfHeat a h x .0 ≤ 4000000000000000000
 unfolding co2OfHeat
 co2OfHeat-le a h x = heat-product-le
 
-pub co2OfCarbon-le : (a : Amount) (c : Carbon) → CarbonInReach (a .0) (c .0) → co2OfCarbon a c .0 ≤ 4000000000000000000
+pub co2OfCarbon-le : (a : Amount) (c : Carbon) → CarbonInReach (a .0) (c .0)
+    → co2OfCarbon a c .0 ≤ 4000000000000000000
 unfolding co2OfCarbon
 co2OfCarbon-le a c r = le-trans (carbon-product-le r) (lit≤ tt)
 
-pub traceOfHeat-le : (a : Amount) (h : Heat) (x : TraceFactor) → HeatInReach (a .0) (h .0) (x .0) → traceOfHeat a h x .0 ≤ 4000000000000000000
+pub traceOfHeat-le : (a : Amount) (h : Heat) (x : TraceFactor) → HeatInReach (a .0) (h .0) (x .0)
+    → traceOfHeat a h x .0 ≤ 4000000000000000000
 unfolding traceOfHeat
 traceOfHeat-le a h x = heat-product-le

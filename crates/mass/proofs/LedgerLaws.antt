@@ -42,7 +42,8 @@ pub added-tonnes-le : (g : Ledger) (v n : ℕ) → Canonical g → v ≤ n * ton
 unfolding added ledgerOf total
 added-tonnes-le g v n h l = omega arith
 
-pub sound-added : (g : Ledger) (v n : ℕ) → Canonical g → v ≤ n * tonne → g .tonnes + n ≤ mostTonnes → Sound (added g v)
+pub sound-added : (g : Ledger) (v n : ℕ) → Canonical g → v ≤ n * tonne → g .tonnes + n ≤ mostTonnes
+    → Sound (added g v)
 sound-added g v n h l m = record {
   canonical = canonical-added g v;
   tonnes-le = omega (arith, added-tonnes-le g v n h l);

@@ -3,7 +3,7 @@
 use Prim.Native.Nat.{ℕ, _+_, _-_, _*_, _/_, _%_, _<_, _≤_, compare, Ordering, Ordering·lt, Ordering·eq, Ordering·gt}
 use mathlib.Core.Bool.{not}
 use mathlib.Core.Path.{_≡_, refl, sym, ap, _∙_, subst}
-use native.Mathlib.Nat.{not-le-of-lt, le-of-eq, le-of-lt, mod-lt, div-eq-of-lt, mod-eq-of-lt, div-add-mod', mul-add-div-right, div-eq-of-lt-le, add-assoc, add-zero}
+use native.Mathlib.Nat.{not-le-of-lt, le-of-eq, le-of-lt, mod-lt, div-eq-of-lt, mod-eq-of-lt, div-add-mod', mul-add-div-right, div-eq-of-lt-le, add-zero}
 use native.Mathlib.Numerals.{add-one}
 use native.Mathlib.Omega.{arith}
 use lib.Dec.{T, isLe, isEq, eqb, eqb-refl, eqb→eq, leb→le, nleb→lt}
@@ -28,7 +28,8 @@ module _ (n d : ℕ) where
   nearestTo-half h = rw (le-ltb (2 * (n % d)) d (le-of-eq (sym h)), le-ltb d (2 * (n % d)) (le-of-eq h))
 
   -- A proof of any statement on the rounded number, case by case.
-  pub nearestTo-cases : {G : Type 0} → (2 * (n % d) < d → G) → (d < 2 * (n % d) → G) → (2 * (n % d) ≡ d → G) → G
+  pub nearestTo-cases : {G : Type 0} → (2 * (n % d) < d → G) → (d < 2 * (n % d) → G) → (2 * (n % d) ≡ d → G)
+      → G
   nearestTo-cases below above half =
       if-lt (2 * (n % d)) d below (λ h. if-lt d (2 * (n % d)) above (λ k. half (omega arith)))
 
@@ -41,7 +42,8 @@ nearestTo-zero n d h =
 up-one : (x d : ℕ) → d ≤ x → x < 2 * d → x / d ≡ 1
 up-one x d h l = div-eq-of-lt-le d (omega arith) (omega arith)
 
-lift : (n h : ℕ) → 0 < h → (n + (h - 1) + n / (2 * h) % 2) / (2 * h) ≡ n / (2 * h) + (n % (2 * h) + (h - 1) + n / (2 * h) % 2) / (2 * h)
+lift : (n h : ℕ) → 0 < h
+    → (n + (h - 1) + n / (2 * h) % 2) / (2 * h) ≡ n / (2 * h) + (n % (2 * h) + (h - 1) + n / (2 * h) % 2) / (2 * h)
 lift n h H =
     let q = n / (2 * h) in
     let e : n + (h - 1) + q % 2 ≡ q * (2 * h) + (n % (2 * h) + (h - 1) + q % 2) = omega (arith, div-add-mod' n (2 * h)) in

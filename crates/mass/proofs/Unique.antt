@@ -10,13 +10,16 @@ use Rattle.mass.proofs.ledger.add_ug.Reads as add-ug
 use Rattle.mass.proofs.ledger.add_ng.Reads as add-ng
 use Rattle.mass.proofs.figures.work_out.Reads as work-out
 
-pub weigh-by-heat-unique : (κs : _) (a : _) (r s : _) (x y : _) → weigh-by-heat.Post κs a r x → weigh-by-heat.Post κs a s y → r ≡ s
+pub weigh-by-heat-unique : (κs : _) (a : _) (r s : _) (x y : _) → weigh-by-heat.Post κs a r x
+    → weigh-by-heat.Post κs a s y → r ≡ s
 weigh-by-heat-unique κs a r s x y p q = p ∙ sym q
 
-pub weigh-by-carbon-unique : (κs : _) (a : _) (r s : _) (x y : _) → weigh-by-carbon.Post κs a r x → weigh-by-carbon.Post κs a s y → r ≡ s
+pub weigh-by-carbon-unique : (κs : _) (a : _) (r s : _) (x y : _) → weigh-by-carbon.Post κs a r x
+    → weigh-by-carbon.Post κs a s y → r ≡ s
 weigh-by-carbon-unique κs a r s x y p q = p ∙ sym q
 
-pub weigh-trace-unique : (κs : _) (a : _) (r s : _) (x y : _) → weigh-trace.Post κs a r x → weigh-trace.Post κs a s y → r ≡ s
+pub weigh-trace-unique : (κs : _) (a : _) (r s : _) (x y : _) → weigh-trace.Post κs a r x
+    → weigh-trace.Post κs a s y → r ≡ s
 weigh-trace-unique κs a r s x y p q = p ∙ sym q
 
 pub judge-unique : (κs : _) (a : _) (r s : _) (x y : _) → judge.Post κs a r x → judge.Post κs a s y → r ≡ s
@@ -31,5 +34,6 @@ add-ug-unique κs a r s x y p q = p ∙ sym q
 pub add-ng-unique : (κs : _) (a : _) (r s : _) (x y : _) → add-ng.Post κs a r x → add-ng.Post κs a s y → r ≡ s
 add-ng-unique κs a r s x y p q = p ∙ sym q
 
-pub work-out-unique : (κs : _) (a : _) (r s : _) (x y : _) → work-out.Post κs a r x → work-out.Post κs a s y → r ≡ s
+pub work-out-unique : (κs : _) (a : _) (r s : _) (x y : _) → work-out.Post κs a r x → work-out.Post κs a s y
+    → r ≡ s
 work-out-unique κs a r s x y p q = p ∙ sym q

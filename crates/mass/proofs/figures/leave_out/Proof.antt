@@ -1,6 +1,6 @@
 -- From 25,000 t on nothing is left out; below, what `cap` leaves of the biomass CO2, which is a
 -- part of the whole. Assumes nothing.
-use Prim.Native.Nat.{ℕ, _-_, _*_, _≤_, min}
+use Prim.Native.Nat.{ℕ, _-_, _*_, min}
 use mathlib.Core.Path.{_≡_, sym, ap, _∙_}
 use native.Mathlib.Omega.{arith}
 use borrow.Author.Needs.{needs}
@@ -10,7 +10,8 @@ use Rattle.mass.proofs.FiguresLaws.{decisive-large, decisive-small}
 use Rattle.mass.proofs.figures.leave_out.Statement.{statement}
 use Rattle.mass.proofs.figures.leave_out.Tie as tie
 
-capped : (c : tie.After-cap) → total (c .cap .result) ≡ min (total (c .before .before .before .args .biomass)) (15000 * tonne)
+capped : (c : tie.After-cap)
+    → total (c .cap .result) ≡ min (total (c .before .before .before .args .biomass)) (15000 * tonne)
 capped c = ap total (c .cap .ensures) ∙ total-ledgerOf _
 
 returns : tie.Need-returns

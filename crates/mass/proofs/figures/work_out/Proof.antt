@@ -1,9 +1,9 @@
 -- Each figure is its callee's, from its own ledger. The CO2 equivalent is in reach and holds the
 -- biomass CO2. Assumes nothing.
-use Prim.Native.Nat.{ℕ, _≤_}
+use Prim.Native.Nat.{ℕ}
 use mathlib.Core.Path.{_≡_, ap, _∙_}
 use borrow.Author.Needs.{needs}
-use Rattle.mass.specs.Ledger.{total, Canonical, ledgerOf}
+use Rattle.mass.specs.Ledger.{total, Canonical}
 use Rattle.mass.specs.Figures.{kgOf, co2eOf, mustReport, figuresOf}
 use Rattle.mass.proofs.LedgerLaws.{total-ledgerOf, canonical-ledgerOf}
 use Rattle.mass.proofs.FiguresLaws.{biomass-le-co2eOf, co2eOf-tonnes-le}

@@ -18,7 +18,8 @@ use Rattle.mass.proofs.rounding.round_multiple.Tie as tie
 abbrev bits : tie.Start → ℕ
 bits c = toBits binary64 (c .args .p)
 
-units : (c : tie.Start) → unitsIn binary64 (c .args .p) ≡ fieldUnits binary64 (exponent (bits c)) (digits (bits c))
+units : (c : tie.Start)
+    → unitsIn binary64 (c .args .p) ≡ fieldUnits binary64 (exponent (bits c)) (digits (bits c))
 units c = unitsIn-toBits (c .args .p) (subst T (sym (c .good .1 .0 .1)) tt) (c .pre .1 .0)
 
 few : (c : tie.Start) → digits (bits c) < 2 ^ 52
