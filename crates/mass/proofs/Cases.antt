@@ -12,30 +12,34 @@ use Rattle.mass.specs.Ledger.{tonne}
 use Rattle.mass.specs.Figures.{decisive, mustReport}
 
 -- ---- fuel: 1,000 m3 of a gas of 38,000 kJ, 50,000 mg CO2, 900 µg CH4 and 90 µg N2O a MJ
-pub p1-co2 : co2OfHeat (record { 0 = 1000 }) (record { 0 = 38000 }) (record { 0 = 50000 }) ≡ record { 0 = 1900000000000 }
+pub p1-co2 : co2OfHeat (record { 0 = 1000 }) (record { 0 = 38000 }) (record { 0 = 50000 })
+    ≡ record { 0 = 1900000000000 }
 unfolding co2OfHeat
 p1-co2 = refl
 
-pub p1-ch4 : traceOfHeat (record { 0 = 1000 }) (record { 0 = 38000 }) (record { 0 = 900 }) ≡ record { 0 = 34200000000 }
+pub p1-ch4 : traceOfHeat (record { 0 = 1000 }) (record { 0 = 38000 }) (record { 0 = 900 })
+    ≡ record { 0 = 34200000000 }
 unfolding traceOfHeat
 p1-ch4 = refl
 
-pub p1-n2o : traceOfHeat (record { 0 = 1000 }) (record { 0 = 38000 }) (record { 0 = 90 }) ≡ record { 0 = 3420000000 }
+pub p1-n2o : traceOfHeat (record { 0 = 1000 }) (record { 0 = 38000 }) (record { 0 = 90 })
+    ≡ record { 0 = 3420000000 }
 unfolding traceOfHeat
 p1-n2o = refl
 
--- with 39,000 kJ measured
-pub p2-co2 : co2OfHeat (record { 0 = 1000 }) (record { 0 = 39000 }) (record { 0 = 50000 }) ≡ record { 0 = 1950000000000 }
+-- P2 measures a heat of 39,000 kJ.
+pub p2-co2 : co2OfHeat (record { 0 = 1000 }) (record { 0 = 39000 }) (record { 0 = 50000 })
+    ≡ record { 0 = 1950000000000 }
 unfolding co2OfHeat
 p2-co2 = refl
 
--- with 520,000 mg of carbon measured
+-- P3 measures 520,000 mg of carbon.
 pub p3-co2 : co2OfCarbon (record { 0 = 1000 }) (record { 0 = 520000 }) ≡ record { 0 = 1905280000000 }
 unfolding co2OfCarbon
 p3-co2 = refl
 
 -- ---- hours
--- 12.5 percent and 2,000,000 scf/h
+-- P7 reads 12.5 percent and 2,000,000 scf/h.
 pub p7-usable : hourOf 0x4148_0000 0x49F4_2400 ≡ Usable (readingsOf 0x4148_0000 0x49F4_2400)
 unfolding hourOf judged upTo natural unitsIn readingsOf ofBits
 p7-usable = refl
@@ -44,7 +48,7 @@ pub p7-mass : hourMass (readingsOf 0x4148_0000 0x49F4_2400) ≡ record { 0 = 129
 unfolding hourMass roundedProduct nearestTo unitsIn readingsOf ofBits
 p7-mass = refl
 
--- 0.25 and 0.25: 62.5 goes down to the even 62
+-- P8 reads 0.25 and 0.25: 62.5 goes down to the even 62.
 pub p8-usable : hourOf 0x3E80_0000 0x3E80_0000 ≡ Usable (readingsOf 0x3E80_0000 0x3E80_0000)
 unfolding hourOf judged upTo natural unitsIn readingsOf ofBits
 p8-usable = refl
@@ -57,7 +61,7 @@ pub p8-mass : hourMass (readingsOf 0x3E80_0000 0x3E80_0000) ≡ record { 0 = 321
 unfolding hourMass roundedProduct nearestTo unitsIn readingsOf ofBits
 p8-mass = refl
 
--- 0.75 and 0.25: 187.5 goes up to the even 188
+-- P9 reads 0.75 and 0.25: 187.5 goes up to the even 188.
 pub p9-usable : hourOf 0x3F40_0000 0x3E80_0000 ≡ Usable (readingsOf 0x3F40_0000 0x3E80_0000)
 unfolding hourOf judged upTo natural unitsIn readingsOf ofBits
 p9-usable = refl
@@ -71,12 +75,12 @@ unfolding hourMass roundedProduct nearestTo unitsIn readingsOf ofBits
 p9-mass = refl
 
 -- ---- the decision
--- 10,000 t and no biomass
+-- P10 has 10,000 t, none of it biomass CO2.
 pub p10-reports : mustReport (10000 * tonne) 0 ≡ true
 unfolding mustReport decisive
 p10-reports = refl
 
--- 24,999 t, of which 16,000 t are biomass CO2: 15,000 t of it are left out
+-- P11 has 24,999 t, of which 16,000 t are biomass CO2: 15,000 t of them are left out.
 pub p11-decisive : decisive (24999 * tonne) (16000 * tonne) ≡ 9999 * tonne
 unfolding decisive
 p11-decisive = refl
@@ -85,7 +89,7 @@ pub p11-reports : mustReport (24999 * tonne) (16000 * tonne) ≡ false
 unfolding mustReport decisive
 p11-reports = refl
 
--- 25,000 t: nothing is left out
+-- P12 has 25,000 t, so that nothing is left out.
 pub p12-reports : mustReport (25000 * tonne) (16000 * tonne) ≡ true
 unfolding mustReport decisive
 p12-reports = refl

@@ -6,10 +6,11 @@ use native.Mathlib.Omega.{arith}
 use lib.Dec.{leb}
 use borrow.Author.Tests.{lt-ltb, le-ltb, lt-leb, le-leb}
 use Rattle.mass.specs.declared.Kg.{Kg}
+use Rattle.mass.specs.declared.ledger.Ledger.{Ledger}
 use Rattle.mass.specs.declared.ledger.Ledgers.{Ledgers}
 use Rattle.mass.specs.declared.figures.Warming.{Warming}
 use Rattle.mass.specs.Rounding.{halfUp}
-use Rattle.mass.specs.Ledger.{tonne, mostTonnes, total, ledgerOf}
+use Rattle.mass.specs.Ledger.{tonne, mostTonnes, total, Sound, ledgerOf}
 use Rattle.mass.specs.Figures.{kgOf, AllSound, Mild, co2eOf, decisive, mustReport}
 use Rattle.mass.proofs.Splitting.{if-lt}
 
@@ -21,7 +22,7 @@ kgOf-parts n x r e =
     let p : r .0 ≡ halfUp (n * tonne + x) 1000000000000 = omega arith in
     λ i. record { 0 = p i }
 
--- A warming value of at most 1,000, of at most m.
+-- A warming value of at most 1,000 makes at most 1,000 × m of what is at most m.
 pub mild-le : {k m x : ℕ} → k ≤ 1000 → x ≤ m → k * x ≤ 1000 * m
 mild-le h l = mul-le-mul h l
 
@@ -44,7 +45,7 @@ pub biomass-le-co2eOf : (t : Ledgers) (w : Warming) → total (t .biomass) ≤ c
 unfolding co2eOf
 biomass-le-co2eOf t w = omega arith
 
--- Some 10^15 t: 2,002 ledgers at their most.
+-- 2,002 ledgers at their most are some 10^15 t, and 64 bits hold 10^16 t in kilograms.
 pub co2eOf-tonnes-le : (t : Ledgers) (w : Warming) → AllSound t → Mild w
     → ledgerOf (co2eOf t w) .tonnes ≤ 10000000000000000
 unfolding ledgerOf co2eOf total
@@ -53,12 +54,12 @@ co2eOf-tonnes-le t w s m =
     let biomass = s .biomass-sound in
     omega (
       arith,
-      mild-le (m .ch4-le) (most (t .ch4 .tonnes) (t .ch4 .rest .0) (s .ch4-sound .tonnes-le) (s .ch4-sound .canonical)),
-      mild-le (m .n2o-le) (most (t .n2o .tonnes) (t .n2o .rest .0) (s .n2o-sound .tonnes-le) (s .n2o-sound .canonical)),
+      mild-le (m .ch4-le) (most (t .ch4) (s .ch4-sound)),
+      mild-le (m .n2o-le) (most (t .n2o) (s .n2o-sound)),
     )
   where
-    most : (n x : ℕ) → n ≤ mostTonnes → x < tonne → n * tonne + x ≤ (mostTonnes + 1) * tonne
-    most n x h l = omega arith
+    most : (g : Ledger) → Sound g → g .tonnes * tonne + g .rest .0 ≤ (mostTonnes + 1) * tonne
+    most g h = omega arith
 
 pub decisive-large : (v b : ℕ) → 25000 * tonne ≤ v → decisive v b ≡ v
 unfolding decisive
@@ -74,7 +75,6 @@ unfolding ledgerOf mustReport
 mustReport-tonnes v b = whole (decisive v b)
   where
     whole : (d : ℕ) → leb 10000 (d / tonne) ≡ leb (10000 * tonne) d
-    whole d =
-        if-lt d (10000 * tonne)
+    whole d = if-lt d (10000 * tonne)
         (λ l. lt-leb 10000 (d / tonne) (omega arith) ∙ sym (lt-leb (10000 * tonne) d l))
         (λ l. le-leb 10000 (d / tonne) (omega arith) ∙ sym (le-leb (10000 * tonne) d l))

@@ -1,4 +1,5 @@
--- A canonical ledger is determined by its total, and what is added is in the total. Assumes nothing.
+-- A canonical ledger is determined by its total, and what is added is in the total.
+-- Assumes nothing.
 use Prim.Native.Nat.{ℕ, _+_, _*_, _≤_}
 use mathlib.Core.Path.{_≡_}
 use native.Mathlib.Omega.{arith}

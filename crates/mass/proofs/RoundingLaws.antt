@@ -1,9 +1,34 @@
 -- `nearestTo` depends on the fraction alone, grows with it, and is what lifting by a half gives.
 -- Assumes nothing.
-use Prim.Native.Nat.{ℕ, _+_, _-_, _*_, _/_, _%_, _<_, _≤_, compare, Ordering, Ordering·lt, Ordering·eq, Ordering·gt}
+use Prim.Native.Nat.{
+  ℕ,
+  _+_,
+  _-_,
+  _*_,
+  _/_,
+  _%_,
+  _<_,
+  _≤_,
+  compare,
+  Ordering,
+  Ordering·lt,
+  Ordering·eq,
+  Ordering·gt,
+}
 use mathlib.Core.Bool.{not}
 use mathlib.Core.Path.{_≡_, refl, sym, ap, _∙_, subst}
-use native.Mathlib.Nat.{not-le-of-lt, le-of-eq, le-of-lt, mod-lt, div-eq-of-lt, mod-eq-of-lt, div-add-mod', mul-add-div-right, div-eq-of-lt-le, add-zero}
+use native.Mathlib.Nat.{
+  not-le-of-lt,
+  le-of-eq,
+  le-of-lt,
+  mod-lt,
+  div-eq-of-lt,
+  mod-eq-of-lt,
+  div-add-mod',
+  mul-add-div-right,
+  div-eq-of-lt-le,
+  add-zero,
+}
 use native.Mathlib.Numerals.{add-one}
 use native.Mathlib.Omega.{arith}
 use lib.Dec.{T, isLe, isEq, eqb, eqb-refl, eqb→eq, leb→le, nleb→lt}
@@ -27,7 +52,7 @@ module _ (n d : ℕ) where
   unfolding nearestTo
   nearestTo-half h = rw (le-ltb (2 * (n % d)) d (le-of-eq (sym h)), le-ltb d (2 * (n % d)) (le-of-eq h))
 
-  -- A proof of any statement on the rounded number, case by case.
+  -- Any statement on the rounded number is proved case by case.
   pub nearestTo-cases : {G : Type 0} → (2 * (n % d) < d → G) → (d < 2 * (n % d) → G) → (2 * (n % d) ≡ d → G)
       → G
   nearestTo-cases below above half =
@@ -42,29 +67,43 @@ nearestTo-zero n d h =
 up-one : (x d : ℕ) → d ≤ x → x < 2 * d → x / d ≡ 1
 up-one x d h l = div-eq-of-lt-le d (omega arith) (omega arith)
 
-lift : (n h : ℕ) → 0 < h
-    → (n + (h - 1) + n / (2 * h) % 2) / (2 * h) ≡ n / (2 * h) + (n % (2 * h) + (h - 1) + n / (2 * h) % 2) / (2 * h)
+-- The remainder by 2h, lifted, carries 0 or 1 into the quotient.
+abbrev carried : ℕ → ℕ → ℕ
+carried n h = (n % (2 * h) + (h - 1) + n / (2 * h) % 2) / (2 * h)
+
+lift : (n h : ℕ) → 0 < h → (n + (h - 1) + n / (2 * h) % 2) / (2 * h) ≡ n / (2 * h) + carried n h
 lift n h H =
     let q = n / (2 * h) in
-    let e : n + (h - 1) + q % 2 ≡ q * (2 * h) + (n % (2 * h) + (h - 1) + q % 2) = omega (arith, div-add-mod' n (2 * h)) in
-    ap (λ (x : ℕ). x / (2 * h)) e ∙ mul-add-div-right (omega arith) q (n % (2 * h) + (h - 1) + q % 2)
+    let rest = n % (2 * h) + (h - 1) + q % 2 in
+    let parts : n + (h - 1) + q % 2 ≡ q * (2 * h) + rest = omega (arith, div-add-mod' n (2 * h)) in
+    ap (λ (x : ℕ). x / (2 * h)) parts ∙ mul-add-div-right (omega arith) q rest
 
 odd-lift : (q h : ℕ) → 0 < h → (h + (h - 1) + q % 2) / (2 * h) ≡ q % 2
-odd-lift q h H =
-    if-eq (q % 2) 0
+odd-lift q h H = if-eq (q % 2) 0
     (λ e. div-eq-of-lt (omega arith) ∙ sym e)
     (λ k. up-one (h + (h - 1) + q % 2) (2 * h) (omega arith) (omega arith) ∙ omega arith)
 
 pub nearestTo-lift : (n h : ℕ) → 0 < h → (n + (h - 1) + n / (2 * h) % 2) / (2 * h) ≡ nearestTo n (2 * h)
-nearestTo-lift n h H =
-    let q = n / (2 * h) in
-    let m = n % (2 * h) in
-    let m-lt : m < 2 * h = mod-lt n (omega arith) in
-    lift n h H
-    ∙ nearestTo-cases n (2 * h)
-    (λ l. ap (λ (x : ℕ). q + x) (div-eq-of-lt (omega arith)) ∙ add-zero q ∙ sym (nearestTo-below n (2 * h) l))
-    (λ g. ap (λ (x : ℕ). q + x) (up-one (m + (h - 1) + q % 2) (2 * h) (omega arith) (omega arith)) ∙ sym (nearestTo-above n (2 * h) g))
-    (λ e. ap (λ (x : ℕ). q + x) (ap (λ (y : ℕ). (y + (h - 1) + q % 2) / (2 * h)) (omega arith) ∙ odd-lift q h H) ∙ sym (nearestTo-half n (2 * h) e))
+nearestTo-lift n h H = nearestTo-cases n (2 * h)
+    (λ l. by (none l) ∙ add-zero (n / (2 * h)) ∙ sym (nearestTo-below n (2 * h) l))
+    (λ g. by (one g) ∙ sym (nearestTo-above n (2 * h) g))
+    (λ e. by (odd e) ∙ sym (nearestTo-half n (2 * h) e))
+  where
+    by : {c : ℕ} → carried n h ≡ c → (n + (h - 1) + n / (2 * h) % 2) / (2 * h) ≡ n / (2 * h) + c
+    by e = lift n h H ∙ ap (λ (x : ℕ). n / (2 * h) + x) e
+
+    none : 2 * (n % (2 * h)) < 2 * h → carried n h ≡ 0
+    none l = div-eq-of-lt (omega arith)
+
+    one : 2 * h < 2 * (n % (2 * h)) → carried n h ≡ 1
+    one g =
+        let m-lt : n % (2 * h) < 2 * h = mod-lt n (omega arith) in
+        up-one (n % (2 * h) + (h - 1) + n / (2 * h) % 2) (2 * h) (omega arith) (omega arith)
+
+    odd : 2 * (n % (2 * h)) ≡ 2 * h → carried n h ≡ n / (2 * h) % 2
+    odd e =
+        let q = n / (2 * h) in
+        ap (λ (y : ℕ). (y + (h - 1) + q % 2) / (2 * h)) (omega arith) ∙ odd-lift q h H
 
 -- ---- equal and larger fractions, by the kit's `closest`
 module _ (a b : ℕ) where
@@ -93,8 +132,7 @@ module _ (a b : ℕ) where
       go Ordering·gt t = absurd t
 
 nearestTo-closest : (n d : ℕ) → nearestTo n d ≡ closest n d
-nearestTo-closest n d =
-    nearestTo-cases n d
+nearestTo-closest n d = nearestTo-cases n d
     (λ l. nearestTo-below n d l ∙ by Ordering·lt (is-lt (n % d * 2) d (omega arith)))
     (λ g. nearestTo-above n d g ∙ add-one (n / d) ∙ by Ordering·gt (is-gt (n % d * 2) d (omega arith)))
     (λ e. nearestTo-half n d e ∙ by Ordering·eq (is-eq (n % d * 2) d (omega arith)))
@@ -103,7 +141,10 @@ nearestTo-closest n d =
     by o h = ap (λ (k : Ordering). nearest (n / d) k) (sym h)
 
 pub nearestTo-same : (a b c d : ℕ) → 0 < b → 0 < d → a * d ≡ c * b → nearestTo a b ≡ nearestTo c d
-nearestTo-same a b c d B D e = nearestTo-closest a b ∙ closest-same a b c d B D e ∙ sym (nearestTo-closest c d)
+nearestTo-same a b c d B D e =
+    nearestTo-closest a b
+    ∙ closest-same a b c d B D e
+    ∙ sym (nearestTo-closest c d)
 
 pub nearestTo-mono : (a b c d : ℕ) → 0 < b → 0 < d → a * d ≤ c * b → nearestTo a b ≤ nearestTo c d
 nearestTo-mono a b c d B D h = rw (nearestTo-closest a b, nearestTo-closest c d) (closest-mono a b c d B D h)

@@ -21,7 +21,7 @@ pub record HeatInReach (a h x : ℕ) : Type 0 where
   pub heat-le : h ≤ 200000
   pub factor-le : x ≤ 200000
 
--- The limit of a gas. Other fuels have a lower one.
+-- The carbon limit is that of a gas, and other fuels have a lower one.
 pub record CarbonInReach (a c : ℕ) : Type 0 where
   pub amount-le : a ≤ 100000000
   pub carbon-le : c ≤ 4000000

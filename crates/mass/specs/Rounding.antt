@@ -11,14 +11,14 @@ use mathlib.Core.Bool.{cond}
 use mathlib.Core.Path.{_≡_}
 use lib.Dec.{ltb}
 
--- The quotient where the remainder is below half the divisor, the next number where it is above.
+-- It is the quotient where the remainder is below half the divisor, and one more where it is above.
 unfoldable pub nearestTo : ℕ → ℕ → ℕ
 nearestTo n d =
     cond (ltb (2 * (n % d)) d) (n / d)
     (cond (ltb d (2 * (n % d))) (n / d + 1)
     (n / d + n / d % 2))
 
--- What is left of n / d + 1 / 2 without its fraction.
+-- It is n / d + 1 / 2 without its fraction.
 unfoldable pub halfUp : ℕ → ℕ → ℕ
 halfUp n d = (2 * n + d) / (2 * d)
 

@@ -1,4 +1,4 @@
--- 2 + 1,000 + 1,000 times 10^15 are below 2^64. Assumes nothing.
+-- The sum is at most (2 + 1,000 + 1,000) × 10^15, which is below 2^64. Assumes nothing.
 use native.Mathlib.Omega.{arith}
 use borrow.Author.Needs.{needs}
 use Rattle.mass.proofs.FiguresLaws.{mild-le}

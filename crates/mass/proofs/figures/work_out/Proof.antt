@@ -53,7 +53,8 @@ unfolding figuresOf
 returns c =
     let s = c .before .before .before .before .before .before in
     let co2e = c .before .round-to-kg5 .ensures ∙ ap kgOf (whole s) in
-    let decided = c .must-report .ensures ∙ ap (λ (v : ℕ). mustReport v (total (entry s .args .t .biomass))) (whole s) in
+    let biomass = total (entry s .args .t .biomass) in
+    let decided = c .must-report .ensures ∙ ap (λ (v : ℕ). mustReport v biomass) (whole s) in
     λ i. record {
       fossil = c .before .before .before .before .before .round-to-kg .ensures i;
       biomass = c .before .before .before .before .round-to-kg2 .ensures i;
@@ -64,9 +65,7 @@ returns c =
     }
 
 pub work-out-spec : {M : Type 1} → statement M
-work-out-spec =
-    tie.close
-    (tie.spec
+work-out-spec = tie.close (tie.spec
     sum-co2e-requires
     round-to-kg-requires
     round-to-kg-requires-2

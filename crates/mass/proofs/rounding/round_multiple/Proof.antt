@@ -11,7 +11,14 @@ use borrow.Author.Needs.{needs}
 use Rattle.mass.specs.Rounding.{nearestTo}
 use Rattle.mass.specs.Units.{unitsIn, fieldUnits}
 use Rattle.mass.proofs.ReadingLaws.{natural→number}
-use Rattle.mass.proofs.MultipleLaws.{exponent, digits, unitsIn-toBits, multiple-vanishes, exponent-le, multiple-reduced}
+use Rattle.mass.proofs.MultipleLaws.{
+  exponent,
+  digits,
+  unitsIn-toBits,
+  multiple-vanishes,
+  exponent-le,
+  multiple-reduced,
+}
 use Rattle.mass.proofs.rounding.round_multiple.Statement.{statement}
 use Rattle.mass.proofs.rounding.round_multiple.Tie as tie
 
@@ -26,10 +33,12 @@ few : (c : tie.Start) → digits (bits c) < 2 ^ 52
 few c = mod-lt _ (pow-pos 52)
 
 at-most : (c : tie.Start) → exponent (bits c) ≤ 1059
-at-most c = exponent-le (exponent (bits c)) (digits (bits c)) (subst (λ (u : ℕ). u ≤ 100000000000 * 2 ^ 1074) (units c) (c .pre .1 .1))
+at-most c =
+    let units-le = subst (λ (u : ℕ). u ≤ 100000000000 * 2 ^ 1074) (units c) (c .pre .1 .1) in
+    exponent-le (exponent (bits c)) (digits (bits c)) units-le
 
-room : (k t : ℕ) → k ≤ 1000 → t < 2 ^ 52 → k * (2 ^ 52 + t) < 2 ^ 63
-room k t h l = omega (arith, mul-le-mul-right (2 ^ 52 + t) h)
+room : (c : tie.Start) → c .args .k * (2 ^ 52 + digits (bits c)) < 2 ^ 63
+room c = omega (arith, few c, mul-le-mul-right (2 ^ 52 + digits (bits c)) (c .pre .0))
 
 float-to-bits-bits : tie.Need-float-to-bits-bits
 float-to-bits-bits c = natural→number (c .args .p) (c .pre .1 .0)
@@ -37,21 +46,21 @@ float-to-bits-bits c = natural→number (c .args .p) (c .pre .1 .0)
 returns : tie.Need-returns
 returns c =
     let s = c .before in
-    sym (ap (λ (u : ℕ). nearestTo (s .args .k * u) (2 ^ 1074)) (units s)
-    ∙ multiple-vanishes (s .args .k) (exponent (bits s)) (digits (bits s)) (s .pre .0) (few s) (c .if1 .taken))
+    let k = s .args .k in
+    sym (multiple-vanishes k (exponent (bits s)) (digits (bits s)) (s .pre .0) (few s) (c .if1 .taken))
+    ∙ ap (λ (u : ℕ). nearestTo (k * u) (2 ^ 1074)) (sym (units s))
 
 add-digits : tie.Need-add-digits
 add-digits c = search needs
 
 mul-round-shifted : tie.Need-mul-round-shifted
-mul-round-shifted c = omega (arith, room (c .before .args .k) (digits (bits (c .before))) (c .before .pre .0) (few (c .before)))
+mul-round-shifted c = omega (arith, room (c .before))
 
 sub-round-shifted : tie.Need-sub-round-shifted
 sub-round-shifted c = omega (arith, at-most (c .before))
 
 round-shifted-requires : tie.Need-round-shifted-requires
-round-shifted-requires c κs =
-    (room (c .before .args .k) (digits (bits (c .before))) (c .before .pre .0) (few (c .before)), omega (arith, at-most (c .before)))
+round-shifted-requires c κs = (room (c .before), omega (arith, at-most (c .before)))
 
 returns-2 : tie.Need-returns-2
 returns-2 c =
@@ -62,9 +71,7 @@ returns-2 c =
     ∙ ap (λ (u : ℕ). nearestTo (s .args .k * u) (2 ^ 1074)) (sym (units s))
 
 pub round-multiple-spec : {M : Type 1} → statement M
-round-multiple-spec =
-    tie.close
-    (tie.spec
+round-multiple-spec = tie.close (tie.spec
     float-to-bits-bits
     returns
     add-digits

@@ -9,7 +9,7 @@ use Rattle.mass.proofs.ShiftLaws.{half-shifted, half-le, nearestTo-shif
 use Rattle.mass.proofs.rounding.round_shifted.Statement.{statement}
 use Rattle.mass.proofs.rounding.round_shifted.Tie as tie
 
--- The code's half.
+-- No bit of the code's half is shifted out.
 half : (c : tie.Start) → 1 * 2 ^ (c .args .places - 1) % 2 ^ 64 ≡ 2 ^ (c .args .places - 1)
 half c = half-shifted (c .args .places) (c .pre .1 .0) (c .pre .1 .1)
 
@@ -49,5 +49,4 @@ returns c =
 
 pub round-shifted-spec : {M : Type 1} → statement M
 round-shifted-spec =
-    tie.close
-    (tie.spec sub-half shl-half shr-odd sub-result add-result add-result-2 shr-result returns)
+    tie.close (tie.spec sub-half shl-half shr-odd sub-result add-result add-result-2 shr-result returns)
