@@ -33,6 +33,16 @@ pub p2-co2 : co2OfHeat (record { 0 = 1000 }) (record { 0 = 39000 }) (record { 0 
 unfolding co2OfHeat
 p2-co2 = refl
 
+pub p2-ch4 : traceOfHeat (record { 0 = 1000 }) (record { 0 = 39000 }) (record { 0 = 900 })
+    ≡ record { 0 = 35100000000 }
+unfolding traceOfHeat
+p2-ch4 = refl
+
+pub p2-n2o : traceOfHeat (record { 0 = 1000 }) (record { 0 = 39000 }) (record { 0 = 90 })
+    ≡ record { 0 = 3510000000 }
+unfolding traceOfHeat
+p2-n2o = refl
+
 -- P3 measures 520,000 mg of carbon.
 pub p3-co2 : co2OfCarbon (record { 0 = 1000 }) (record { 0 = 520000 }) ≡ record { 0 = 1905280000000 }
 unfolding co2OfCarbon

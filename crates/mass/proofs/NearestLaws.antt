@@ -2,15 +2,7 @@
 -- Assumes nothing.
 use Prim.Native.Nat.{ℕ, _+_, _*_, _/_, _%_, _<_, _≤_}
 use mathlib.Core.Path.{_≡_, sym, ap, _∙_, subst}
-use native.Mathlib.Nat.{
-  one-mul,
-  add-mul,
-  mod-lt,
-  div-add-mod',
-  mul-le-mul-right,
-  eq-of-mul-eq-mul-right,
-  le-antisymm,
-}
+use native.Mathlib.Nat.{one-mul, add-mul, mod-lt, div-add-mod', mul-le-mul-right, eq-of-mul-eq-mul-right, le-antisymm}
 use native.Mathlib.Omega.{arith}
 use Rattle.mass.specs.Rounding.{nearestTo, Nearest}
 use Rattle.mass.proofs.Splitting.{if-lt, if-eq}

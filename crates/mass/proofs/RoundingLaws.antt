@@ -1,34 +1,9 @@
 -- `nearestTo` depends on the fraction alone, grows with it, and is what lifting by a half gives.
 -- Assumes nothing.
-use Prim.Native.Nat.{
-  ℕ,
-  _+_,
-  _-_,
-  _*_,
-  _/_,
-  _%_,
-  _<_,
-  _≤_,
-  compare,
-  Ordering,
-  Ordering·lt,
-  Ordering·eq,
-  Ordering·gt,
-}
+use Prim.Native.Nat.{ℕ, _+_, _-_, _*_, _/_, _%_, _<_, _≤_, compare, Ordering, Ordering·lt, Ordering·eq, Ordering·gt}
 use mathlib.Core.Bool.{not}
 use mathlib.Core.Path.{_≡_, refl, sym, ap, _∙_, subst}
-use native.Mathlib.Nat.{
-  not-le-of-lt,
-  le-of-eq,
-  le-of-lt,
-  mod-lt,
-  div-eq-of-lt,
-  mod-eq-of-lt,
-  div-add-mod',
-  mul-add-div-right,
-  div-eq-of-lt-le,
-  add-zero,
-}
+use native.Mathlib.Nat.{not-le-of-lt, le-of-eq, le-of-lt, mod-lt, div-eq-of-lt, mod-eq-of-lt, div-add-mod', mul-add-div-right, div-eq-of-lt-le, add-zero, mul-pos, mul-assoc}
 use native.Mathlib.Numerals.{add-one}
 use native.Mathlib.Omega.{arith}
 use lib.Dec.{T, isLe, isEq, eqb, eqb-refl, eqb→eq, leb→le, nleb→lt}
@@ -145,6 +120,10 @@ nearestTo-same a b c d B D e =
     nearestTo-closest a b
     ∙ closest-same a b c d B D e
     ∙ sym (nearestTo-closest c d)
+
+-- A common factor goes out of both parts of the fraction.
+pub nearestTo-scaled : (k n w d : ℕ) → 0 < w → 0 < d → nearestTo (k * (n * w)) (w * d) ≡ nearestTo (k * n) d
+nearestTo-scaled k n w d W D = nearestTo-same (k * (n * w)) (w * d) (k * n) d (mul-pos W D) D (simp mul-assoc)
 
 pub nearestTo-mono : (a b c d : ℕ) → 0 < b → 0 < d → a * d ≤ c * b → nearestTo a b ≤ nearestTo c d
 nearestTo-mono a b c d B D h = rw (nearestTo-closest a b, nearestTo-closest c d) (closest-mono a b c d B D h)

@@ -11,14 +11,7 @@ use borrow.Author.Needs.{needs}
 use Rattle.mass.specs.Rounding.{nearestTo}
 use Rattle.mass.specs.Units.{unitsIn, fieldUnits}
 use Rattle.mass.proofs.ReadingLaws.{natural→number}
-use Rattle.mass.proofs.MultipleLaws.{
-  exponent,
-  digits,
-  unitsIn-toBits,
-  multiple-vanishes,
-  exponent-le,
-  multiple-reduced,
-}
+use Rattle.mass.proofs.MultipleLaws.{exponent, digits, unitsIn-toBits, multiple-vanishes, exponent-le, multiple-reduced}
 use Rattle.mass.proofs.rounding.round_multiple.Statement.{statement}
 use Rattle.mass.proofs.rounding.round_multiple.Tie as tie
 
