@@ -1,0 +1,140 @@
+-- Words by their bytes and by their parts, and lines one by one. Assumes nothing.
+use Prim.Native.Nat.{ℕ, suc, zero, _+_, _-_, _*_, _^_, _<_, _≤_, zero-le}
+use mathlib.Core.Bool.{true, false}
+use mathlib.Core.List.{List, [], _∷_}
+use mathlib.Core.Path.{_≡_, refl, ap, ap₂, sym, _∙_, subst}
+use native.Mathlib.Nat.{sub-zero, zero-add, one-mul, mul-assoc, mul-pos, mul-zero, pow-le-pow-right, lt-of-lt-of-le}
+use native.Mathlib.Omega.{arith}
+use lib.Dec.{eqb, lit<}
+use lib.ListN.{length, take, drop}
+use lib.Pow.{pow-add}
+use lib.Seq.{drop-drop}
+use borrow.Author.Tests.{eq-eqb, ne-eqb}
+use Rattle.mass.proofs.Splitting.{if-eq}
+use Rattle.rules.specs.Tests.{_also_}
+use Rattle.rules.specs.Bytes.{byte, word, zeros, line, lines}
+use Rattle.rules.proofs.TestsLaws.{also-t, also-f}
+
+-- ---- reading a word from its last byte down
+module _ (s : List ℕ) (at n : ℕ) where
+  pub word-none : (0 ≡ word s (at + n) (n - n)) × (0 < 256 ^ (n - n))
+  unfolding word
+  word-none = let none : n - n ≡ 0 = omega arith in rw none (refl, lit< tt)
+
+  pub word-all : (v i : ℕ) → i ≡ 0 → v ≡ word s (at + i) (n - i) → v < 256 ^ (n - i) →
+      (v ≡ word s at n) × (v < 256 ^ n)
+  word-all v i z e l =
+      let start : at + i ≡ at = omega arith in
+      let length : n - i ≡ n = omega arith in
+      (e ∙ ap₂ (word s) start length, subst (λ (k : ℕ). v < 256 ^ k) length l)
+
+  module _ (i : ℕ) (some : 0 < i) (left : i ≤ n) where
+    longer : word s (at + (i - 1)) (n - (i - 1)) ≡ byte s (at + (i - 1)) + 256 * word s (at + i) (n - i)
+    unfolding word
+    longer =
+        let length : n - (i - 1) ≡ suc (n - i) = omega arith in
+        let next : at + (i - 1) + 1 ≡ at + i = omega arith in
+        rw (length, next)
+
+    wider : 256 ^ (n - (i - 1)) ≡ 256 * 256 ^ (n - i)
+    wider =
+        let length : n - (i - 1) ≡ 1 + (n - i) = omega arith in
+        ap (λ (k : ℕ). 256 ^ k) length ∙ pow-add 256 1 (n - i)
+
+    -- A byte b more, below the word v.
+    pub word-next : (v b : ℕ) → v ≡ word s (at + i) (n - i) → v < 256 ^ (n - i) → b ≡ byte s (at + (i - 1))
+        → b < 256 →
+        (v * 256 + b ≡ word s (at + (i - 1)) (n - (i - 1))) × (v * 256 + b < 256 ^ (n - (i - 1)))
+    word-next v b e l d m = (omega (arith, longer), omega (arith, wider))
+
+    pub word-room : (v : ℕ) → n ≤ 8 → v < 256 ^ (n - i) → v < 256 ^ 7
+    word-room v few l =
+        let short : n - i ≤ 7 = omega arith in
+        lt-of-lt-of-le l (pow-le-pow-right {n = 256} (lit< tt) short)
+
+-- ---- words by their parts
+pub word-add : (l : List ℕ) (k m n : ℕ) → word l k (m + n) ≡ word l k m + 256 ^ m * word l (k + m) n
+unfolding word
+word-add l k zero n =
+    let here : k + 0 ≡ k = omega arith in
+    let alone : 0 + n ≡ n = omega arith in
+    ap (word l k) alone ∙ sym (zero-add _ ∙ one-mul _ ∙ ap (λ (j : ℕ). word l j n) here)
+word-add l k (suc m) n =
+    let place : k + 1 + m ≡ k + suc m = omega arith in
+    let longer : suc m + n ≡ suc (m + n) = omega arith in
+    let higher : 256 ^ suc m ≡ 256 * 256 ^ m = ap (λ (j : ℕ). 256 ^ j) (sym (one-more m)) ∙ pow-add 256 1 m in
+    let rest : word l (k + 1) (m + n) ≡ word l (k + 1) m + 256 ^ m * word l (k + suc m) n =
+    word-add l (k + 1) m n ∙ ap (λ (j : ℕ). word l (k + 1) m + 256 ^ m * word l j n) place in
+    rw (longer, higher) (omega (arith, mul-assoc 256 (256 ^ m) (word l (k + suc m) n)))
+  where
+    one-more : (m : ℕ) → 1 + m ≡ suc m
+    one-more m = omega arith
+
+pow-above : (m : ℕ) → 0 < 256 ^ m
+pow-above m = pow-le-pow-right {n = 256} (lit< tt) {i = 0} {j = m} zero-le
+
+-- ---- zeros
+-- A word is 0 exactly if both of its parts are.
+pub zeros-add : (l : List ℕ) (k m n : ℕ) → zeros l k (m + n) ≡ (zeros l k m also zeros l (k + m) n)
+zeros-add l k m n = parts (word l k m) (word l (k + m) n) (word l k (m + n)) (word-add l k m n)
+  where
+    parts : (low high whole : ℕ) → whole ≡ low + 256 ^ m * high → eqb whole 0 ≡ (eqb low 0 also eqb high 0)
+    parts low high whole sum =
+        if-eq low 0
+        (λ z. if-eq high 0
+        (λ y. eq-eqb whole 0 (omega (arith, vanishes y)) ∙ sym (also-t (eq-eqb low 0 z) (eq-eqb high 0 y)))
+        (λ y. ne-eqb whole 0 (λ w. omega (arith, stays y)) ∙ sym (also-t (eq-eqb low 0 z) (ne-eqb high 0 y))))
+        (λ z. ne-eqb whole 0 (λ w. z (omega arith)) ∙ sym (also-f (eqb high 0) (ne-eqb low 0 z)))
+      where
+        vanishes : high ≡ 0 → 256 ^ m * high ≡ 0
+        vanishes y = ap (λ (x : ℕ). 256 ^ m * x) y ∙ mul-zero (256 ^ m)
+
+        stays : (high ≡ 0 → ⊥) → 0 < 256 ^ m * high
+        stays y = mul-pos (pow-above m) (omega arith)
+
+-- ---- a line's last bytes, four at a time
+module _ (l : List ℕ) (e b : ℕ) where
+  fours : b + 4 ≤ e → zeros l b (e - b) ≡ (zeros l b 4 also zeros l (b + 4) (e - (b + 4)))
+  fours h =
+      let split : e - b ≡ 4 + (e - (b + 4)) = omega arith in
+      ap (zeros l b) split ∙ zeros-add l b 4 (e - (b + 4))
+
+  pub blank-bad : {r : ℕ} → b + 4 ≤ e → r ≡ word l b 4 → (r ≡ 0 → ⊥) → zeros l b (e - b) ≡ false
+  blank-bad h p z = fours h ∙ also-f (zeros l (b + 4) (e - (b + 4))) (ne-eqb (word l b 4) 0 (λ q. z (p ∙ q)))
+
+  pub blank-next : {r : ℕ} → b + 4 ≤ e → r ≡ word l b 4 → r ≡ 0
+      → zeros l b (e - b) ≡ zeros l (b + 4) (e - (b + 4))
+  blank-next h p z = fours h ∙ also-t (eq-eqb (word l b 4) 0 (sym p ∙ z)) refl
+
+  pub blank-end : e ≤ b → zeros l b (e - b) ≡ true
+  unfolding word
+  blank-end h = let none : e - b ≡ 0 = omega arith in rw none
+
+-- ---- lines
+pub line-take : (k : ℕ) (s : List ℕ) → line k s ≡ take 32 (drop (32 * k) s)
+line-take k s =
+    let whole : 32 * k + 32 - 32 * k ≡ 32 = omega arith in
+    ap (λ (n : ℕ). take n (drop (32 * k) s)) whole
+
+pub line-suc : (k : ℕ) (s : List ℕ) → line (suc k) s ≡ line k (drop 32 s)
+line-suc k s =
+    let place : 32 + 32 * k ≡ 32 * suc k = omega arith in
+    line-take (suc k) s
+    ∙ ap (take 32) (ap (λ (n : ℕ). drop n s) (sym place) ∙ sym (drop-drop (32 * k) 32 s))
+    ∙ sym (line-take k (drop 32 s))
+
+pub lines-start : (n : ℕ) (s : List ℕ) → lines n s ≡ lines (n - 0) (drop (32 * 0) s)
+lines-start n s = simp sub-zero
+
+pub lines-next : (n i : ℕ) (s : List ℕ) → i < n →
+    lines (n - i) (drop (32 * i) s) ≡ line i s ∷ lines (n - (i + 1)) (drop (32 * (i + 1)) s)
+unfolding lines
+lines-next n i s h =
+    let left : n - i ≡ suc (n - (i + 1)) = omega arith in
+    let place : 32 * i + 32 ≡ 32 * (i + 1) = omega arith in
+    let after = drop-drop 32 (32 * i) s ∙ ap (λ (m : ℕ). drop m s) place in
+    rw left (ap₂ _∷_ (sym (line-take i s)) (ap (lines (n - (i + 1))) after))
+
+pub lines-end : (n i : ℕ) (s : List ℕ) → n ≤ i → lines (n - i) s ≡ []
+unfolding lines
+lines-end n i s h = let none : n - i ≡ 0 = omega arith in rw none

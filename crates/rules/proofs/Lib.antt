@@ -1,0 +1,11 @@
+-- The argument, from rows of tests to records: laws on plain values, worked sums, uniqueness.
+pub mod TestsLaws
+pub mod BytesLaws
+pub mod BookLaws
+pub mod ListingLaws
+pub mod MethodLaws
+pub mod EntryLaws
+pub mod RecordLaws
+pub mod ReaderLaws
+pub mod Cases
+pub mod Unique

@@ -1,0 +1,29 @@
+-- The list of methods, one case at a time. Assumes nothing.
+use Prim.Native.Nat.{ℕ}
+use mathlib.Core.Bool.{true, false}
+use mathlib.Core.List.{List}
+use mathlib.Core.Path.{_≡_, refl}
+use lib.Dec.{eqb, ltb}
+use Rattle.rules.specs.Tests.{_either_, choose}
+use Rattle.rules.specs.Fields.{monitored, fuelClass, defaultHeat, heatMeasured, carbonMeasured}
+use Rattle.rules.specs.Method.{small, methodOf}
+use Rattle.rules.proofs.TestsLaws.{choose-t, choose-f}
+
+module _ (l u f : List ℕ) where
+  pub methodOf-monitored : monitored u ≡ true → methodOf l u f ≡ 4
+  unfolding methodOf
+  methodOf-monitored m = choose-t _ m refl
+
+  pub methodOf-carbon : monitored u ≡ false → carbonMeasured l ≡ true → methodOf l u f ≡ 3
+  unfolding methodOf
+  methodOf-carbon m c = choose-f _ m (choose-t _ c refl)
+
+  pub methodOf-heat : monitored u ≡ false → carbonMeasured l ≡ false → heatMeasured l ≡ true →
+      methodOf l u f ≡ choose (small u either eqb (fuelClass f) 1 either eqb (fuelClass f) 2) 2 0
+  unfolding methodOf
+  methodOf-heat m c h = choose-f _ m (choose-f _ c (choose-t _ h refl))
+
+  pub methodOf-default : monitored u ≡ false → carbonMeasured l ≡ false → heatMeasured l ≡ false →
+      methodOf l u f ≡ choose (ltb 0 (defaultHeat f)) (choose (small u) 1 0) 0
+  unfolding methodOf
+  methodOf-default m c h = choose-f _ m (choose-f _ c (choose-f _ h refl))

@@ -1,0 +1,30 @@
+-- A sight is of one answer only. Assumes nothing.
+use mathlib.Core.Path.{_≡_, refl, sym, ap, _∙_}
+use lib.Dec.{eqb}
+use Rattle.rules.specs.declared.book.Fault.the-variants.{Length, Trailer, Units, Fuels}
+use Rattle.rules.specs.declared.reader.Seen.{Seen}
+use Rattle.rules.specs.declared.reader.Seen.the-variants.{Refused, Missing, Record}
+use Rattle.rules.specs.Tests.{choose}
+use Rattle.rules.specs.Reader.{Sight, turnedAway, missing, shown, sight}
+
+-- What `look` gave, from the sight that it stands for.
+gave : Sight → Seen
+gave (turnedAway n) =
+    choose (eqb n 20) (Refused Length)
+    (choose (eqb n 21) (Refused Trailer)
+    (choose (eqb n 22) (Refused Units)
+    (Refused Fuels)))
+gave missing = Missing
+gave (shown o) = Record o
+
+gave-sight : (r : Seen) → gave (sight r) ≡ r
+unfolding gave sight choose
+gave-sight (Refused Length) = refl
+gave-sight (Refused Trailer) = refl
+gave-sight (Refused Units) = refl
+gave-sight (Refused Fuels) = refl
+gave-sight Missing = refl
+gave-sight (Record o) = refl
+
+pub sight-inj : (r s : Seen) → sight r ≡ sight s → r ≡ s
+sight-inj r s e = sym (gave-sight r) ∙ ap gave e ∙ gave-sight s

@@ -1,0 +1,106 @@
+-- What becomes of a record, test by test, and that it is a reason or a bounded entry. Assumes nothing.
+use Prim.Native.Nat.{ℕ, _≤_}
+use mathlib.Core.Bool.{Bool, true, false}
+use mathlib.Core.List.{List, [], _∷_}
+use mathlib.Core.Path.{_≡_, refl}
+use lib.Dec.{eqb, ltb, lit≤}
+use Rattle.mass.specs.declared.hour.Hour.{Hour}
+use Rattle.mass.specs.declared.hour.Hour.the-variants.{Usable, Unusable}
+use Rattle.mass.specs.Hour.{hourOf}
+use Rattle.mass.proofs.HourLaws.{inRange-of-hourOf}
+use Rattle.rules.specs.declared.book.Head.{Head}
+use Rattle.rules.specs.declared.record.Outcome.{Outcome}
+use Rattle.rules.specs.declared.record.Outcome.the-variants.{SetAside, Counted}
+use Rattle.rules.specs.Tests.{choose}
+use Rattle.rules.specs.Bytes.{line, linesIn}
+use Rattle.rules.specs.Fields.{number, monitored, kind, unitNumber, fuelNumber, percentBits, flowBits}
+use Rattle.rules.specs.Book.{unitOk, fuelOk, linesOk, linesSound, unitLines, fuelLines, opened, accepted}
+use Rattle.rules.specs.Method.{methodOf}
+use Rattle.rules.specs.Entry.{heatInUse}
+use Rattle.rules.specs.Record.{lastReason, check, listed, fuelForm, hourForm, fuelRanges, hourRange, fuelJudged, fuelOutcome, hourRead, hourJudged, hourOutcome, outcomeOf, outcomeAt}
+use Rattle.rules.proofs.TestsLaws.{also-l, also-r, choose-t, choose-f}
+use Rattle.rules.proofs.BookLaws.{accepted-facts}
+use Rattle.rules.proofs.EntryLaws.{Bounded, bounded-fuelEntry, bounded-hourEntry}
+
+-- ---- one test
+pub check-t : {t : Bool} {x r : Outcome} (k : ℕ) → t ≡ true → x ≡ r → check t k x ≡ r
+unfolding check
+check-t k p q = choose-t _ p q
+
+pub check-f : {t : Bool} (k : ℕ) (x : Outcome) → t ≡ false → check t k x ≡ SetAside k
+unfolding check
+check-f k x p = choose-f _ p refl
+
+-- ---- a reason from 1 to the last, or an entry of at most 4,000,000 t
+abbrev pub Within : Outcome → Type 0
+Within (SetAside k) = (1 ≤ k) × (k ≤ lastReason)
+Within (Counted e) = Bounded e
+
+within-check : (t : Bool) (k : ℕ) (x : Outcome) → 1 ≤ k → k ≤ lastReason → (t ≡ true → Within x)
+    → Within (check t k x)
+unfolding check choose
+within-check true k x l m w = w refl
+within-check false k x l m w = (l, m)
+
+chosen : (a b : Outcome) (t : Bool) → Within a → Within b → Within (choose t a b)
+unfolding choose
+chosen a b true p q = p
+chosen a b false p q = q
+
+-- Whatever the line found, it is one that breaks no rule.
+within-listed : (ok : List ℕ → Bool) (x k before : ℕ) (ls : List (List ℕ)) (rest : List ℕ → Outcome) → 1 ≤ k
+    → k ≤ lastReason
+    → linesOk ok before ls ≡ true → ((l : List ℕ) → ok l ≡ true → Within (rest l)) → Within (listed x ls k rest)
+unfolding listed linesOk
+within-listed ok x k before [] rest l m h w = (l, m)
+within-listed ok x k before (y ∷ ls) rest l m h w =
+    chosen _ _ (eqb (number y) x) (w y (also-r _ _ (also-l _ _ h)))
+    (within-listed ok x k (number y) ls rest l m (also-r _ _ h) w)
+
+within-fuelJudged : (l u f : List ℕ) → fuelOk f ≡ true → Within (fuelJudged l u f)
+unfolding fuelJudged
+within-fuelJudged l u f k =
+    within-check (fuelRanges l f) 4 _ (lit≤ tt) (lit≤ tt) (λ ranges.
+    within-check (ltb 0 (methodOf l u f)) 6 _ (lit≤ tt) (lit≤ tt) (λ permitted.
+    within-check (ltb 0 (heatInUse l f)) 7 _ (lit≤ tt) (lit≤ tt) (λ heated.
+    bounded-fuelEntry l u f ranges k)))
+
+within-hourRead : (u : List ℕ) (p q : ℕ) (x : Hour) → hourOf p q ≡ x → Within (hourRead u x)
+unfolding hourRead
+within-hourRead u p q (Usable r) e =
+    within-check (monitored u) 5 _ (lit≤ tt) (lit≤ tt) (λ measured. bounded-hourEntry r (inRange-of-hourOf p q r e))
+within-hourRead u p q (Unusable y) e = (lit≤ tt, lit≤ tt)
+
+within-hourJudged : (l u : List ℕ) → Within (hourJudged l u)
+unfolding hourJudged
+within-hourJudged l u =
+    within-check (hourRange l) 4 _ (lit≤ tt) (lit≤ tt) (λ in-range.
+    within-hourRead u (percentBits l) (flowBits l) _ refl)
+
+module _ (l units fuels : List ℕ) (U : linesSound unitOk units ≡ true) (F : linesSound fuelOk fuels ≡ true) where
+  within-fuelOutcome : Within (fuelOutcome l (linesIn units) (linesIn fuels))
+  unfolding fuelOutcome linesSound
+  within-fuelOutcome =
+      within-check (fuelForm l) 1 _ (lit≤ tt) (lit≤ tt) (λ formed.
+      within-listed unitOk (unitNumber l) 2 0 (linesIn units) _ (lit≤ tt) (lit≤ tt) (also-r _ _ U) (λ u unit.
+      within-listed fuelOk (fuelNumber l) 3 0 (linesIn fuels) _ (lit≤ tt) (lit≤ tt) (also-r _ _ F) (λ f fuel.
+      within-fuelJudged l u f fuel)))
+
+  within-hourOutcome : Within (hourOutcome l (linesIn units))
+  unfolding hourOutcome linesSound
+  within-hourOutcome =
+      within-check (hourForm l) 1 _ (lit≤ tt) (lit≤ tt) (λ formed.
+      within-listed unitOk (unitNumber l) 2 0 (linesIn units) _ (lit≤ tt) (lit≤ tt) (also-r _ _ U) (λ u unit.
+      within-hourJudged l u))
+
+  pub within-outcomeOf : Within (outcomeOf l (linesIn units) (linesIn fuels))
+  unfolding outcomeOf
+  within-outcomeOf =
+      chosen _ _ (eqb (kind l) 1) within-fuelOutcome
+      (within-check (eqb (kind l) 2) 1 _ (lit≤ tt) (lit≤ tt) (λ measured. within-hourOutcome))
+
+pub within-outcomeAt : (h : Head) (s : List ℕ) (i : ℕ) → opened s ≡ accepted h → Within (outcomeAt h s i)
+unfolding outcomeAt
+within-outcomeAt h s i e =
+    let k = accepted-facts s h e in
+    within-outcomeOf (line i s) (unitLines h s) (fuelLines h s) (k .units-sound) (k .fuels-sound)

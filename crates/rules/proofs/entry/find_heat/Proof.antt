@@ -1,0 +1,33 @@
+-- The flag decides between the two heats. Assumes nothing.
+use mathlib.Core.Path.{refl, sym, _∙_}
+use borrow.Author.Needs.{needs}
+use Rattle.rules.specs.Entry.{heatInUse}
+use Rattle.rules.proofs.TestsLaws.{is, choose-t, choose-f}
+use Rattle.rules.proofs.entry.find_heat.Statement.{statement}
+use Rattle.rules.proofs.entry.find_heat.Tie as tie
+
+is-heat-measured-requires : tie.Need-is-heat-measured-requires
+is-heat-measured-requires c κs = search needs
+
+heat-requires : tie.Need-heat-requires
+heat-requires c κs = search needs
+
+returns : tie.Need-returns
+unfolding heatInUse
+returns c =
+    c .heat .ensures
+    ∙ sym (choose-t _ (is (c .before .before .is-heat-measured .ensures) (c .before .if1 .taken)) refl)
+
+default-heat-requires : tie.Need-default-heat-requires
+default-heat-requires c κs = search needs
+
+returns-2 : tie.Need-returns-2
+unfolding heatInUse
+returns-2 c =
+    c .default-heat .ensures
+    ∙ sym (choose-f _ (is (c .before .before .is-heat-measured .ensures) (c .before .if1 .left)) refl)
+
+pub find-heat-spec : {M : Type 1} → statement M
+find-heat-spec =
+    tie.close
+    (tie.spec is-heat-measured-requires heat-requires returns default-heat-requires returns-2)

@@ -1,0 +1,28 @@
+-- The code's row of tests, of the fields that it read, is the definition's. Assumes nothing.
+use lib.Dec.{leb}
+use borrow.Author.Needs.{needs}
+use Rattle.rules.specs.Book.{unitHeadOk}
+use Rattle.rules.proofs.TestsLaws.{both}
+use Rattle.rules.proofs.listing.is_unit_head_right.Statement.{statement}
+use Rattle.rules.proofs.listing.is_unit_head_right.Tie as tie
+
+unit-flags-requires : tie.Need-unit-flags-requires
+unit-flags-requires c κs = search needs
+
+is-unit-gap-requires : tie.Need-is-unit-gap-requires
+is-unit-gap-requires c κs = search needs
+
+rating-requires : tie.Need-rating-requires
+rating-requires c κs = search needs
+
+returns : tie.Need-returns
+unfolding unitHeadOk
+returns c =
+    let flags = c .before .before .unit-flags .ensures in
+    let gap = c .before .is-unit-gap .ensures in
+    let rating = c .rating .ensures in
+    both (both (both (λ i. leb (flags i) 1) gap) (λ i. leb 1 (rating i))) (λ i. leb (rating i) 100000)
+
+pub is-unit-head-right-spec : {M : Type 1} → statement M
+is-unit-head-right-spec =
+    tie.close (tie.spec unit-flags-requires is-unit-gap-requires rating-requires returns)

@@ -1,0 +1,61 @@
+-- What a record that counts gives to the ledgers. RULES, "Fuel", "Monitor hours" and "Ledgers".
+--
+--     heatInUse l f          the measured heat if flagged, else the fuel's default
+--     co2By m l f            CO2 of the record l of the fuel f by method m
+--     destinationBy m f      the ledger that this CO2 goes to
+--     fuelEntry l u f        what a fuel record gives
+--     hourEntry r            what a usable hour gives; it has no method, which is told as 0
+--
+-- Laws: proofs/EntryLaws.antt. Definitions only.
+use Prim.Native.Nat.{ℕ}
+use mathlib.Core.List.{List}
+use lib.Dec.{eqb}
+use Rattle.mass.specs.declared.Ug.{Ug}
+use Rattle.mass.specs.declared.fuel.Amount.{Amount}
+use Rattle.mass.specs.declared.fuel.Heat.{Heat}
+use Rattle.mass.specs.declared.hour.Readings.{Readings}
+use Rattle.mass.specs.Fuel.{co2OfHeat, co2OfCarbon, traceOfHeat}
+use Rattle.mass.specs.Hour.{hourMass}
+use Rattle.rules.specs.declared.entry.Destination.{Destination}
+use Rattle.rules.specs.declared.entry.Destination.the-variants.{Fossil, Biomass, Nowhere}
+use Rattle.rules.specs.declared.entry.Entry.{Entry}
+use Rattle.rules.specs.Tests.{choose}
+use Rattle.rules.specs.Fields.{fuelClass, defaultHeat, co2Factor, ch4Factor, n2oFactor, heatMeasured, amount, heat, carbon}
+use Rattle.rules.specs.Method.{methodOf}
+
+unfoldable pub heatInUse : List ℕ → List ℕ → ℕ
+heatInUse l f = choose (heatMeasured l) (heat l) (defaultHeat f)
+
+abbrev pub amountOf : List ℕ → Amount
+amountOf l = record { 0 = amount l }
+
+abbrev pub heatOf : List ℕ → List ℕ → Heat
+heatOf l f = record { 0 = heatInUse l f }
+
+-- A monitored unit's fuel gives no CO2: its hours do.
+unfoldable pub co2By : ℕ → List ℕ → List ℕ → Ug
+co2By m l f =
+    choose (eqb m 4) (record { 0 = 0 })
+    (choose (eqb m 3) (co2OfCarbon (amountOf l) (record { 0 = carbon l }))
+    (co2OfHeat (amountOf l) (heatOf l f) (record { 0 = co2Factor f })))
+
+unfoldable pub destinationBy : ℕ → List ℕ → Destination
+destinationBy m f = choose (eqb m 4) Nowhere (choose (eqb (fuelClass f) 3) Biomass Fossil)
+
+unfoldable pub fuelEntry : List ℕ → List ℕ → List ℕ → Entry
+fuelEntry l u f = record {
+  method = methodOf l u f;
+  destination = destinationBy (methodOf l u f) f;
+  co2 = co2By (methodOf l u f) l f;
+  ch4 = traceOfHeat (amountOf l) (heatOf l f) (record { 0 = ch4Factor f });
+  n2o = traceOfHeat (amountOf l) (heatOf l f) (record { 0 = n2oFactor f });
+}
+
+unfoldable pub hourEntry : Readings → Entry
+hourEntry r = record {
+  method = 0;
+  destination = Fossil;
+  co2 = hourMass r;
+  ch4 = record { 0 = 0 };
+  n2o = record { 0 = 0 };
+}

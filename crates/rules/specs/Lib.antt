@@ -1,0 +1,10 @@
+-- What a reader must believe of a book and its records, in the order of RULES.
+pub mod Tests
+pub mod Bytes
+pub mod Fields
+pub mod Book
+pub mod Method
+pub mod Entry
+pub mod Record
+pub mod Listing
+pub mod Reader

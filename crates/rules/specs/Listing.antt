@@ -1,0 +1,42 @@
+-- What a scan of unit or fuel lines looks at, what a search of them finds, and on what lines a search
+-- by halving is right. These serve the code; RULES and the definitions of a record don't need them.
+--
+--     headOk k l         the named bytes of a line of the sort k break no rule, its number aside
+--     blankFrom k        the byte from which no field of such a line is named
+--     numberAt k s       the number of line k of s
+--     place x k ls       the place of the first line of ls with number x, the first line being place k
+--     Rising s           there are at most `mostLines` lines in s, and their numbers rise strictly
+--
+-- Laws: proofs/ListingLaws.antt. Definitions only.
+use Prim.Native.Nat.{ℕ, _+_, _/_, _<_, _≤_}
+use mathlib.Core.Bool.{Bool}
+use mathlib.Core.List.{List, [], _∷_}
+use lib.Dec.{eqb}
+use lib.ListN.{length}
+use Rattle.rules.specs.declared.listing.Found.{Found}
+use Rattle.rules.specs.declared.listing.Found.the-variants.{At, Nothing}
+use Rattle.rules.specs.declared.listing.Sort.{Sort}
+use Rattle.rules.specs.declared.listing.Sort.the-variants.{Unit, Fuel}
+use Rattle.rules.specs.Tests.{choose}
+use Rattle.rules.specs.Bytes.{line}
+use Rattle.rules.specs.Fields.{number}
+use Rattle.rules.specs.Book.{mostLines, unitHeadOk, fuelHeadOk}
+
+abbrev pub headOk : Sort → List ℕ → Bool
+headOk Unit l = unitHeadOk l
+headOk Fuel l = fuelHeadOk l
+
+abbrev pub blankFrom : Sort → ℕ
+blankFrom Unit = 8
+blankFrom Fuel = 20
+
+abbrev pub numberAt : ℕ → List ℕ → ℕ
+numberAt k s = number (line k s)
+
+unfoldable pub place : ℕ → ℕ → List (List ℕ) → Found
+place x k [] = Nothing
+place x k (l ∷ ls) = choose (eqb (number l) x) (At k) (place x (k + 1) ls)
+
+pub record Rising (s : List ℕ) : Type 0 where
+  pub few : length s / 32 ≤ mostLines
+  pub rise : (j k : ℕ) → j < k → k < length s / 32 → numberAt j s < numberAt k s

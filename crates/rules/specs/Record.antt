@@ -1,0 +1,110 @@
+-- What becomes of a record: of its line, the unit lines and the fuel lines. RULES, "Reasons".
+--
+--     lastReason                   the highest reason
+--     check t k rest               rest if t passes, else the record is set aside with reason k
+--     listed x ls k rest           rest of the first line of ls with number x; set aside with reason k
+--                                  if there is none
+--     fuelForm l, hourForm l       reason 1 doesn't apply
+--     fuelRanges l f, hourRange l  reason 4 doesn't apply, the readings of an hour aside
+--     fuelJudged l u f             what becomes of a fuel record once unit and fuel are known
+--     fuelOutcome l units fuels    what becomes of a fuel record
+--     hourRead u x                 what becomes of an hour with its readings judged
+--     hourJudged l u               what becomes of an hour once its unit is known
+--     hourOutcome l units          what becomes of a monitor hour
+--     outcomeOf l units fuels      what becomes of a record
+--     outcomeAt h s i              what becomes of record i of the book s with the head h
+--
+-- Laws: proofs/RecordLaws.antt. Definitions only.
+use Prim.Native.Nat.{ℕ}
+use mathlib.Core.Bool.{Bool, true}
+use mathlib.Core.List.{List, [], _∷_}
+use lib.Dec.{eqb, leb, ltb}
+use Rattle.mass.specs.declared.hour.Hour.{Hour}
+use Rattle.mass.specs.declared.hour.Hour.the-variants.{Usable, Unusable}
+use Rattle.mass.specs.Hour.{hourOf}
+use Rattle.rules.specs.declared.book.Head.{Head}
+use Rattle.rules.specs.declared.record.Outcome.{Outcome}
+use Rattle.rules.specs.declared.record.Outcome.the-variants.{SetAside, Counted}
+use Rattle.rules.specs.Tests.{_also_, _either_, choose}
+use Rattle.rules.specs.Bytes.{line, linesIn}
+use Rattle.rules.specs.Fields.{number, monitored, fuelKind, kind, flags, unitNumber, fuelNumber, heatMeasured, carbonMeasured, month, amount, heat, carbon, fuelRecordBlank, hour, percentBits, flowBits, hourBlank}
+use Rattle.rules.specs.Book.{unitLines, fuelLines}
+use Rattle.rules.specs.Method.{methodOf}
+use Rattle.rules.specs.Entry.{heatInUse, fuelEntry, hourEntry}
+
+abbrev pub lastReason : ℕ
+lastReason = 7
+
+unfoldable pub check : Bool → ℕ → Outcome → Outcome
+check t k rest = choose t rest (SetAside k)
+
+unfoldable pub listed : ℕ → List (List ℕ) → ℕ → (List ℕ → Outcome) → Outcome
+listed x [] k rest = SetAside k
+listed x (l ∷ ls) k rest = choose (eqb (number l) x) (rest l) (listed x ls k rest)
+
+-- ---- reason 1: flags, and bytes that must be 0
+unfoldable pub fuelForm : List ℕ → Bool
+fuelForm l =
+    leb (flags l) 3
+    also (heatMeasured l either eqb (heat l) 0)
+    also (carbonMeasured l either eqb (carbon l) 0)
+    also fuelRecordBlank l
+
+unfoldable pub hourForm : List ℕ → Bool
+hourForm l = eqb (flags l) 0 also eqb (fuelNumber l) 0 also hourBlank l
+
+-- ---- reason 4: ranges
+unfoldable pub heatRange : List ℕ → Bool
+heatRange l = choose (heatMeasured l) (leb 1 (heat l) also leb (heat l) 200000) true
+
+unfoldable pub carbonLimit : List ℕ → ℕ
+carbonLimit f = choose (eqb (fuelKind f) 3) 4000000 1000000
+
+unfoldable pub fuelRanges : List ℕ → List ℕ → Bool
+fuelRanges l f =
+    leb 1 (month l)
+    also leb (month l) 12
+    also leb (amount l) 100000000
+    also heatRange l
+    also leb (carbon l) (carbonLimit f)
+
+unfoldable pub hourRange : List ℕ → Bool
+hourRange l = leb 1 (hour l) also leb (hour l) 8784
+
+-- ---- fuel records
+unfoldable pub fuelJudged : List ℕ → List ℕ → List ℕ → Outcome
+fuelJudged l u f =
+    check (fuelRanges l f) 4
+    (check (ltb 0 (methodOf l u f)) 6
+    (check (ltb 0 (heatInUse l f)) 7
+    (Counted (fuelEntry l u f))))
+
+unfoldable pub fuelOutcome : List ℕ → List (List ℕ) → List (List ℕ) → Outcome
+fuelOutcome l units fuels =
+    check (fuelForm l) 1
+    (listed (unitNumber l) units 2 (λ u.
+    listed (fuelNumber l) fuels 3 (λ f.
+    fuelJudged l u f)))
+
+-- ---- monitor hours
+unfoldable pub hourRead : List ℕ → Hour → Outcome
+hourRead u (Usable r) = check (monitored u) 5 (Counted (hourEntry r))
+hourRead u (Unusable x) = SetAside 4
+
+unfoldable pub hourJudged : List ℕ → List ℕ → Outcome
+hourJudged l u = check (hourRange l) 4 (hourRead u (hourOf (percentBits l) (flowBits l)))
+
+unfoldable pub hourOutcome : List ℕ → List (List ℕ) → Outcome
+hourOutcome l units =
+    check (hourForm l) 1
+    (listed (unitNumber l) units 2 (λ u.
+    hourJudged l u))
+
+-- ---- any record
+unfoldable pub outcomeOf : List ℕ → List (List ℕ) → List (List ℕ) → Outcome
+outcomeOf l units fuels =
+    choose (eqb (kind l) 1) (fuelOutcome l units fuels)
+    (check (eqb (kind l) 2) 1 (hourOutcome l units))
+
+unfoldable pub outcomeAt : Head → List ℕ → ℕ → Outcome
+outcomeAt h s i = outcomeOf (line i s) (linesIn (unitLines h s)) (linesIn (fuelLines h s))

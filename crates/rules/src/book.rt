@@ -1,0 +1,98 @@
+// A book, opened or refused.
+use crate::field;
+use crate::listing;
+use crate::listing::Sort;
+ghost use mathlib.Core.Path.{_≡_};
+ghost use Prim.Native.Nat.{_≤_};
+ghost use lib.ListN.{length};
+ghost use Rattle.rules.specs.Book.{lengthOk, startsOk, trailerOk, opened, answer};
+
+// What is known of a book that was opened.
+pub struct Head {
+    // How many records it has.
+    pub n: usize,
+    // The bytes at which its unit lines and its fuel lines start.
+    pub units: usize,
+    pub fuels: usize,
+    pub year: u64,
+    // How many bytes it has.
+    pub length: usize,
+}
+
+pub enum Opened {
+    // The first rule that the bytes break.
+    Wrong(Fault),
+    // The book is sound.
+    Open(Head),
+}
+
+pub enum Fault {
+    // 20: the length isn't a multiple of 32, or out of its range.
+    Length,
+    // 21: the trailer breaks a rule.
+    Trailer,
+    // 22: a unit line breaks a rule, or there are over 64.
+    Units,
+    // 23: a fuel line breaks a rule, or there are over 64.
+    Fuels,
+}
+
+const LONGEST_BOOK: usize = 65536;
+
+// Whether the bytes are a sound book, and if not, the first rule that they break.
+pub fn open(s: &[u8]) -> Opened
+    ensures answered { λ r. ⌜ answer r ≡ opened (now (s .entry)) ⌝ }
+{
+    if !is_length_right(s) {
+        return Opened::Wrong(Fault::Length);
+    }
+    let length = s.len();
+    let end = length - 32;
+    let t = &s[end..];
+    if !is_trailer_right(t, end) {
+        return Opened::Wrong(Fault::Trailer);
+    }
+    let units = field::unit_start(t);
+    let fuels = field::fuel_start(t);
+    if !listing::are_sound(&s[units..fuels], Sort::Unit) {
+        return Opened::Wrong(Fault::Units);
+    }
+    if !listing::are_sound(&s[fuels..end], Sort::Fuel) {
+        return Opened::Wrong(Fault::Fuels);
+    }
+    let n = units / 32;
+    let year = field::year(t);
+    Opened::Open(Head {
+        n,
+        units,
+        fuels,
+        year,
+        length,
+    })
+}
+
+fn is_length_right(s: &[u8]) -> bool
+    ensures length { λ r. ⌜ r ≡ lengthOk (now (s .entry)) ⌝ }
+{
+    let n = s.len();
+    (32 <= n) & (n <= LONGEST_BOOK) & (n % 32 == 0)
+}
+
+fn is_trailer_right(t: &[u8], e: usize) -> bool
+    requires whole { ⌜ 32 ≤ length (now t) ⌝ }
+    ensures trailer { λ r. ⌜ r ≡ trailerOk (now (t .entry)) e ⌝ }
+{
+    let signed = field::is_signed(t);
+    let version = field::version(t);
+    let gap = field::is_trailer_gap(t);
+    let starts = are_starts_right(field::unit_start(t), field::fuel_start(t), e);
+    let year = field::year(t);
+    let blank = field::is_trailer_blank(t);
+    signed & (version == 1) & gap & starts & (2000 <= year) & (year <= 2099) & blank
+}
+
+fn are_starts_right(u: usize, f: usize, e: usize) -> bool
+    ensures starts { λ r. ⌜ r ≡ startsOk u f e ⌝ }
+{
+    (u % 32 == 0) & (f % 32 == 0) & (u <= f) & (f <= e)
+}

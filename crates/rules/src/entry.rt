@@ -1,0 +1,98 @@
+// What a record that counts gives to the ledgers.
+use crate::field;
+use crate::method;
+use mass::Ng;
+use mass::Ug;
+use mass::fuel;
+use mass::fuel::Amount;
+use mass::fuel::Carbon;
+use mass::fuel::Co2Factor;
+use mass::fuel::Heat;
+use mass::fuel::TraceFactor;
+ghost use mathlib.Core.Bool.{true};
+ghost use mathlib.Core.Path.{_≡_};
+ghost use Prim.Native.Nat.{_≤_};
+ghost use lib.ListN.{length};
+ghost use Rattle.rules.specs.Book.{fuelOk};
+ghost use Rattle.rules.specs.Record.{fuelRanges};
+ghost use Rattle.rules.specs.Entry.{heatInUse, co2By, destinationBy, fuelEntry};
+
+// The ledger that a record's CO2 goes to. CH4 and N2O have one each.
+pub enum Destination {
+    Fossil,
+    Biomass,
+    // A monitored unit's fuel gives no CO2.
+    Nowhere,
+}
+
+pub struct Entry {
+    // 1 to 4, or 0 for a monitor hour.
+    pub method: u8,
+    pub destination: Destination,
+    pub co2: Ug,
+    pub ch4: Ng,
+    pub n2o: Ng,
+}
+
+pub(crate) fn make_entry(l: &[u8], u: &[u8], f: &[u8]) -> Entry
+    requires whole { ⌜ (32 ≤ length (now l)) × (32 ≤ length (now u)) × (32 ≤ length (now f)) ⌝ }
+    requires ranges { ⌜ fuelRanges (now l) (now f) ≡ true ⌝ }
+    requires fuel { ⌜ fuelOk (now f) ≡ true ⌝ }
+    ensures entry { λ r. ⌜ r ≡ fuelEntry (now (l .entry)) (now (u .entry)) (now (f .entry)) ⌝ }
+{
+    let method = method::choose_method(l, u, f);
+    let destination = find_destination(method, f);
+    let co2 = weigh_co2(method, l, f);
+    let a = Amount(field::amount(l));
+    let h = Heat(find_heat(l, f));
+    let ch4 = fuel::weigh_trace(a, h, TraceFactor(field::ch4_factor(f)));
+    let n2o = fuel::weigh_trace(a, h, TraceFactor(field::n2o_factor(f)));
+    Entry {
+        method,
+        destination,
+        co2,
+        ch4,
+        n2o,
+    }
+}
+
+// The heat in use.
+pub(crate) fn find_heat(l: &[u8], f: &[u8]) -> u32
+    requires whole { ⌜ (32 ≤ length (now l)) × (32 ≤ length (now f)) ⌝ }
+    ensures heat { λ r. ⌜ r ≡ heatInUse (now (l .entry)) (now (f .entry)) ⌝ }
+{
+    if field::is_heat_measured(l) {
+        return field::heat(l);
+    }
+    field::default_heat(f)
+}
+
+fn find_destination(by: u8, f: &[u8]) -> Destination
+    requires whole { ⌜ 32 ≤ length (now f) ⌝ }
+    ensures ledger { λ r. ⌜ r ≡ destinationBy by (now (f .entry)) ⌝ }
+{
+    if by == 4 {
+        return Destination::Nowhere;
+    }
+    if field::fuel_class(f) == 3 {
+        return Destination::Biomass;
+    }
+    Destination::Fossil
+}
+
+fn weigh_co2(method: u8, l: &[u8], f: &[u8]) -> Ug
+    requires whole { ⌜ (32 ≤ length (now l)) × (32 ≤ length (now f)) ⌝ }
+    requires ranges { ⌜ fuelRanges (now l) (now f) ≡ true ⌝ }
+    requires fuel { ⌜ fuelOk (now f) ≡ true ⌝ }
+    ensures co2 { λ r. ⌜ r ≡ co2By method (now (l .entry)) (now (f .entry)) ⌝ }
+{
+    if method == 4 {
+        return Ug(0);
+    }
+    let a = Amount(field::amount(l));
+    if method == 3 {
+        return fuel::weigh_by_carbon(a, Carbon(field::carbon(l)));
+    }
+    let h = Heat(find_heat(l, f));
+    fuel::weigh_by_heat(a, h, Co2Factor(field::co2_factor(f)))
+}

@@ -1,0 +1,233 @@
+// The fields of a book's lines, each read in one place.
+use crate::bytes;
+ghost use mathlib.Core.Path.{_≡_};
+ghost use Prim.Native.Nat.{_≤_};
+ghost use lib.ListN.{length};
+ghost use Rattle.rules.specs.Fields as fields;
+
+// ---- a trailer
+// `STCB`.
+const SIGNATURE: u64 = 0x4243_5453;
+
+pub(crate) fn is_signed(l: &[u8]) -> bool
+    requires whole { ⌜ 32 ≤ length (now l) ⌝ }
+    ensures field { λ r. ⌜ r ≡ fields.signed (now (l .entry)) ⌝ }
+{
+    bytes::read_word(l, 0, 4) == SIGNATURE
+}
+
+pub(crate) fn version(l: &[u8]) -> u64
+    requires whole { ⌜ 32 ≤ length (now l) ⌝ }
+    ensures field { λ r. ⌜ r ≡ fields.version (now (l .entry)) ⌝ }
+{
+    bytes::read_word(l, 4, 2)
+}
+
+pub(crate) fn is_trailer_gap(l: &[u8]) -> bool
+    requires whole { ⌜ 32 ≤ length (now l) ⌝ }
+    ensures field { λ r. ⌜ r ≡ fields.trailerGap (now (l .entry)) ⌝ }
+{
+    bytes::read_word(l, 6, 2) == 0
+}
+
+pub(crate) fn unit_start(l: &[u8]) -> usize
+    requires whole { ⌜ 32 ≤ length (now l) ⌝ }
+    ensures field { λ r. ⌜ r ≡ fields.unitStart (now (l .entry)) ⌝ }
+{
+    bytes::read_word(l, 8, 4) as usize
+}
+
+pub(crate) fn fuel_start(l: &[u8]) -> usize
+    requires whole { ⌜ 32 ≤ length (now l) ⌝ }
+    ensures field { λ r. ⌜ r ≡ fields.fuelStart (now (l .entry)) ⌝ }
+{
+    bytes::read_word(l, 12, 4) as usize
+}
+
+pub(crate) fn year(l: &[u8]) -> u64
+    requires whole { ⌜ 32 ≤ length (now l) ⌝ }
+    ensures field { λ r. ⌜ r ≡ fields.year (now (l .entry)) ⌝ }
+{
+    bytes::read_word(l, 16, 2)
+}
+
+pub(crate) fn is_trailer_blank(l: &[u8]) -> bool
+    requires whole { ⌜ 32 ≤ length (now l) ⌝ }
+    ensures field { λ r. ⌜ r ≡ fields.trailerBlank (now (l .entry)) ⌝ }
+{
+    (bytes::read_word(l, 18, 2) == 0) & bytes::is_blank(l, 20)
+}
+
+// ---- a unit line or a fuel line
+pub(crate) fn number(l: &[u8]) -> u64
+    requires whole { ⌜ 32 ≤ length (now l) ⌝ }
+    ensures field { λ r. ⌜ r ≡ fields.number (now (l .entry)) ⌝ }
+{
+    bytes::read_word(l, 0, 2)
+}
+
+// ---- a unit line
+pub(crate) fn unit_flags(l: &[u8]) -> u8
+    requires whole { ⌜ 32 ≤ length (now l) ⌝ }
+    ensures field { λ r. ⌜ r ≡ fields.unitFlags (now (l .entry)) ⌝ }
+{
+    l[2]
+}
+
+pub(crate) fn is_monitored(l: &[u8]) -> bool
+    requires whole { ⌜ 32 ≤ length (now l) ⌝ }
+    ensures field { λ r. ⌜ r ≡ fields.monitored (now (l .entry)) ⌝ }
+{
+    l[2] % 2 == 1
+}
+
+pub(crate) fn is_unit_gap(l: &[u8]) -> bool
+    requires whole { ⌜ 32 ≤ length (now l) ⌝ }
+    ensures field { λ r. ⌜ r ≡ fields.unitGap (now (l .entry)) ⌝ }
+{
+    l[3] == 0
+}
+
+pub(crate) fn rating(l: &[u8]) -> u64
+    requires whole { ⌜ 32 ≤ length (now l) ⌝ }
+    ensures field { λ r. ⌜ r ≡ fields.rating (now (l .entry)) ⌝ }
+{
+    bytes::read_word(l, 4, 4)
+}
+
+// ---- a fuel line
+pub(crate) fn fuel_kind(l: &[u8]) -> u8
+    requires whole { ⌜ 32 ≤ length (now l) ⌝ }
+    ensures field { λ r. ⌜ r ≡ fields.fuelKind (now (l .entry)) ⌝ }
+{
+    l[2]
+}
+
+pub(crate) fn fuel_class(l: &[u8]) -> u8
+    requires whole { ⌜ 32 ≤ length (now l) ⌝ }
+    ensures field { λ r. ⌜ r ≡ fields.fuelClass (now (l .entry)) ⌝ }
+{
+    l[3]
+}
+
+pub(crate) fn default_heat(l: &[u8]) -> u32
+    requires whole { ⌜ 32 ≤ length (now l) ⌝ }
+    ensures field { λ r. ⌜ r ≡ fields.defaultHeat (now (l .entry)) ⌝ }
+{
+    bytes::read_word(l, 4, 4) as u32
+}
+
+pub(crate) fn co2_factor(l: &[u8]) -> u32
+    requires whole { ⌜ 32 ≤ length (now l) ⌝ }
+    ensures field { λ r. ⌜ r ≡ fields.co2Factor (now (l .entry)) ⌝ }
+{
+    bytes::read_word(l, 8, 4) as u32
+}
+
+pub(crate) fn ch4_factor(l: &[u8]) -> u32
+    requires whole { ⌜ 32 ≤ length (now l) ⌝ }
+    ensures field { λ r. ⌜ r ≡ fields.ch4Factor (now (l .entry)) ⌝ }
+{
+    bytes::read_word(l, 12, 4) as u32
+}
+
+pub(crate) fn n2o_factor(l: &[u8]) -> u32
+    requires whole { ⌜ 32 ≤ length (now l) ⌝ }
+    ensures field { λ r. ⌜ r ≡ fields.n2oFactor (now (l .entry)) ⌝ }
+{
+    bytes::read_word(l, 16, 4) as u32
+}
+
+// ---- a record
+pub(crate) fn kind(l: &[u8]) -> u8
+    requires whole { ⌜ 32 ≤ length (now l) ⌝ }
+    ensures field { λ r. ⌜ r ≡ fields.kind (now (l .entry)) ⌝ }
+{
+    l[0]
+}
+
+pub(crate) fn flags(l: &[u8]) -> u8
+    requires whole { ⌜ 32 ≤ length (now l) ⌝ }
+    ensures field { λ r. ⌜ r ≡ fields.flags (now (l .entry)) ⌝ }
+{
+    l[1]
+}
+
+pub(crate) fn unit_number(l: &[u8]) -> u64
+    requires whole { ⌜ 32 ≤ length (now l) ⌝ }
+    ensures field { λ r. ⌜ r ≡ fields.unitNumber (now (l .entry)) ⌝ }
+{
+    bytes::read_word(l, 2, 2)
+}
+
+pub(crate) fn fuel_number(l: &[u8]) -> u64
+    requires whole { ⌜ 32 ≤ length (now l) ⌝ }
+    ensures field { λ r. ⌜ r ≡ fields.fuelNumber (now (l .entry)) ⌝ }
+{
+    bytes::read_word(l, 4, 2)
+}
+
+// ---- a fuel record
+pub(crate) fn is_heat_measured(l: &[u8]) -> bool
+    requires whole { ⌜ 32 ≤ length (now l) ⌝ }
+    ensures field { λ r. ⌜ r ≡ fields.heatMeasured (now (l .entry)) ⌝ }
+{
+    l[1] % 2 == 1
+}
+
+pub(crate) fn is_carbon_measured(l: &[u8]) -> bool
+    requires whole { ⌜ 32 ≤ length (now l) ⌝ }
+    ensures field { λ r. ⌜ r ≡ fields.carbonMeasured (now (l .entry)) ⌝ }
+{
+    l[1] / 2 % 2 == 1
+}
+
+pub(crate) fn month(l: &[u8]) -> u64
+    requires whole { ⌜ 32 ≤ length (now l) ⌝ }
+    ensures field { λ r. ⌜ r ≡ fields.month (now (l .entry)) ⌝ }
+{
+    bytes::read_word(l, 6, 2)
+}
+
+pub(crate) fn amount(l: &[u8]) -> u32
+    requires whole { ⌜ 32 ≤ length (now l) ⌝ }
+    ensures field { λ r. ⌜ r ≡ fields.amount (now (l .entry)) ⌝ }
+{
+    bytes::read_word(l, 8, 4) as u32
+}
+
+pub(crate) fn heat(l: &[u8]) -> u32
+    requires whole { ⌜ 32 ≤ length (now l) ⌝ }
+    ensures field { λ r. ⌜ r ≡ fields.heat (now (l .entry)) ⌝ }
+{
+    bytes::read_word(l, 12, 4) as u32
+}
+
+pub(crate) fn carbon(l: &[u8]) -> u32
+    requires whole { ⌜ 32 ≤ length (now l) ⌝ }
+    ensures field { λ r. ⌜ r ≡ fields.carbon (now (l .entry)) ⌝ }
+{
+    bytes::read_word(l, 16, 4) as u32
+}
+
+// ---- a monitor hour
+pub(crate) fn hour(l: &[u8]) -> u64
+    requires whole { ⌜ 32 ≤ length (now l) ⌝ }
+    ensures field { λ r. ⌜ r ≡ fields.hour (now (l .entry)) ⌝ }
+{
+    bytes::read_word(l, 6, 2)
+}
+
+pub(crate) fn percent_bits(l: &[u8]) -> u32
+    requires whole { ⌜ 32 ≤ length (now l) ⌝ }
+    ensures field { λ r. ⌜ r ≡ fields.percentBits (now (l .entry)) ⌝ }
+{
+    bytes::read_word(l, 8, 4) as u32
+}
+
+pub(crate) fn flow_bits(l: &[u8]) -> u32
+    requires whole { ⌜ 32 ≤ length (now l) ⌝ }
+    ensures field { λ r. ⌜ r ≡ fields.flowBits (now (l .entry)) ⌝ }
+{
+    bytes::read_word(l, 12, 4) as u32
+}

@@ -1,0 +1,9 @@
+// The rules of a book: whether it is sound, and what becomes of each record. It knows no checkpoint.
+pub mod book;
+pub mod bytes;
+pub mod entry;
+mod field;
+mod listing;
+mod method;
+pub mod reader;
+pub mod record;

@@ -1,0 +1,137 @@
+// The unit lines and the fuel lines of a book: whether they are sound, and the line with a number.
+use crate::bytes;
+use crate::field;
+ghost use mathlib.Core.Path.{_≡_};
+ghost use Prim.Native.Nat.{_≤_};
+ghost use lib.ListN.{length};
+ghost use Rattle.rules.specs.Bytes.{linesIn};
+ghost use Rattle.rules.specs.Book.{unitHeadOk, kindClassOk, fuelHeadOk, lineOk, linesSound};
+ghost use Rattle.rules.specs.Listing.{place, Rising, headOk, blankFrom};
+
+pub enum Sort {
+    Unit,
+    Fuel,
+}
+
+const MOST_LINES: usize = 64;
+
+// Whether there are at most 64 lines of one sort, their numbers rise strictly, and none breaks a
+// rule. The scan is left at the first line that does.
+pub(crate) fn are_sound(s: &[u8], sort: Sort) -> bool
+    ensures sound { λ r. ⌜ r ≡ linesSound (lineOk sort) (now (s .entry)) ⌝ }
+{
+    let n = s.len() / 32;
+    if n > MOST_LINES {
+        return false;
+    }
+    let mut ok = true;
+    let mut before: u64 = 0;
+    let mut i = 0;
+    'lines: while i < n {
+        let l = bytes::take_line(s, i);
+        let number = field::number(l);
+        if number <= before {
+            ok = false;
+            break 'lines;
+        }
+        if !is_head_right(l, sort) {
+            ok = false;
+            break 'lines;
+        }
+        let mut b = blank_from(sort);
+        while b < 32 {
+            if bytes::read_word(l, b, 4) != 0 {
+                ok = false;
+                break 'lines;
+            }
+            b += 4;
+        }
+        before = number;
+        i += 1;
+    }
+    ok
+}
+
+fn is_head_right(l: &[u8], sort: Sort) -> bool
+    requires whole { ⌜ 32 ≤ length (now l) ⌝ }
+    ensures head { λ r. ⌜ r ≡ headOk sort (now (l .entry)) ⌝ }
+{
+    match sort {
+        Sort::Unit => is_unit_head_right(l),
+        Sort::Fuel => is_fuel_head_right(l),
+    }
+}
+
+// The byte from which no field of a line of this sort is named.
+fn blank_from(sort: Sort) -> usize
+    ensures byte { λ r. ⌜ r ≡ blankFrom sort ⌝ }
+{
+    match sort {
+        Sort::Unit => 8,
+        Sort::Fuel => 20,
+    }
+}
+
+fn is_unit_head_right(u: &[u8]) -> bool
+    requires whole { ⌜ 32 ≤ length (now u) ⌝ }
+    ensures head { λ r. ⌜ r ≡ unitHeadOk (now (u .entry)) ⌝ }
+{
+    let flags = field::unit_flags(u);
+    let gap = field::is_unit_gap(u);
+    let rating = field::rating(u);
+    (flags <= 1) & gap & (1 <= rating) & (rating <= 100000)
+}
+
+fn is_fuel_head_right(f: &[u8]) -> bool
+    requires whole { ⌜ 32 ≤ length (now f) ⌝ }
+    ensures head { λ r. ⌜ r ≡ fuelHeadOk (now (f .entry)) ⌝ }
+{
+    let fits = do_agree(field::fuel_kind(f), field::fuel_class(f));
+    let heat = field::default_heat(f);
+    let co2 = field::co2_factor(f);
+    let ch4 = field::ch4_factor(f);
+    let n2o = field::n2o_factor(f);
+    fits & (heat <= 200000) & (1 <= co2) & (co2 <= 200000) & (ch4 <= 200000) & (n2o <= 200000)
+}
+
+fn do_agree(kind: u8, class: u8) -> bool
+    ensures agree { λ r. ⌜ r ≡ kindClassOk kind class ⌝ }
+{
+    let gas = (class == 1) & (kind == 3);
+    let oil = (class == 2) & (kind == 2);
+    let biomass = (class == 3) & (kind == 1);
+    (1 <= kind) & (kind <= 3) & ((class == 0) | gas | oil | biomass)
+}
+
+pub enum Found {
+    At(usize),
+    Nothing,
+}
+
+// The place of the line with this number, by halving. The width goes 64, 32, 16, 8, 4, 2, 1, so
+// that seven lines are looked at and no more.
+pub(crate) fn find(s: &[u8], x: u64) -> Found
+    requires rising { ⌜ Rising (now s) ⌝ }
+    ensures place { λ r. ⌜ r ≡ place x 0 (linesIn (now (s .entry))) ⌝ }
+{
+    let mut low = 0;
+    let mut high = s.len() / 32;
+    let mut width = MOST_LINES;
+    while 0 < width {
+        if high <= low {
+            return Found::Nothing;
+        }
+        let mid = low + (high - low) / 2;
+        let number = field::number(bytes::take_line(s, mid));
+        if number == x {
+            return Found::At(mid);
+        }
+        width = width / 2;
+        if number < x {
+            low = mid + 1;
+        } else {
+            high = mid;
+        }
+    }
+    Found::Nothing
+}
