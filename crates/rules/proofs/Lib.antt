@@ -1,4 +1,5 @@
--- The argument, from rows of tests to records: laws on plain values, worked sums, uniqueness.
+-- The argument, from rows of tests to records: laws on plain values, what a reader owns, worked sums,
+-- uniqueness.
 pub mod TestsLaws
 pub mod BytesLaws
 pub mod BookLaws
@@ -7,5 +8,6 @@ pub mod MethodLaws
 pub mod EntryLaws
 pub mod RecordLaws
 pub mod ReaderLaws
+pub mod ReaderHeld
 pub mod Cases
 pub mod Unique

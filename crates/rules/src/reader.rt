@@ -6,8 +6,9 @@ use crate::book::Opened;
 use crate::record;
 use crate::record::Outcome;
 ghost use mathlib.Core.Path.{_≡_};
+ghost use Prim.Native.Nat.{_-_};
 ghost use Rattle.rules.specs.Book.{opened, accepted};
-ghost use Rattle.rules.specs.Reader.{sightBy, sightAt, sight};
+ghost use Rattle.rules.specs.Reader.{sightBy, sightAt, sight, leftFrom, placeAfter, advanced};
 
 pub enum Seen {
     // The bytes are no sound book.
@@ -16,6 +17,12 @@ pub enum Seen {
     Missing,
     // What becomes of the record.
     Record(Outcome),
+}
+
+// A book and the place of the next record in it.
+pub struct Reader<'a> {
+    pub book: &'a [u8],
+    pub next: usize,
 }
 
 // Record i of a book.
@@ -37,4 +44,63 @@ fn look_in(book: &[u8], h: Head, i: usize) -> Seen
         return Seen::Record(record::judge(book, h, i));
     }
     Seen::Missing
+}
+
+// How many records there are from place i on; none of a book that is refused.
+pub(crate) fn count_from(book: &[u8], i: usize) -> usize
+    ensures left { λ r. ⌜ r ≡ leftFrom (now (book .entry)) i ⌝ }
+{
+    match book::open(book) {
+        Opened::Wrong(_) => 0,
+        Opened::Open(h) => count_between(i, h.n),
+    }
+}
+
+fn count_between(i: usize, n: usize) -> usize
+    ensures left { λ r. ⌜ r ≡ n - i ⌝ }
+{
+    if i < n {
+        return n - i;
+    }
+    0
+}
+
+// The place after i. From the book's length on, past any record, it stays where it is.
+pub(crate) fn step_from(book: &[u8], i: usize) -> usize
+    ensures after { λ r. ⌜ r ≡ placeAfter (now (book .entry)) i ⌝ }
+{
+    if i < book.len() {
+        return i + 1;
+    }
+    i
+}
+
+// What is seen of the next record.
+pub fn look_next<'a>(r: Reader<'a>) -> Seen
+    ensures shown { λ x. ⌜ sight x ≡ sightAt (now (r .entry .book)) (r .entry .next) ⌝ }
+{
+    look(r.book, r.next)
+}
+
+// How many records are left.
+pub fn count_left<'a>(r: Reader<'a>) -> usize
+    ensures left { λ k. ⌜ k ≡ leftFrom (now (r .entry .book)) (r .entry .next) ⌝ }
+{
+    count_from(r.book, r.next)
+}
+
+// The reader at the record after the next.
+pub fn advance<'a>(r: Reader<'a>) -> Reader<'a>
+    ensures moved { λ q. ⌜ q ≡ advanced (r .entry) ⌝ }
+{
+    let next = step_from(r.book, r.next);
+    Reader { book: r.book, next }
+}
+
+// The first record of a book, seen through a reader. Its parameter is a plain slice, so that its
+// callers need no walk.
+pub fn look_first(book: &[u8]) -> Seen
+    ensures shown { λ r. ⌜ sight r ≡ sightAt (now (book .entry)) 0 ⌝ }
+{
+    look_next(Reader { book, next: 0 })
 }
