@@ -11,8 +11,9 @@ use Rattle.mass.specs.declared.ledger.Ledgers.{Ledgers}
 use Rattle.mass.specs.declared.figures.Warming.{Warming}
 use Rattle.mass.specs.Rounding.{halfUp}
 use Rattle.mass.specs.Ledger.{tonne, mostTonnes, total, Sound, ledgerOf}
-use Rattle.mass.specs.Figures.{kgOf, AllSound, Mild, co2eOf, decisive, mustReport}
+use Rattle.mass.specs.Figures.{kgOf, AllSound, Mild, co2eOf, decisive, mustReport, figuresOf}
 use Rattle.mass.proofs.Splitting.{if-lt}
+use Rattle.mass.proofs.LedgerLaws.{total-ledgerOf}
 
 -- Half a kilogram more, and what is left of one falls away: whole tonnes are whole kilograms.
 pub kgOf-parts : (n x : ℕ) (r : Kg) → r .0 ≡ n * 1000 + (x + 500000000000) / 1000000000000
@@ -78,3 +79,26 @@ mustReport-tonnes v b = whole (decisive v b)
     whole d = if-lt d (10000 * tonne)
         (λ l. lt-leb 10000 (d / tonne) (omega arith) ∙ sym (lt-leb (10000 * tonne) d l))
         (λ l. le-leb 10000 (d / tonne) (omega arith) ∙ sym (le-leb (10000 * tonne) d l))
+
+-- ---- the figures of ledgers that stand for four masses
+pub co2eOf-ledgers : (f b c n : ℕ) (w : Warming) →
+    co2eOf (record { fossil = ledgerOf f; biomass = ledgerOf b; ch4 = ledgerOf c; n2o = ledgerOf n }) w
+    ≡ f + b + w .ch4 * c + w .n2o * n
+unfolding co2eOf
+co2eOf-ledgers f b c n w =
+    rw (total-ledgerOf f, total-ledgerOf b, total-ledgerOf c, total-ledgerOf n)
+
+pub figuresOf-ledgers : (f b c n : ℕ) (w : Warming) →
+    let e = f + b + w .ch4 * c + w .n2o * n in
+    figuresOf (record { fossil = ledgerOf f; biomass = ledgerOf b; ch4 = ledgerOf c; n2o = ledgerOf n }) w
+    ≡ record {
+      fossil = kgOf f;
+      biomass = kgOf b;
+      ch4 = kgOf c;
+      n2o = kgOf n;
+      co2e = kgOf e;
+      reportable = mustReport e b;
+    }
+unfolding figuresOf
+figuresOf-ledgers f b c n w =
+    rw (co2eOf-ledgers f b c n w, total-ledgerOf f, total-ledgerOf b, total-ledgerOf c, total-ledgerOf n)
