@@ -6,17 +6,18 @@ use mathlib.Core.List.{List}
 use mathlib.Core.Path.{_≡_, refl, sym, ap, _∙_, subst}
 use native.Mathlib.Nat.{not-suc-le-zero}
 use native.Mathlib.Omega.{arith}
-use lib.Dec.{eqb, ltb}
+use lib.Dec.{eqb, ltb, lit≤}
 use lib.ListN.{length, take, drop}
 use borrow.Author.Tests.{lt-ltb, le-ltb, ltb-true, leb-true, eqb-true}
 use Rattle.rules.specs.declared.book.Head.{Head}
 use Rattle.rules.specs.declared.book.Opened.{Opened}
 use Rattle.rules.specs.declared.book.Opened.the-variants.{Wrong, Open}
+use Rattle.rules.specs.declared.book.Fault.{Fault}
 use Rattle.rules.specs.declared.book.Fault.the-variants.{Length, Trailer, Units, Fuels}
 use Rattle.rules.specs.Tests.{_also_, choose}
 use Rattle.rules.specs.Bytes.{line, lines, linesIn}
 use Rattle.rules.specs.Fields.{unitStart, fuelStart, year, number}
-use Rattle.rules.specs.Book.{longestBook, lengthOk, startsOk, trailerOk, unitOk, fuelOk, linesOk, linesSound, trailer, headOf, unitLines, fuelLines, Answer, refused, accepted, opened, answer}
+use Rattle.rules.specs.Book.{longestBook, lengthOk, startsOk, trailerOk, unitOk, fuelOk, linesOk, linesSound, trailer, headOf, unitLines, fuelLines, Answer, refused, accepted, opened, answer, faultNumber}
 use Rattle.rules.specs.Listing.{numberAt, Rising}
 use Rattle.rules.proofs.TestsLaws.{also-t, also-f, also-l, also-r}
 use Rattle.rules.proofs.BytesLaws.{line-suc, lines-next, lines-end}
@@ -156,6 +157,28 @@ pub opened-open : {o : Opened} {h : Head} (s : List ℕ) → answer o ≡ opened
     → opened s ≡ accepted h
 unfolding answer
 opened-open s e q = sym e ∙ ap answer q
+
+pub opened-wrong : {o : Opened} {x : Fault} (s : List ℕ) → answer o ≡ opened s → o ≡ Wrong x
+    → opened s ≡ refused (faultNumber x)
+unfolding answer
+opened-wrong s e q = sym e ∙ ap answer q
+
+-- Where a test turns a book away with the number m, its number is m; else the rest decides.
+refused-by : {x : Answer} {m n : ℕ} (t : Bool) → (20 ≤ m) × (m ≤ 23) → (x ≡ refused n → (20 ≤ n) × (n ≤ 23))
+    → choose t x (refused m) ≡ refused n → (20 ≤ n) × (n ≤ 23)
+unfolding choose
+refused-by true g rest e = rest e
+refused-by {m = m} {n = n} false g rest e = let same : m ≡ n = cc in (omega arith, omega arith)
+
+-- A book is refused with 20 to 23.
+pub opened-number : (s : List ℕ) (n : ℕ) → opened s ≡ refused n → (20 ≤ n) × (n ≤ 23)
+unfolding opened
+opened-number s n e =
+    refused-by (lengthOk s) (lit≤ tt, lit≤ tt)
+    (λ e₁. refused-by (trailerOk (trailer s) (length s - 32)) (lit≤ tt, lit≤ tt)
+    (λ e₂. refused-by (linesSound unitOk (unitLines (headOf s) s)) (lit≤ tt, lit≤ tt)
+    (λ e₃. refused-by (linesSound fuelOk (fuelLines (headOf s) s)) (lit≤ tt, lit≤ tt)
+    (λ e₄. let z : _≡_ {A = ℕ} 0 1 = cc in absurd (omega arith)) e₃) e₂) e₁) e
 
 -- ---- a book that is accepted
 pub record Accepted (s : List ℕ) (h : Head) : Type 0 where

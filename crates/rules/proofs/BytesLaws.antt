@@ -52,6 +52,40 @@ module _ (s : List ℕ) (at n : ℕ) where
         let short : n - i ≤ 7 = omega arith in
         lt-of-lt-of-le l (pow-le-pow-right {n = 256} (lit< tt) short)
 
+-- ---- a word from its first byte up
+pub word-zero : (l : List ℕ) (k : ℕ) → word l k 0 ≡ 0
+unfolding word
+word-zero l k = refl
+
+pub word-suc : (l : List ℕ) (k n : ℕ) → word l k (suc n) ≡ byte l k + 256 * word l (k + 1) n
+unfolding word
+word-suc l k n = refl
+
+-- ---- what stands before a word or behind it makes no difference
+pub word-nil : (k n : ℕ) → word [] k n ≡ 0
+unfolding word
+word-nil k zero = refl
+word-nil k (suc n) = omega (arith, word-nil (k + 1) n)
+
+pub word-cons : (b : ℕ) (l : List ℕ) (k n : ℕ) → word (b ∷ l) (suc k) n ≡ word l k n
+unfolding word
+word-cons b l k zero = refl
+word-cons b l k (suc n) =
+    let next : suc k + 1 ≡ suc (k + 1) = omega arith in
+    ap (λ (v : ℕ). byte l k + 256 * v) (ap (λ (j : ℕ). word (b ∷ l) j n) next ∙ word-cons b l (k + 1) n)
+
+pub word-drop : (l : List ℕ) (k n : ℕ) → word (drop k l) 0 n ≡ word l k n
+word-drop l zero n = refl
+word-drop [] (suc k) n = word-nil 0 n ∙ sym (word-nil (suc k) n)
+word-drop (b ∷ l) (suc k) n = word-drop l k n ∙ sym (word-cons b l k n)
+
+pub word-take : (l : List ℕ) (n : ℕ) → word (take n l) 0 n ≡ word l 0 n
+unfolding word
+word-take l zero = refl
+word-take [] (suc n) = refl
+word-take (b ∷ l) (suc n) =
+    ap (λ (v : ℕ). b + 256 * v) (word-cons b (take n l) 0 n ∙ word-take l n ∙ sym (word-cons b l 0 n))
+
 -- ---- words by their parts
 pub word-add : (l : List ℕ) (k m n : ℕ) → word l k (m + n) ≡ word l k m + 256 ^ m * word l (k + m) n
 unfolding word

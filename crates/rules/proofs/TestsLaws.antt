@@ -1,6 +1,7 @@
 -- A row of tests, gone through test by test, and the code's `&` and `|` as rows. Assumes nothing.
 use Prim.Native.Nat.{ℕ}
 use mathlib.Core.Bool.{Bool, true, false, not, _&&_, _||_}
+use mathlib.Core.Logic.{_↔_}
 use mathlib.Core.Path.{_≡_, refl, sym, _∙_, subst}
 use native.Mathlib.Omega.{arith}
 use lib.Dec.{T, ltb, eqb}
@@ -25,6 +26,9 @@ pub also-r : (a b : Bool) → (a also b) ≡ true → b ≡ true
 unfolding _also_
 also-r true b h = h
 also-r false b h = absurd (subst T (sym h) tt)
+
+pub also-iff : (a b : Bool) → ((a also b) ≡ true) ↔ ((a ≡ true) × (b ≡ true))
+also-iff a b = (λ h. (also-l a b h, also-r a b h), λ h. also-t (h .0) (h .1))
 
 -- The code's `a & b` is a row of what a and b are, and its `a | b` a choice of them.
 pub both : {a b a′ b′ : Bool} → a ≡ a′ → b ≡ b′ → (a && b) ≡ (a′ also b′)
