@@ -1,0 +1,12 @@
+-- The argument, from states to the demands: laws on plain values, promises, uniqueness.
+pub mod PutLaws
+pub mod StateLaws
+pub mod TallyLaws
+pub mod CheckpointLaws
+pub mod ReplyLaws
+pub mod WakeLaws
+pub mod ReportLaws
+pub mod HistoryLaws
+pub mod Unique
+pub mod Demands
+pub mod ShutOut

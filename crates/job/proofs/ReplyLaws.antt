@@ -1,0 +1,129 @@
+-- Each reply is of one answer only, and none both refuses and accepts. Assumes nothing.
+use Prim.Native.Nat.{ℕ, _<_}
+use mathlib.Core.Bool.{Bool, true, false}
+use mathlib.Core.List.{List, [], _∷_}
+use mathlib.Core.Path.{_≡_, refl, sym, ap, _∙_}
+use native.Mathlib.Omega.{arith}
+use lib.Dec.{eqb}
+use Rattle.rules.specs.declared.book.Fault.the-variants.{Length, Trailer, Units, Fuels}
+use Rattle.rules.specs.Tests.{choose}
+use Rattle.rules.proofs.TestsLaws.{choose-t, choose-f}
+use Rattle.job.specs.declared.reply.Refusal.{Refusal}
+use Rattle.job.specs.declared.reply.Refusal.the-variants.{Book, CheckpointLength, CheckpointUnsound, BufferLength}
+use Rattle.job.specs.declared.reply.Started.{Started}
+use Rattle.job.specs.declared.reply.Started.the-variants.{NotStarted, Fresh}
+use Rattle.job.specs.declared.reply.Woken.{Woken}
+use Rattle.job.specs.declared.reply.Woken.the-variants.{NotWoken, Moved}
+use Rattle.job.specs.declared.reply.Reported.{Reported}
+use Rattle.job.specs.declared.reply.Reported.the-variants.{NotReported, Unfinished, RecordAside, Given}
+use Rattle.job.specs.Reply.{Reply, reply, refusalNumber, figureValues, started, woken, reported}
+
+-- ---- the parts of a reply
+number : Reply → ℕ
+number (reply n vs) = n
+
+pub refused-0 : {r : Reply} {n : ℕ} {us vs : List ℕ} → r ≡ reply 0 us → r ≡ reply n vs → 0 < n → ⊥
+unfolding number
+refused-0 p q l = let e = sym (ap number p) ∙ ap number q in omega arith
+
+firstValue : Reply → ℕ
+firstValue (reply n []) = 0
+firstValue (reply n (m ∷ vs)) = m
+
+pub one-first : {r : Reply} {m n a b : ℕ} {us vs : List ℕ} → reply m (a ∷ us) ≡ r → reply n (b ∷ vs) ≡ r → a ≡ b
+unfolding firstValue
+one-first p q = ap firstValue p ∙ sym (ap firstValue q)
+
+-- ---- the answer that a reply stands for
+pick : {A : Type 0} → Bool → A → A → A
+pick true x y = x
+pick false x y = y
+
+refusal : ℕ → Refusal
+refusal n =
+    pick (eqb n 20) (Book Length)
+    (pick (eqb n 21) (Book Trailer)
+    (pick (eqb n 22) (Book Units)
+    (pick (eqb n 23) (Book Fuels)
+    (pick (eqb n 30) CheckpointLength
+    (pick (eqb n 31) CheckpointUnsound
+    BufferLength)))))
+
+refusal-number : (x : Refusal) → refusal (refusalNumber x) ≡ x
+unfolding refusal pick
+refusal-number (Book Length) = refl
+refusal-number (Book Trailer) = refl
+refusal-number (Book Units) = refl
+refusal-number (Book Fuels) = refl
+refusal-number CheckpointLength = refl
+refusal-number CheckpointUnsound = refl
+refusal-number BufferLength = refl
+
+-- ---- a fresh start
+begun : Reply → Started
+begun (reply n vs) = pick (eqb n 0) Fresh (NotStarted (refusal n))
+
+begun-started : (r : Started) → begun (started r) ≡ r
+unfolding begun pick refusal started
+begun-started (NotStarted (Book Length)) = refl
+begun-started (NotStarted (Book Trailer)) = refl
+begun-started (NotStarted (Book Units)) = refl
+begun-started (NotStarted (Book Fuels)) = refl
+begun-started (NotStarted CheckpointLength) = refl
+begun-started (NotStarted CheckpointUnsound) = refl
+begun-started (NotStarted BufferLength) = refl
+begun-started Fresh = refl
+
+pub started-inj : (r s : Started) → started r ≡ started s → r ≡ s
+started-inj r s e = sym (begun-started r) ∙ ap begun e ∙ begun-started s
+
+-- ---- a wake
+moved : Reply → Woken
+moved (reply n []) = NotWoken (refusal n)
+moved (reply n (m ∷ vs)) = Moved m
+
+moved-woken : (r : Woken) → moved (woken r) ≡ r
+unfolding moved woken
+moved-woken (NotWoken x) = ap NotWoken (refusal-number x)
+moved-woken (Moved m) = refl
+
+pub woken-inj : (r s : Woken) → woken r ≡ woken s → r ≡ s
+woken-inj r s e = sym (moved-woken r) ∙ ap moved e ∙ moved-woken s
+
+-- ---- a report
+said : Reply → Reported
+said (reply n []) = NotReported (refusal n)
+said (reply n (a ∷ [])) = Unfinished a
+said (reply n (a ∷ b ∷ [])) = RecordAside a b
+said (reply n (a ∷ b ∷ c ∷ [])) = NotReported (refusal n)
+said (reply n (a ∷ b ∷ c ∷ d ∷ [])) = NotReported (refusal n)
+said (reply n (a ∷ b ∷ c ∷ d ∷ e ∷ [])) = NotReported (refusal n)
+said (reply n (a ∷ b ∷ c ∷ d ∷ e ∷ m ∷ vs)) = Given (record {
+  fossil = record { 0 = a };
+  biomass = record { 0 = b };
+  ch4 = record { 0 = c };
+  n2o = record { 0 = d };
+  co2e = record { 0 = e };
+  reportable = eqb m 1;
+})
+
+one-or-none : (t : Bool) → eqb (choose t 1 0) 1 ≡ t
+one-or-none true = ap (λ (m : ℕ). eqb m 1) (choose-t 0 refl refl)
+one-or-none false = ap (λ (m : ℕ). eqb m 1) (choose-f 1 refl refl)
+
+said-reported : (r : Reported) → said (reported r) ≡ r
+unfolding said reported figureValues
+said-reported (NotReported x) = ap NotReported (refusal-number x)
+said-reported (Unfinished d) = refl
+said-reported (RecordAside i k) = refl
+said-reported (Given f) = λ i. Given (record {
+  fossil = f .fossil;
+  biomass = f .biomass;
+  ch4 = f .ch4;
+  n2o = f .n2o;
+  co2e = f .co2e;
+  reportable = one-or-none (f .reportable) i;
+})
+
+pub reported-inj : (r s : Reported) → reported r ≡ reported s → r ≡ s
+reported-inj r s e = sym (said-reported r) ∙ ap said e ∙ said-reported s

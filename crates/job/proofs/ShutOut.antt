@@ -1,0 +1,64 @@
+-- Programs that the contracts shut out by name: each would contradict a reply or a checkpoint that is
+-- fixed. Assumes nothing.
+use Prim.Native.Nat.{ℕ, suc, _+_, _-_, _<_}
+use mathlib.Core.List.{List, List·Memᴰ}
+use mathlib.Core.Path.{_≡_, sym, _∙_}
+use native.Mathlib.Omega.{arith}
+use lib.ListN.{length}
+use Rattle.mass.specs.Figures.{kgOf}
+use Rattle.rules.specs.declared.book.Head.{Head}
+use Rattle.rules.specs.Book.{accepted, opened}
+use Rattle.rules.specs.Record.{outcomeAt}
+use Rattle.job.specs.State.{asideOf, sumTo}
+use Rattle.job.specs.Checkpoint.{doneIn, asideIn, decode}
+use Rattle.job.specs.Reply.{Reply, reply}
+use Rattle.job.specs.Wake.{freshReply, wakeReply}
+use Rattle.job.specs.Report.{reportReply}
+use Rattle.job.specs.History.{Wakes, History}
+use Rattle.job.proofs.ReplyLaws.{refused-0, one-first}
+use Rattle.job.proofs.Demands.{Demand2, demand1, demand2, demand3}
+
+module _ (k : List ℕ) (h : Head) (e : opened k ≡ accepted h) where
+  -- A fresh start that refuses every book.
+  pub no-refusing-fresh : (out : List ℕ) (n : ℕ) (vs : List ℕ) → length out ≡ 96
+      → freshReply k out ≡ reply (suc n) vs → ⊥
+  no-refusing-fresh out n vs o r = refused-0 (demand1 k out 0 out .accepts-fresh h e o) r (omega arith)
+
+  module _ (cs : List (List ℕ)) (c : List ℕ) (past : History k cs) (i : List·Memᴰ c cs) where
+    -- A wake that refuses a checkpoint which an earlier one left.
+    pub no-refusing-wake : (b : ℕ) (out : List ℕ) (n : ℕ) (vs : List ℕ) → length out ≡ 96
+        → wakeReply k c b out ≡ reply (suc n) vs → ⊥
+    no-refusing-wake b out n vs o r = refused-0 (demand3 k h e cs c past i .accepts b out o) r (omega arith)
+
+    -- A report that withholds the totals of a finished book, no record of which was set aside.
+    pub no-refusing-report : (n : ℕ) (vs : List ℕ) → doneIn c ≡ h .n → asideIn c ≡ 0
+        → reportReply k c ≡ reply (suc n) vs → ⊥
+    no-refusing-report n vs l z r = refused-0 (demand2 k h e cs c past i .given l z) r (omega arith)
+
+    module _ (b m : ℕ) (d : List ℕ) (w : Wakes k c b m d) where
+      -- A wake that moves nothing, though it has a budget and the book isn't finished.
+      pub no-standing-still : 0 < b → doneIn c < h .n → doneIn d ≡ doneIn c → ⊥
+      no-standing-still l u s = let at = demand3 k h e cs c past i .ends b m d w in omega arith
+
+      -- A wake that does the whole book on a budget that doesn't reach its end.
+      pub no-whole-book : doneIn c + b < h .n → doneIn d ≡ h .n → ⊥
+      no-whole-book l s = let at = demand3 k h e cs c past i .ends b m d w in omega arith
+
+      -- An invented number of records gone through.
+      pub no-invented-count : (m ≡ doneIn d - doneIn c → ⊥) → ⊥
+      no-invented-count f =
+          let at = demand3 k h e cs c past i .ends b m d w in
+          let count = demand3 k h e cs c past i .counts b m d w in
+          f (omega arith)
+
+    -- An invented number of records set aside.
+    pub no-invented-aside : (asideIn c ≡ sumTo (λ j. asideOf (outcomeAt h k j)) (doneIn c) → ⊥) → ⊥
+    no-invented-aside f = f (demand2 k h e cs c past i .aside)
+
+-- One fixed report for two finished books whose fossil CO2 differs.
+pub no-fixed-report : (k k′ : List ℕ) (h h′ : Head) (c c′ : List ℕ) → Demand2 k h c → Demand2 k′ h′ c′
+    → doneIn c ≡ h .n → asideIn c ≡ 0 → doneIn c′ ≡ h′ .n → asideIn c′ ≡ 0
+    → (kgOf (decode c .fossil) .0 ≡ kgOf (decode c′ .fossil) .0 → ⊥)
+    → (fixed : Reply) → reportReply k c ≡ fixed → reportReply k′ c′ ≡ fixed → ⊥
+no-fixed-report k k′ h h′ c c′ p q l z l′ z′ differ fixed r r′ =
+    differ (one-first (sym (p .given l z) ∙ r) (sym (q .given l′ z′) ∙ r′))

@@ -1,0 +1,101 @@
+-- A tally of canonical ledgers and its state say the same; a state within what a sound checkpoint
+-- allows has sound ledgers; and what one record does to a tally. Assumes nothing.
+use Prim.Native.Nat.{ℕ, _+_, _*_, _/_, _<_, _≤_}
+use mathlib.Core.List.{List}
+use mathlib.Core.Path.{_≡_, sym, ap, _∙_}
+use native.Mathlib.Nat.{add-zero}
+use native.Mathlib.Numerals.{add-one}
+use native.Mathlib.Omega.{arith}
+use Rattle.mass.specs.declared.ledger.Ledger.{Ledger}
+use Rattle.mass.specs.Ledger.{tonne, total, Sound, ledgerOf, added}
+use Rattle.mass.specs.Figures.{AllSound}
+use Rattle.mass.proofs.LedgerLaws.{total-ledgerOf, ledgerOf-total, sound-ledgerOf, added-ledgerOf}
+use Rattle.rules.specs.declared.book.Head.{Head}
+use Rattle.rules.specs.declared.record.Outcome.{Outcome}
+use Rattle.rules.specs.declared.record.Outcome.the-variants.{SetAside}
+use Rattle.rules.specs.Book.{opened, accepted}
+use Rattle.rules.specs.Record.{outcomeAt}
+use Rattle.rules.proofs.BookLaws.{accepted-facts}
+use Rattle.job.specs.declared.tally.Tally.{Tally}
+use Rattle.job.specs.State.{State, after, run, FitFor}
+use Rattle.job.specs.Tally.{ledgersOf, tallyOf, stateOf}
+use Rattle.job.proofs.StateLaws.{run-done, fitFor-run}
+
+-- ---- tallies and states
+pub stateOf-tallyOf : (s : State) → stateOf (tallyOf s) ≡ s
+unfolding stateOf tallyOf ledgersOf
+stateOf-tallyOf s = λ i. record {
+  done = s .done;
+  aside = s .aside;
+  index = s .index;
+  reason = s .reason;
+  fossil = total-ledgerOf (s .fossil) i;
+  biomass = total-ledgerOf (s .biomass) i;
+  ch4 = total-ledgerOf (s .ch4) i;
+  n2o = total-ledgerOf (s .n2o) i;
+}
+
+light-sound : (n d v : ℕ) → v / tonne ≤ 4000000 * d → d ≤ n → n ≤ 131072 → Sound (ledgerOf v)
+light-sound n d v h l m = sound-ledgerOf v (omega arith)
+
+pub sound-ledgersOf : (h : Head) (s : State) → FitFor h s → h .n ≤ 131072 → AllSound (ledgersOf s)
+unfolding ledgersOf
+sound-ledgersOf h s f l = record {
+  fossil-sound = light-sound (h .n) (s .done) (s .fossil) (f .fossil-light) (f .done-le) l;
+  biomass-sound = light-sound (h .n) (s .done) (s .biomass) (f .biomass-light) (f .done-le) l;
+  ch4-sound = light-sound (h .n) (s .done) (s .ch4) (f .ch4-light) (f .done-le) l;
+  n2o-sound = light-sound (h .n) (s .done) (s .n2o) (f .n2o-light) (f .done-le) l;
+}
+
+-- ---- one record
+pub ledgerOf-of-added : {r : Ledger} {v w : ℕ} (g : Ledger) → r ≡ added g v → v ≡ w
+    → r ≡ ledgerOf (total g + w)
+ledgerOf-of-added {v = v} g e q = e ∙ added-ledgerOf g v ∙ ap (λ (x : ℕ). ledgerOf (total g + x)) q
+
+kept : (g : Ledger) → Sound g → g ≡ ledgerOf (total g + 0)
+kept g h = sym (ap ledgerOf (add-zero (total g)) ∙ ledgerOf-total g (h .canonical))
+
+pub ledgersOf-after-aside : (t : Tally) (r : ℕ) → AllSound (t .ledgers)
+    → t .ledgers ≡ ledgersOf (after (stateOf t) (SetAside r))
+unfolding ledgersOf after stateOf
+ledgersOf-after-aside t r h = λ i. record {
+  fossil = kept (t .ledgers .fossil) (h .fossil-sound) i;
+  biomass = kept (t .ledgers .biomass) (h .biomass-sound) i;
+  ch4 = kept (t .ledgers .ch4) (h .ch4-sound) i;
+  n2o = kept (t .ledgers .n2o) (h .n2o-sound) i;
+}
+
+-- ---- the next n records of an accepted book, of which i are done
+pub tallyOf-run-suc : {t r : Tally} {o : Outcome} (h : Head) (k : List ℕ) (s : State) (i : ℕ)
+    → t ≡ tallyOf (run h k s i) → o ≡ outcomeAt h k (t .done) → r ≡ tallyOf (after (stateOf t) o)
+    → r ≡ tallyOf (run h k s (i + 1))
+unfolding run stateOf
+tallyOf-run-suc {t} h k s i e p q =
+    let now : stateOf t ≡ run h k s i = ap stateOf e ∙ stateOf-tallyOf (run h k s i) in
+    rw add-one
+    (q
+    ∙ ap (λ (o : Outcome). tallyOf (after (stateOf t) o)) p
+    ∙ ap (λ (x : State). tallyOf (after x (outcomeAt h k (x .done)))) now)
+
+-- A book has a record more, and a tally room for it.
+pub record Ready (h : Head) (t : Tally) : Type 0 where
+  pub sound : AllSound (t .ledgers)
+  pub done-lt : t .done < h .n
+  pub room : (t .done < 4294967295) × (t .aside < 4294967295)
+
+far : {a d n : ℕ} → a ≤ d → d < n → n ≤ 131072 → (d < 4294967295) × (a < 4294967295)
+far h l m = (omega arith, omega arith)
+
+pub ready-run : (h : Head) (k : List ℕ) (s : State) (n i : ℕ) → opened k ≡ accepted h → FitFor h s
+    → s .done + n ≤ h .n → i < n → Ready h (tallyOf (run h k s i))
+unfolding tallyOf
+ready-run h k s n i e f l m =
+    let book = accepted-facts k h e in
+    let few : h .n ≤ 131072 = omega arith in
+    let fit = fitFor-run h k s i e (omega arith) f in
+    let more : run h k s i .done < h .n = omega (arith, run-done h k s i) in
+    record {
+      sound = sound-ledgersOf h (run h k s i) fit few;
+      done-lt = more;
+      room = far (fit .aside-le) more few;
+    }

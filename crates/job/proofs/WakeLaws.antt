@@ -1,0 +1,117 @@
+-- A call's judgement, one case at a time, and what an accepted book says of a tally. Assumes nothing.
+use Prim.Native.Nat.{ℕ, suc, _≤_}
+use mathlib.Core.Bool.{Bool, true, false}
+use mathlib.Core.List.{List, []}
+use mathlib.Core.Path.{_≡_, refl, sym, ap, _∙_, subst}
+use native.Mathlib.Omega.{arith}
+use lib.Dec.{eqb}
+use lib.ListN.{length}
+use borrow.Author.Tests.{eq-eqb, ne-eqb}
+use Rattle.mass.specs.Figures.{AllSound}
+use Rattle.rules.specs.declared.book.Head.{Head}
+use Rattle.rules.specs.Tests.{choose}
+use Rattle.rules.specs.Book.{Answer, refused, accepted, opened}
+use Rattle.rules.proofs.TestsLaws.{choose-t, choose-f}
+use Rattle.rules.proofs.BookLaws.{accepted-facts}
+use Rattle.job.specs.declared.tally.Tally.{Tally}
+use Rattle.job.specs.State.{State, FitFor}
+use Rattle.job.specs.Checkpoint.{checkpointSize, sound}
+use Rattle.job.specs.Tally.{tallyOf}
+use Rattle.job.specs.Reply.{Reply, reply}
+use Rattle.job.specs.Wake.{ifOpen, freshJudged, freshReply, freshBytes, wakeJudged, wakeReply, wakeBytes}
+use Rattle.job.proofs.TallyLaws.{sound-ledgersOf}
+use Rattle.job.proofs.ReplyLaws.{refused-0}
+
+-- ---- the book
+module _ {A : Type 0} (k : List ℕ) (refuse : ℕ → A) (go : Head → A) where
+  pub ifOpen-refused : {n : ℕ} → opened k ≡ refused n → ifOpen (opened k) refuse go ≡ refuse n
+  unfolding ifOpen
+  ifOpen-refused e = ap (λ (a : Answer). ifOpen a refuse go) e
+
+  pub ifOpen-accepted : {h : Head} → opened k ≡ accepted h → ifOpen (opened k) refuse go ≡ go h
+  unfolding ifOpen
+  ifOpen-accepted e = ap (λ (a : Answer). ifOpen a refuse go) e
+
+-- ---- a fresh start
+module _ {A : Type 0} (k out : List ℕ) (refuse : ℕ → A) (go : Head → A) where
+  pub freshJudged-book : {n : ℕ} → opened k ≡ refused n → freshJudged k out refuse go ≡ refuse n
+  unfolding freshJudged
+  freshJudged-book e = ifOpen-refused k refuse _ e
+
+  module _ {h : Head} (e : opened k ≡ accepted h) where
+    pub freshJudged-32 : (length out ≡ checkpointSize → ⊥) → freshJudged k out refuse go ≡ refuse 32
+    unfolding freshJudged
+    freshJudged-32 o = ifOpen-accepted k refuse _ e ∙ choose-f _ (ne-eqb _ _ o) refl
+
+    pub freshJudged-go : length out ≡ checkpointSize → freshJudged k out refuse go ≡ go h
+    unfolding freshJudged
+    freshJudged-go o = ifOpen-accepted k refuse _ e ∙ choose-t _ (eq-eqb _ _ o) refl
+
+-- ---- a wake
+module _ {A : Type 0} (k c out : List ℕ) (refuse : ℕ → A) (go : Head → A) where
+  pub wakeJudged-book : {n : ℕ} → opened k ≡ refused n → wakeJudged k c out refuse go ≡ refuse n
+  unfolding wakeJudged
+  wakeJudged-book e = ifOpen-refused k refuse _ e
+
+  module _ {h : Head} (e : opened k ≡ accepted h) where
+    pub wakeJudged-30 : (length c ≡ checkpointSize → ⊥) → wakeJudged k c out refuse go ≡ refuse 30
+    unfolding wakeJudged
+    wakeJudged-30 l = ifOpen-accepted k refuse _ e ∙ choose-f _ (ne-eqb _ _ l) refl
+
+    pub wakeJudged-31 : length c ≡ checkpointSize → sound h c ≡ false → wakeJudged k c out refuse go ≡ refuse 31
+    unfolding wakeJudged
+    wakeJudged-31 l s = ifOpen-accepted k refuse _ e ∙ choose-t _ (eq-eqb _ _ l) (choose-f _ s refl)
+
+    pub wakeJudged-32 : length c ≡ checkpointSize → sound h c ≡ true → (length out ≡ checkpointSize → ⊥)
+        → wakeJudged k c out refuse go ≡ refuse 32
+    unfolding wakeJudged
+    wakeJudged-32 l s o =
+        ifOpen-accepted k refuse _ e
+        ∙ choose-t _ (eq-eqb _ _ l) (choose-t _ s (choose-f _ (ne-eqb _ _ o) refl))
+
+    pub wakeJudged-go : length c ≡ checkpointSize → sound h c ≡ true → length out ≡ checkpointSize
+        → wakeJudged k c out refuse go ≡ go h
+    unfolding wakeJudged
+    wakeJudged-go l s o =
+        ifOpen-accepted k refuse _ e
+        ∙ choose-t _ (eq-eqb _ _ l) (choose-t _ s (choose-t _ (eq-eqb _ _ o) refl))
+
+-- ---- what is refused leaves the buffer as it was
+module _ {n : ℕ} {vs out : List ℕ} where
+  ifOpen-kept : (a : Answer) (says : Head → Reply) (leaves : Head → List ℕ)
+      → ((h : Head) → says h ≡ reply (suc n) vs → leaves h ≡ out)
+      → ifOpen a (λ m. reply m []) says ≡ reply (suc n) vs → ifOpen a (λ m. out) leaves ≡ out
+  unfolding ifOpen
+  ifOpen-kept (refused m) says leaves f e = refl
+  ifOpen-kept (accepted h) says leaves f e = f h e
+
+  choose-kept : (m : ℕ) (t : Bool) {r : Reply} {x : List ℕ} → (r ≡ reply (suc n) vs → x ≡ out)
+      → choose t r (reply m []) ≡ reply (suc n) vs → choose t x out ≡ out
+  choose-kept m true f e = choose-t out refl (f (sym (choose-t (reply m []) refl refl) ∙ e))
+  choose-kept m false {x = x} f e = choose-f x refl refl
+
+  pub freshBytes-kept : (k : List ℕ) → freshReply k out ≡ reply (suc n) vs → freshBytes k out ≡ out
+  unfolding freshReply freshBytes freshJudged
+  freshBytes-kept k =
+      ifOpen-kept (opened k) _ _
+      (λ h. choose-kept 32 (eqb (length out) checkpointSize)
+      (λ e. absurd (refused-0 refl e (omega arith))))
+
+  pub wakeBytes-kept : (k c : List ℕ) (b : ℕ) → wakeReply k c b out ≡ reply (suc n) vs → wakeBytes k c b out ≡ out
+  unfolding wakeReply wakeBytes wakeJudged
+  wakeBytes-kept k c b =
+      ifOpen-kept (opened k) _ _
+      (λ h. choose-kept 30 (eqb (length c) checkpointSize)
+      (choose-kept 31 (sound h c)
+      (choose-kept 32 (eqb (length out) checkpointSize)
+      (λ e. absurd (refused-0 refl e (omega arith))))))
+
+-- ---- a book that is accepted
+pub records-le : (k : List ℕ) (h : Head) → opened k ≡ accepted h → h .n ≤ 131072
+records-le k h e = let a = accepted-facts k h e in omega arith
+
+pub sound-tally : (k : List ℕ) (h : Head) (s : State) {t : Tally} → opened k ≡ accepted h → t ≡ tallyOf s
+    → FitFor h s → AllSound (t .ledgers)
+unfolding tallyOf
+sound-tally k h s e p f =
+    subst AllSound (sym (ap (λ (x : Tally). x .ledgers) p)) (sound-ledgersOf h s f (records-le k h e))

@@ -1,0 +1,47 @@
+-- What `open` answers decides, and both promises say the same of each answer. Assumes nothing.
+use mathlib.Core.Path.{sym}
+use borrow.Author.Needs.{needs}
+use Rattle.rules.proofs.BookLaws.{opened-open, opened-wrong}
+use Rattle.job.specs.Reply.{started}
+use Rattle.job.specs.Wake.{freshReply, freshBytes}
+use Rattle.job.proofs.WakeLaws.{freshJudged-book}
+use Rattle.job.proofs.wake.fresh.Statement.{statement}
+use Rattle.job.proofs.wake.fresh.Tie as tie
+
+open-requires : tie.Need-open-requires
+open-requires c κs = search needs
+
+enum-known-fault : tie.Need-enum-known-fault
+enum-known-fault c = search needs
+
+enum-known-h : tie.Need-enum-known-h
+enum-known-h c = search needs
+
+fresh-open-requires : tie.Need-fresh-open-requires
+fresh-open-requires c κs =
+    let told = c .before .before in
+    opened-open _ (told .before .before .«open» .ensures) (told .h .given .1)
+
+returns : tie.Need-returns
+unfolding started freshReply freshBytes
+returns c =
+    let e = opened-wrong _ (c .before .before .before .«open» .ensures) (c .before .fault .given .1) in
+    (sym (freshJudged-book _ _ _ _ e), sym (freshJudged-book _ _ _ _ e))
+
+same-length : tie.Need-same-length
+same-length c = search needs
+
+returns-2 : tie.Need-returns-2
+returns-2 c = search needs
+
+pub fresh-spec : {M : Type 1} → statement M
+fresh-spec =
+    tie.close
+    (tie.spec
+    open-requires
+    enum-known-fault
+    enum-known-h
+    fresh-open-requires
+    returns
+    same-length
+    returns-2)

@@ -1,0 +1,47 @@
+-- What `open` answers decides, and both promises say the same of each answer. Assumes nothing.
+use mathlib.Core.Path.{sym}
+use borrow.Author.Needs.{needs}
+use Rattle.rules.proofs.BookLaws.{opened-open, opened-wrong}
+use Rattle.job.specs.Reply.{woken}
+use Rattle.job.specs.Wake.{wakeReply, wakeBytes}
+use Rattle.job.proofs.WakeLaws.{wakeJudged-book}
+use Rattle.job.proofs.wake.wake.Statement.{statement}
+use Rattle.job.proofs.wake.wake.Tie as tie
+
+open-requires : tie.Need-open-requires
+open-requires c κs = search needs
+
+enum-known-fault : tie.Need-enum-known-fault
+enum-known-fault c = search needs
+
+enum-known-h : tie.Need-enum-known-h
+enum-known-h c = search needs
+
+wake-open-requires : tie.Need-wake-open-requires
+wake-open-requires c κs =
+    let told = c .before .before in
+    opened-open _ (told .before .before .«open» .ensures) (told .h .given .1)
+
+returns : tie.Need-returns
+unfolding woken wakeReply wakeBytes
+returns c =
+    let e = opened-wrong _ (c .before .before .before .«open» .ensures) (c .before .fault .given .1) in
+    (sym (wakeJudged-book _ _ _ _ _ e), sym (wakeJudged-book _ _ _ _ _ e))
+
+same-length : tie.Need-same-length
+same-length c = search needs
+
+returns-2 : tie.Need-returns-2
+returns-2 c = search needs
+
+pub wake-spec : {M : Type 1} → statement M
+wake-spec =
+    tie.close
+    (tie.spec
+    open-requires
+    enum-known-fault
+    enum-known-h
+    wake-open-requires
+    returns
+    same-length
+    returns-2)

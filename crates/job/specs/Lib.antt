@@ -1,0 +1,8 @@
+-- What a reader must believe of a job, in the order of RULES: its state, its checkpoint, its calls.
+pub mod State
+pub mod Checkpoint
+pub mod Tally
+pub mod Reply
+pub mod Wake
+pub mod Report
+pub mod History

@@ -1,0 +1,45 @@
+-- What a report replies. RULES, "Report" and "Numbers".
+--
+--     warming             the warming values of CH4 and N2O
+--     figuresAt s         the five figures and the decision of a state
+--     replyAt h s         the reply to a report at a state: 40 unless the book is finished, 41 if a record
+--                         was set aside, else the figures
+--     reportReply k c     the reply to a report
+--
+-- Laws: proofs/ReportLaws.antt. Definitions only.
+use Prim.Native.Nat.{ℕ}
+use mathlib.Core.List.{List, [], _∷_}
+use lib.Dec.{eqb, ltb}
+use lib.ListN.{length}
+use Rattle.mass.specs.declared.figures.Figures.{Figures}
+use Rattle.mass.specs.declared.figures.Warming.{Warming}
+use Rattle.mass.specs.Figures.{figuresOf}
+use Rattle.rules.specs.declared.book.Head.{Head}
+use Rattle.rules.specs.Tests.{choose}
+use Rattle.rules.specs.Book.{opened}
+use Rattle.job.specs.State.{State}
+use Rattle.job.specs.Checkpoint.{checkpointSize, sound, decode}
+use Rattle.job.specs.Tally.{ledgersOf}
+use Rattle.job.specs.Reply.{Reply, reply, figureValues}
+use Rattle.job.specs.Wake.{ifOpen}
+
+-- 21 for CH4 and 310 for N2O.
+abbrev pub warming : Warming
+warming = record { ch4 = 21; n2o = 310 }
+
+unfoldable pub figuresAt : State → Figures
+figuresAt s = figuresOf (ledgersOf s) warming
+
+unfoldable pub replyAt : Head → State → Reply
+replyAt h s =
+    choose (ltb (s .done) (h .n)) (reply 40 (s .done ∷ []))
+    (choose (ltb 0 (s .aside)) (reply 41 (s .index ∷ s .reason ∷ []))
+    (reply 0 (figureValues (figuresAt s))))
+
+unfoldable pub reportReply : List ℕ → List ℕ → Reply
+reportReply k c =
+    ifOpen (opened k) (λ n. reply n []) (λ h.
+    choose (eqb (length c) checkpointSize)
+    (choose (sound h c) (replyAt h (decode c))
+    (reply 31 []))
+    (reply 30 []))

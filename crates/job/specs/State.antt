@@ -1,0 +1,120 @@
+-- The state of a job, in numbers, and how a record changes it. RULES, "Ledgers" and "Calls".
+--
+--     State                what is known after some records: how many are done and how many of them
+--                          were set aside, index and reason of the first of these (0 if none), and the
+--                          four ledgers in ng
+--     fossilOf o .. n2oOf o    what an outcome gives to each ledger, in ng
+--     asideOf o            1 if the record was set aside, else 0
+--     fresh                the state with nothing done
+--     after s o            the state after one record more, whose outcome is o
+--     run h k s n          the state after the next n records of the book k, from the place of s
+--     first h k n          what the first n records of the book k give
+--     sumTo f n            f 0 + .. + f (n - 1)
+--     FitFor h s           the numbers of s are within what the soundness of a checkpoint allows
+--
+-- Laws: proofs/StateLaws.antt. Definitions only.
+use Prim.Native.Nat.{ℕ, zero, suc, _+_, _*_, _/_, _<_, _≤_}
+use mathlib.Core.List.{List}
+use mathlib.Core.Path.{_≡_}
+use lib.Dec.{eqb}
+use Rattle.mass.specs.declared.Ug.{Ug}
+use Rattle.mass.specs.Ledger.{tonne}
+use Rattle.rules.specs.declared.book.Head.{Head}
+use Rattle.rules.specs.declared.entry.Destination.{Destination}
+use Rattle.rules.specs.declared.entry.Destination.the-variants.{Fossil, Biomass, Nowhere}
+use Rattle.rules.specs.declared.record.Outcome.{Outcome}
+use Rattle.rules.specs.declared.record.Outcome.the-variants.{SetAside, Counted}
+use Rattle.rules.specs.Tests.{choose}
+use Rattle.rules.specs.Record.{lastReason, outcomeAt}
+
+pub record State : Type 0 where
+  pub done : ℕ
+  pub aside : ℕ
+  pub index : ℕ
+  pub reason : ℕ
+  pub fossil : ℕ
+  pub biomass : ℕ
+  pub ch4 : ℕ
+  pub n2o : ℕ
+
+-- ---- what one outcome gives: CO2 is counted in µg, which is 1,000 ng
+abbrev pub toFossil : Destination → Ug → ℕ
+toFossil Fossil x = 1000 * x .0
+toFossil Biomass x = 0
+toFossil Nowhere x = 0
+
+abbrev pub toBiomass : Destination → Ug → ℕ
+toBiomass Fossil x = 0
+toBiomass Biomass x = 1000 * x .0
+toBiomass Nowhere x = 0
+
+abbrev pub fossilOf : Outcome → ℕ
+fossilOf (SetAside k) = 0
+fossilOf (Counted e) = toFossil (e .destination) (e .co2)
+
+abbrev pub biomassOf : Outcome → ℕ
+biomassOf (SetAside k) = 0
+biomassOf (Counted e) = toBiomass (e .destination) (e .co2)
+
+abbrev pub ch4Of : Outcome → ℕ
+ch4Of (SetAside k) = 0
+ch4Of (Counted e) = e .ch4 .0
+
+abbrev pub n2oOf : Outcome → ℕ
+n2oOf (SetAside k) = 0
+n2oOf (Counted e) = e .n2o .0
+
+abbrev pub asideOf : Outcome → ℕ
+asideOf (SetAside k) = 1
+asideOf (Counted e) = 0
+
+-- The first record set aside is told by its index and its reason; a later one changes neither.
+abbrev pub indexAfter : State → Outcome → ℕ
+indexAfter s (SetAside k) = choose (eqb (s .aside) 0) (s .done) (s .index)
+indexAfter s (Counted e) = s .index
+
+abbrev pub reasonAfter : State → Outcome → ℕ
+reasonAfter s (SetAside k) = choose (eqb (s .aside) 0) k (s .reason)
+reasonAfter s (Counted e) = s .reason
+
+-- ---- states
+unfoldable pub fresh : State
+fresh = record { done = 0; aside = 0; index = 0; reason = 0; fossil = 0; biomass = 0; ch4 = 0; n2o = 0 }
+
+unfoldable pub after : State → Outcome → State
+after s o = record {
+  done = s .done + 1;
+  aside = s .aside + asideOf o;
+  index = indexAfter s o;
+  reason = reasonAfter s o;
+  fossil = s .fossil + fossilOf o;
+  biomass = s .biomass + biomassOf o;
+  ch4 = s .ch4 + ch4Of o;
+  n2o = s .n2o + n2oOf o;
+}
+
+unfoldable pub run : Head → List ℕ → State → ℕ → State
+run h k s zero = s
+run h k s (suc n) = after (run h k s n) (outcomeAt h k (run h k s n .done))
+
+unfoldable pub first : Head → List ℕ → ℕ → State
+first h k zero = fresh
+first h k (suc n) = after (first h k n) (outcomeAt h k n)
+
+unfoldable pub sumTo : (ℕ → ℕ) → ℕ → ℕ
+sumTo f zero = 0
+sumTo f (suc n) = sumTo f n + f n
+
+-- 4,000,000 t is the most that a record gives to a ledger.
+abbrev pub Light : State → ℕ → Type 0
+Light s v = v / tonne ≤ 4000000 * s .done
+
+pub record FitFor (h : Head) (s : State) : Type 0 where
+  pub done-le : s .done ≤ h .n
+  pub aside-le : s .aside ≤ s .done
+  pub none-first : s .aside ≡ 0 → (s .index ≡ 0) × (s .reason ≡ 0)
+  pub some-first : (s .aside ≡ 0 → ⊥) → (s .index < s .done) × (1 ≤ s .reason) × (s .reason ≤ lastReason)
+  pub fossil-light : Light s (s .fossil)
+  pub biomass-light : Light s (s .biomass)
+  pub ch4-light : Light s (s .ch4)
+  pub n2o-light : Light s (s .n2o)

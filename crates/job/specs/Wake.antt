@@ -1,0 +1,57 @@
+-- What a fresh start and a wake reply and write. RULES, "Calls" and "Numbers".
+--
+--     ifOpen a refuse go          refuse with the number that refused a book, or go with its head
+--     freshJudged k out refuse go the first number that refuses a fresh start, or what it does otherwise
+--     wakeJudged k c out refuse go    the same of a wake
+--     freshReply k out, freshBytes k out       the reply, and the output buffer afterwards
+--     moves h c b              how many records a wake with budget b goes through
+--     wakeReply k c b out, wakeBytes k c b out the reply, and the output buffer afterwards
+--
+-- Laws: proofs/WakeLaws.antt. Definitions only.
+use Prim.Native.Nat.{ℕ, _-_, min}
+use mathlib.Core.List.{List, [], _∷_}
+use lib.Dec.{eqb}
+use lib.ListN.{length}
+use Rattle.rules.specs.declared.book.Head.{Head}
+use Rattle.rules.specs.Tests.{choose}
+use Rattle.rules.specs.Book.{Answer, refused, accepted, opened}
+use Rattle.job.specs.State.{fresh, run}
+use Rattle.job.specs.Checkpoint.{checkpointSize, doneIn, sound, decode, encode}
+use Rattle.job.specs.Reply.{Reply, reply}
+
+unfoldable pub ifOpen : {A : Type 0} → Answer → (ℕ → A) → (Head → A) → A
+ifOpen (refused n) refuse go = refuse n
+ifOpen (accepted h) refuse go = go h
+
+-- ---- a fresh start
+unfoldable pub freshJudged : {A : Type 0} → List ℕ → List ℕ → (ℕ → A) → (Head → A) → A
+freshJudged k out refuse go =
+    ifOpen (opened k) refuse (λ h.
+    choose (eqb (length out) checkpointSize) (go h)
+    (refuse 32))
+
+unfoldable pub freshReply : List ℕ → List ℕ → Reply
+freshReply k out = freshJudged k out (λ n. reply n []) (λ h. reply 0 [])
+
+unfoldable pub freshBytes : List ℕ → List ℕ → List ℕ
+freshBytes k out = freshJudged k out (λ n. out) (λ h. encode h fresh)
+
+-- ---- a wake
+unfoldable pub wakeJudged : {A : Type 0} → List ℕ → List ℕ → List ℕ → (ℕ → A) → (Head → A) → A
+wakeJudged k c out refuse go =
+    ifOpen (opened k) refuse (λ h.
+    choose (eqb (length c) checkpointSize)
+    (choose (sound h c)
+    (choose (eqb (length out) checkpointSize) (go h)
+    (refuse 32))
+    (refuse 31))
+    (refuse 30))
+
+unfoldable pub moves : Head → List ℕ → ℕ → ℕ
+moves h c b = min b (h .n - doneIn c)
+
+unfoldable pub wakeReply : List ℕ → List ℕ → ℕ → List ℕ → Reply
+wakeReply k c b out = wakeJudged k c out (λ n. reply n []) (λ h. reply 0 (moves h c b ∷ []))
+
+unfoldable pub wakeBytes : List ℕ → List ℕ → ℕ → List ℕ → List ℕ
+wakeBytes k c b out = wakeJudged k c out (λ n. out) (λ h. encode h (run h k (decode c) (moves h c b)))

@@ -1,0 +1,64 @@
+// The report: figures once every record was counted, and until then why they are withheld.
+use crate::checkpoint;
+use crate::reply::Refusal;
+use crate::reply::Reported;
+use crate::tally::Tally;
+use mass::figures;
+use mass::figures::Warming;
+use rules::book;
+use rules::book::Head;
+use rules::book::Opened;
+ghost use mathlib.Core.Path.{_≡_};
+ghost use Rattle.rules.specs.Book.{opened, accepted};
+ghost use Rattle.job.specs.State.{FitFor};
+ghost use Rattle.job.specs.Tally.{tallyOf, stateOf};
+ghost use Rattle.job.specs.Reply.{reported};
+ghost use Rattle.job.specs.Report.{replyAt, reportReply};
+
+// How many kilograms of CO2 one of CH4, and one of N2O, stands for.
+const WARMING_CH4: u64 = 21;
+
+const WARMING_N2O: u64 = 310;
+
+pub fn report(book: &[u8], from: &[u8]) -> Reported
+    ensures reply { λ r. ⌜ reported r ≡ reportReply (now (book .entry)) (now (from .entry)) ⌝ }
+{
+    match book::open(book) {
+        Opened::Wrong(fault) => Reported::NotReported(Refusal::Book(fault)),
+        Opened::Open(h) => report_open(book, h, from),
+    }
+}
+
+fn report_open(book: &[u8], h: Head, from: &[u8]) -> Reported
+    requires opened { ⌜ opened (now book) ≡ accepted h ⌝ }
+    ensures reply { λ r. ⌜ reported r ≡ reportReply (now (book .entry)) (now (from .entry)) ⌝ }
+{
+    if from.len() != checkpoint::SIZE {
+        return Reported::NotReported(Refusal::CheckpointLength);
+    }
+    if !checkpoint::is_sound(h, from) {
+        return Reported::NotReported(Refusal::CheckpointUnsound);
+    }
+    report_at(book, h, checkpoint::read(from))
+}
+
+// A report of a state that is sound.
+fn report_at(book: &[u8], h: Head, t: Tally) -> Reported
+    requires opened { ⌜ opened (now book) ≡ accepted h ⌝ }
+    requires canonical { ⌜ t ≡ tallyOf (stateOf t) ⌝ }
+    requires fit { ⌜ FitFor h (stateOf t) ⌝ }
+    ensures reply { λ r. ⌜ reported r ≡ replyAt h (stateOf t) ⌝ }
+{
+    if (t.done as usize) < h.n {
+        return Reported::Unfinished(t.done);
+    }
+    if 0 < t.aside {
+        return Reported::RecordAside(t.index, t.reason);
+    }
+    let ledgers = t.ledgers;
+    let warming = Warming {
+        ch4: WARMING_CH4,
+        n2o: WARMING_N2O,
+    };
+    Reported::Given(figures::work_out(ledgers, warming))
+}

@@ -1,0 +1,108 @@
+// A fresh start, and a wake that goes on from a checkpoint.
+use crate::checkpoint;
+use crate::reply::Refusal;
+use crate::reply::Started;
+use crate::reply::Woken;
+use crate::tally;
+use crate::tally::Tally;
+use mass::Ng;
+use mass::ledger::Ledger;
+use mass::ledger::Ledgers;
+use rules::book;
+use rules::book::Head;
+use rules::book::Opened;
+ghost use mathlib.Core.Path.{_≡_};
+ghost use Prim.Native.Nat.{min};
+ghost use Rattle.mass.specs.Ledger.{ledgerOf};
+ghost use Rattle.rules.specs.Book.{opened, accepted};
+ghost use Rattle.job.specs.State as state;
+ghost use Rattle.job.specs.Tally.{tallyOf};
+ghost use Rattle.job.specs.Reply.{started, woken};
+ghost use Rattle.job.specs.Wake.{freshReply, freshBytes, wakeReply, wakeBytes};
+
+// A checkpoint of the book with nothing done.
+pub fn fresh(book: &[u8], out: &mut [u8]) -> Started
+    ensures reply { λ r. ⌜ started r ≡ freshReply (now (book .entry)) (now (out .entry)) ⌝ }
+    ensures bytes { λ _. ⌜ now (out .exit) ≡ freshBytes (now (book .entry)) (now (out .entry)) ⌝ }
+{
+    match book::open(book) {
+        Opened::Wrong(fault) => Started::NotStarted(Refusal::Book(fault)),
+        Opened::Open(h) => fresh_open(book, h, out),
+    }
+}
+
+fn fresh_open(book: &[u8], h: Head, out: &mut [u8]) -> Started
+    requires opened { ⌜ opened (now book) ≡ accepted h ⌝ }
+    ensures reply { λ r. ⌜ started r ≡ freshReply (now (book .entry)) (now (out .entry)) ⌝ }
+    ensures bytes { λ _. ⌜ now (out .exit) ≡ freshBytes (now (book .entry)) (now (out .entry)) ⌝ }
+{
+    if out.len() != checkpoint::SIZE {
+        return Started::NotStarted(Refusal::BufferLength);
+    }
+    checkpoint::write(h, begin(), out);
+    Started::Fresh
+}
+
+fn begin() -> Tally
+    ensures nothing { λ r. ⌜ r ≡ tallyOf state.fresh ⌝ }
+{
+    Tally {
+        done: 0,
+        aside: 0,
+        index: 0,
+        reason: 0,
+        ledgers: Ledgers {
+            fossil: empty(),
+            biomass: empty(),
+            ch4: empty(),
+            n2o: empty(),
+        },
+    }
+}
+
+fn empty() -> Ledger
+    ensures nothing { λ r. ⌜ r ≡ ledgerOf 0 ⌝ }
+{
+    Ledger {
+        tonnes: 0,
+        rest: Ng(0),
+    }
+}
+
+// The checkpoint after at most `budget` records more, from where `from` stands.
+pub fn wake(book: &[u8], from: &[u8], budget: u32, out: &mut [u8]) -> Woken
+    ensures reply { λ r. ⌜ woken r ≡ wakeReply (now (book .entry)) (now (from .entry)) budget (now (out .entry)) ⌝ }
+    ensures bytes { λ _. ⌜ now (out .exit) ≡ wakeBytes (now (book .entry)) (now (from .entry)) budget (now (out .entry)) ⌝ }
+{
+    match book::open(book) {
+        Opened::Wrong(fault) => Woken::NotWoken(Refusal::Book(fault)),
+        Opened::Open(h) => wake_open(book, h, from, budget, out),
+    }
+}
+
+fn wake_open(book: &[u8], h: Head, from: &[u8], budget: u32, out: &mut [u8]) -> Woken
+    requires opened { ⌜ opened (now book) ≡ accepted h ⌝ }
+    ensures reply { λ r. ⌜ woken r ≡ wakeReply (now (book .entry)) (now (from .entry)) budget (now (out .entry)) ⌝ }
+    ensures bytes { λ _. ⌜ now (out .exit) ≡ wakeBytes (now (book .entry)) (now (from .entry)) budget (now (out .entry)) ⌝ }
+{
+    if from.len() != checkpoint::SIZE {
+        return Woken::NotWoken(Refusal::CheckpointLength);
+    }
+    if !checkpoint::is_sound(h, from) {
+        return Woken::NotWoken(Refusal::CheckpointUnsound);
+    }
+    if out.len() != checkpoint::SIZE {
+        return Woken::NotWoken(Refusal::BufferLength);
+    }
+    let t = checkpoint::read(from);
+    let left = h.n as u32 - t.done;
+    let n = take_lesser(budget, left);
+    checkpoint::write(h, tally::go_through(book, h, t, n), out);
+    Woken::Moved(n)
+}
+
+fn take_lesser(a: u32, b: u32) -> u32
+    ensures least { λ r. ⌜ r ≡ min a b ⌝ }
+{
+    if a < b { a } else { b }
+}
