@@ -53,19 +53,3 @@ added-ledgerOf g v = refl
 pub total-added : (g : Ledger) (v : ℕ) → total (added g v) ≡ total g + v
 unfolding added
 total-added g v = total-ledgerOf (total g + v)
-
-pub canonical-added : (g : Ledger) (v : ℕ) → Canonical (added g v)
-unfolding added
-canonical-added g v = canonical-ledgerOf (total g + v)
-
--- A mass of at most n tonnes adds at most n tonnes.
-pub added-tonnes-le : (g : Ledger) (v n : ℕ) → Canonical g → v ≤ n * tonne → added g v .tonnes ≤ g .tonnes + n
-unfolding added ledgerOf total
-added-tonnes-le g v n h l = omega arith
-
-pub sound-added : (g : Ledger) (v n : ℕ) → Canonical g → v ≤ n * tonne → g .tonnes + n ≤ mostTonnes
-    → Sound (added g v)
-sound-added g v n h l m = record {
-  canonical = canonical-added g v;
-  tonnes-le = omega (arith, added-tonnes-le g v n h l);
-}
