@@ -110,8 +110,8 @@ module _ {n : ℕ} {vs out : List ℕ} where
 pub records-le : (k : List ℕ) (h : Head) → opened k ≡ accepted h → h .n ≤ 131072
 records-le k h e = let a = accepted-facts k h e in omega arith
 
-pub sound-tally : (k : List ℕ) (h : Head) (s : State) {t : Tally} → opened k ≡ accepted h → t ≡ tallyOf s
+pub sound-tally : (h : Head) (s : State) {t : Tally} → h .n ≤ 131072 → t ≡ tallyOf s
     → FitFor h s → AllSound (t .ledgers)
 unfolding tallyOf
-sound-tally k h s e p f =
-    subst AllSound (sym (ap (λ (x : Tally). x .ledgers) p)) (sound-ledgersOf h s f (records-le k h e))
+sound-tally h s few p f =
+    subst AllSound (sym (ap (λ (x : Tally). x .ledgers) p)) (sound-ledgersOf h s f few)

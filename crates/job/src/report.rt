@@ -9,6 +9,7 @@ use rules::book;
 use rules::book::Head;
 use rules::book::Opened;
 ghost use mathlib.Core.Path.{_≡_};
+ghost use Prim.Native.Nat.{_≤_};
 ghost use Rattle.rules.specs.Book.{opened, accepted};
 ghost use Rattle.job.specs.State.{FitFor};
 ghost use Rattle.job.specs.Tally.{tallyOf, stateOf};
@@ -39,12 +40,12 @@ fn report_open(book: &[u8], h: Head, from: &[u8]) -> Reported
     if !checkpoint::is_sound(h, from) {
         return Reported::NotReported(Refusal::CheckpointUnsound);
     }
-    report_at(book, h, checkpoint::read(from))
+    report_at(h, checkpoint::read(from))
 }
 
 // A report of a state that is sound.
-fn report_at(book: &[u8], h: Head, t: Tally) -> Reported
-    requires opened { ⌜ opened (now book) ≡ accepted h ⌝ }
+fn report_at(h: Head, t: Tally) -> Reported
+    requires few { ⌜ h .n ≤ 131072 ⌝ }
     requires canonical { ⌜ t ≡ tallyOf (stateOf t) ⌝ }
     requires fit { ⌜ FitFor h (stateOf t) ⌝ }
     ensures reply { λ r. ⌜ reported r ≡ replyAt h (stateOf t) ⌝ }

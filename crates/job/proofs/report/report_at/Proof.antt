@@ -31,13 +31,13 @@ returns-2 c =
 
 work-out-requires : tie.Need-work-out-requires
 work-out-requires c κs =
-    let h = c .before .before .before .before .before .before .before .pre in
-    (sound-tally _ _ _ (h .0) (h .1 .0) (h .1 .1), record { ch4-le = lit≤ tt; n2o-le = lit≤ tt })
+    let h = c .before .before .before .before .before .before .pre in
+    (sound-tally _ _ (h .0) (h .1 .0) (h .1 .1), record { ch4-le = lit≤ tt; n2o-le = lit≤ tt })
 
 returns-3 : tie.Need-returns-3
 unfolding reported replyAt figuresAt tallyOf stateOf
 returns-3 c =
-    let start = c .before .before .before .before .before .before .before .before in
+    let start = c .before .before .before .before .before .before .before in
     let ledgers = ap (λ (t : Tally). t .ledgers) (start .pre .1 .0) in
     let figures = c .work-out .ensures ∙ ap (λ (g : Ledgers). figuresOf g warming) ledgers in
     ap (λ (f : Figures). reply 0 (figureValues f)) figures

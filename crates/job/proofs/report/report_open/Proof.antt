@@ -9,6 +9,7 @@ use Rattle.job.specs.Tally.{tallyOf, stateOf}
 use Rattle.job.specs.Reply.{reported}
 use Rattle.job.specs.Report.{replyAt}
 use Rattle.job.proofs.CheckpointLaws.{fitFor-sound, tallyIn-sound, stateOf-tallyIn}
+use Rattle.job.proofs.WakeLaws.{records-le}
 use Rattle.job.proofs.ReportLaws.{reportReply-30, reportReply-31, reportReply-at}
 use Rattle.job.proofs.report.report_open.Statement.{statement}
 use Rattle.job.proofs.report.report_open.Tie as tie
@@ -44,7 +45,7 @@ report-at-requires c κs =
     let s = c .before in
     let canonical = c .read .ensures ∙ tallyIn-sound _ _ (is-sound-so s) ∙ ap tallyOf (sym (said c)) in
     let fits = subst (FitFor _) (sym (said c)) (fitFor-sound _ _ (is-sound-so s)) in
-    (entry s .pre, (canonical, fits))
+    (records-le _ _ (entry s .pre), (canonical, fits))
 
 returns-3 : tie.Need-returns-3
 returns-3 c =

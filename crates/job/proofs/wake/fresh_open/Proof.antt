@@ -9,7 +9,7 @@ use Rattle.job.specs.Reply.{started}
 use Rattle.job.specs.Wake.{freshReply, freshBytes}
 use Rattle.job.proofs.StateLaws.{fitFor-fresh}
 use Rattle.job.proofs.TallyLaws.{stateOf-tallyOf}
-use Rattle.job.proofs.WakeLaws.{freshJudged-32, freshJudged-go, sound-tally}
+use Rattle.job.proofs.WakeLaws.{freshJudged-32, freshJudged-go, records-le, sound-tally}
 use Rattle.job.proofs.wake.fresh_open.Statement.{statement}
 use Rattle.job.proofs.wake.fresh_open.Tie as tie
 
@@ -25,7 +25,7 @@ begin-requires c κs = search needs
 write-requires : tie.Need-write-requires
 write-requires c κs =
     let start = c .before .before .before .before .before in
-    let sound = sound-tally _ _ fresh (start .pre) (c .before .begin .ensures) (fitFor-fresh (start .args .h)) in
+    let sound = sound-tally _ fresh (records-le _ _ (start .pre)) (c .before .begin .ensures) (fitFor-fresh (start .args .h)) in
     (c .before .before .if1 .left, sound)
 
 same-length : tie.Need-same-length

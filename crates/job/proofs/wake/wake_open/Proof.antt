@@ -18,7 +18,7 @@ use Rattle.job.specs.Wake.{moves, wakeReply, wakeBytes}
 use Rattle.job.proofs.StateLaws.{fitFor-run}
 use Rattle.job.proofs.CheckpointLaws.{fitFor-sound, tallyIn-sound, stateOf-tallyIn}
 use Rattle.job.proofs.TallyLaws.{stateOf-tallyOf}
-use Rattle.job.proofs.WakeLaws.{wakeJudged-30, wakeJudged-31, wakeJudged-32, wakeJudged-go, sound-tally}
+use Rattle.job.proofs.WakeLaws.{wakeJudged-30, wakeJudged-31, wakeJudged-32, wakeJudged-go, records-le, sound-tally}
 use Rattle.job.proofs.wake.wake_open.Statement.{statement}
 use Rattle.job.proofs.wake.wake_open.Tie as tie
 
@@ -105,7 +105,7 @@ write-requires c κs =
     let s = r .before .before in
     let e = entry s .pre in
     let there = fitFor-run _ _ (stateOf (r .read .result)) (l .take-lesser .result) e (few l) (fits r) in
-    (r .before .if3 .left, sound-tally _ _ _ e (c .before .go-through .ensures) there)
+    (r .before .if3 .left, sound-tally _ _ (records-le _ _ e) (c .before .go-through .ensures) there)
 
 same-length : tie.Need-same-length
 same-length c = search needs
