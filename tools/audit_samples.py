@@ -13,7 +13,8 @@ target/
 # The layers.
 mass:
 job: mass
-show: job io libc
+files: io libc
+show: job files io libc
 === crates/mass/src/lib.rt
 pub mod ledger;
 === crates/mass/src/ledger.rt
@@ -128,6 +129,10 @@ use Rattle.job.specs.Wake.{woken}
 returns : tie.Need-returns
 unfolding woken take
 returns c = unfold woken in lemma-of c plus "?"
+=== crates/files/src/lib.rt
+pub fn read_all(fd: i32, buf: &mut [u8]) -> usize {
+    io::read_full(fd, buf)
+}
 === crates/show/src/main.rt
 pub fn helper() {}
 fn main() {}
@@ -177,6 +182,9 @@ logic=proved functions=3 sum=064d native=nat,char,string logic-built=trusted
 rt: mass proved (6 s)
 === target/log/job.out
 logic=proved functions=3 sum=064d
+=== target/log/files.out
+library libc: modules loaded=11 checked=0
+logic=proved functions=1 sum=064d
 === target/log/show.out
 library libc: modules loaded=11 checked=0
 logic=proved functions=1 axioms=2 sum=064d

@@ -1,9 +1,9 @@
 -- Whatever the history, a checkpoint holds what the first so many records give. Assumes nothing.
 use Prim.Native.Nat.{ℕ, _+_, _-_, _<_, _≤_, min}
 use mathlib.Core.Bool.{true}
-use mathlib.Core.List.{List, [], _∷_, List·Memᴰ, List·Memᴰ·cases-cons, List·Memᴰ·not-nil}
+use mathlib.Core.List.{List, [], _∷_, List·Memᴰ, List·Memᴰ·head, List·Memᴰ·cases-cons, List·Memᴰ·not-nil}
 use mathlib.Core.Logic.{⊎-elim, _↔_}
-use mathlib.Core.Path.{_≡_, sym, ap, _∙_, subst}
+use mathlib.Core.Path.{_≡_, refl, sym, ap, _∙_, subst}
 use native.Mathlib.Nat.{zero-min}
 use native.Mathlib.Omega.{arith}
 use lib.ListN.{length}
@@ -22,6 +22,19 @@ use Rattle.job.proofs.CheckpointLaws.{length-encode, decode-encode, sou
 use Rattle.job.proofs.ReplyLaws.{refused-0, one-first}
 use Rattle.job.proofs.WakeLaws.{records-le, freshJudged-32, freshJudged-go, wakeJudged-32, wakeJudged-go}
 use Rattle.job.proofs.ReportLaws.{reportReply-at}
+
+-- A history that has left c.
+pub record Past (k c : List ℕ) : Type 0 where
+  pub left : List (List ℕ)
+  pub history : History k left
+  pub among : List·Memᴰ c left
+
+-- Wakes that each used the latest checkpoint are a history.
+pub past-inTurn : (k : List ℕ) (t : ℕ) (c : List ℕ) → InTurn k t c → Past k c
+past-inTurn k t c (InTurn.begun s) = record { left = c ∷ []; history = History.begun s; among = List·Memᴰ·head refl }
+past-inTurn k t c (InTurn.woken {t = t₀} {c = from} w₀ w) =
+    let p = past-inTurn k t₀ from w₀ in
+    record { left = c ∷ p .left; history = History.woken (p .history) (p .among) w; among = List·Memᴰ·head refl }
 
 module _ (k : List ℕ) (h : Head) (e : opened k ≡ accepted h) where
   -- ---- the checkpoint of the first p records
@@ -75,6 +88,21 @@ module _ (k : List ℕ) (h : Head) (e : opened k ≡ accepted h) where
       ∙ ap (λ (m : ℕ). encode h (run h k (first h k p) m)) (moves-first p b l)
       ∙ ap (encode h) (run-first h k p (min (p + b) (h .n) - p))
       ∙ ap left-by end
+
+  -- A fresh start and one wake with a budget for the whole book, whatever the buffers held.
+  pub reportReply-whole : (b : ℕ) (out next : List ℕ) → h .n ≤ b → length out ≡ checkpointSize
+      → length next ≡ checkpointSize
+      → reportReply k (wakeBytes k (freshBytes k out) b next) ≡ replyAt h (first h k (h .n))
+  unfolding freshBytes first
+  reportReply-whole b out next l o p =
+      let all : min (0 + b) (h .n) ≡ h .n = omega arith in
+      let saved =
+      ap (λ (c : List ℕ). wakeBytes k c b next) (freshJudged-go k out _ _ e o)
+      ∙ wakeBytes-first 0 b next (omega arith) p
+      ∙ ap left-by all in
+      ap (reportReply k) saved
+      ∙ reportReply-at k (left-by (h .n)) e (length-encode h (first h k (h .n))) (sound-first (h .n) (omega arith))
+      ∙ ap (replyAt h) (decode-first (h .n) (omega arith))
 
   woke : (p b m : ℕ) (d : List ℕ) → p ≤ h .n → Wakes k (left-by p) b m d
       → (m ≡ min (p + b) (h .n) - p) × (d ≡ left-by (min (p + b) (h .n)))
@@ -156,10 +184,11 @@ module _ (k : List ℕ) (h : Head) (e : opened k ≡ accepted h) where
       woke (min t₀ (h .n)) b m c (omega arith) (subst (λ (x : List ℕ). Wakes k x b m c) (latest t₀ from past) w) .1
       ∙ ap left-by end
 
+  pub doneIn-inTurn : (t : ℕ) (c : List ℕ) → InTurn k t c → doneIn c ≡ min t (h .n)
+  doneIn-inTurn t c i = ap doneIn (latest t c i) ∙ place-first (min t (h .n)) (omega arith)
+
   pub done-inTurn : (t : ℕ) (c : List ℕ) → InTurn k t c → (doneIn c ≡ h .n) ↔ (h .n ≤ t)
-  done-inTurn t c i =
-      let at : doneIn c ≡ min t (h .n) = ap doneIn (latest t c i) ∙ place-first (min t (h .n)) (omega arith) in
-      (λ q. omega arith, λ q. omega arith)
+  done-inTurn t c i = let at = doneIn-inTurn t c i in (λ q. omega arith, λ q. omega arith)
 
   -- ---- reports
   pub told-history : (cs : List (List ℕ)) (c : List ℕ) → History k cs → List·Memᴰ c cs

@@ -2,6 +2,7 @@
 pub mod PutLaws
 pub mod StateLaws
 pub mod TallyLaws
+pub mod PileLaws
 pub mod CheckpointLaws
 pub mod ReplyLaws
 pub mod WakeLaws

@@ -12,6 +12,14 @@ use Rattle.rules.proofs.BytesLaws.{word-zero, word-suc, word-cons}
 use Rattle.job.specs.Checkpoint.{bytesOf}
 
 -- ---- the bytes of a number
+pub bytesOf-zero : (v : ℕ) → bytesOf 0 v ≡ []
+unfolding bytesOf
+bytesOf-zero v = refl
+
+pub bytesOf-suc : (n v : ℕ) → bytesOf (suc n) v ≡ v % 256 ∷ bytesOf n (v / 256)
+unfolding bytesOf
+bytesOf-suc n v = refl
+
 pub length-bytesOf : (n v : ℕ) → length (bytesOf n v) ≡ n
 unfolding bytesOf
 length-bytesOf zero v = refl

@@ -1,10 +1,12 @@
--- Each reply is of one answer only, and none both refuses and accepts. Assumes nothing.
+-- The reply of each answer; each is of one answer only, and none both refuses and accepts.
+-- Assumes nothing.
 use Prim.Native.Nat.{ℕ, _<_}
 use mathlib.Core.Bool.{Bool, true, false}
 use mathlib.Core.List.{List, [], _∷_}
 use mathlib.Core.Path.{_≡_, refl, sym, ap, _∙_}
 use native.Mathlib.Omega.{arith}
 use lib.Dec.{eqb}
+use Rattle.mass.specs.declared.figures.Figures.{Figures}
 use Rattle.rules.specs.declared.book.Fault.the-variants.{Length, Trailer, Units, Fuels}
 use Rattle.rules.specs.Tests.{choose}
 use Rattle.rules.proofs.TestsLaws.{choose-t, choose-f}
@@ -17,6 +19,45 @@ use Rattle.job.specs.declared.reply.Woken.the-variants.{NotWoken, Moved}
 use Rattle.job.specs.declared.reply.Reported.{Reported}
 use Rattle.job.specs.declared.reply.Reported.the-variants.{NotReported, Unfinished, RecordAside, Given}
 use Rattle.job.specs.Reply.{Reply, reply, refusalNumber, figureValues, started, woken, reported}
+
+-- ---- the reply of each answer
+pub started-notStarted : (x : Refusal) → started (NotStarted x) ≡ reply (refusalNumber x) []
+unfolding started
+started-notStarted x = refl
+
+pub started-fresh : started Fresh ≡ reply 0 []
+unfolding started
+started-fresh = refl
+
+pub woken-notWoken : (x : Refusal) → woken (NotWoken x) ≡ reply (refusalNumber x) []
+unfolding woken
+woken-notWoken x = refl
+
+pub woken-moved : (m : ℕ) → woken (Moved m) ≡ reply 0 (m ∷ [])
+unfolding woken
+woken-moved m = refl
+
+pub reported-notReported : (x : Refusal) → reported (NotReported x) ≡ reply (refusalNumber x) []
+unfolding reported
+reported-notReported x = refl
+
+pub reported-unfinished : (d : ℕ) → reported (Unfinished d) ≡ reply 40 (d ∷ [])
+unfolding reported
+reported-unfinished d = refl
+
+pub reported-recordAside : (i k : ℕ) → reported (RecordAside i k) ≡ reply 41 (i ∷ k ∷ [])
+unfolding reported
+reported-recordAside i k = refl
+
+pub reported-given : (f : Figures) → reported (Given f) ≡ reply 0 (figureValues f)
+unfolding reported
+reported-given f = refl
+
+pub figureValues-six : (f : Figures) {m : ℕ} → choose (f .reportable) 1 0 ≡ m
+    → figureValues f
+    ≡ (f .fossil .0 ∷ f .biomass .0 ∷ f .ch4 .0 ∷ f .n2o .0 ∷ f .co2e .0 ∷ m ∷ [])
+unfolding figureValues
+figureValues-six f e = ap (λ (m : ℕ). f .fossil .0 ∷ f .biomass .0 ∷ f .ch4 .0 ∷ f .n2o .0 ∷ f .co2e .0 ∷ m ∷ []) e
 
 -- ---- the parts of a reply
 number : Reply → ℕ

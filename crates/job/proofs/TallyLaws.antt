@@ -4,17 +4,14 @@ use Prim.Native.Nat.{ℕ, _+_, _*_, _/_, _<_, _≤_}
 use mathlib.Core.List.{List}
 use mathlib.Core.Path.{_≡_, sym, ap, _∙_}
 use native.Mathlib.Nat.{add-zero}
-use native.Mathlib.Numerals.{add-one}
 use native.Mathlib.Omega.{arith}
 use Rattle.mass.specs.declared.ledger.Ledger.{Ledger}
 use Rattle.mass.specs.Ledger.{tonne, total, Sound, ledgerOf, added}
 use Rattle.mass.specs.Figures.{AllSound}
 use Rattle.mass.proofs.LedgerLaws.{total-ledgerOf, ledgerOf-total, sound-ledgerOf, added-ledgerOf}
 use Rattle.rules.specs.declared.book.Head.{Head}
-use Rattle.rules.specs.declared.record.Outcome.{Outcome}
 use Rattle.rules.specs.declared.record.Outcome.the-variants.{SetAside}
 use Rattle.rules.specs.Book.{opened, accepted}
-use Rattle.rules.specs.Record.{outcomeAt}
 use Rattle.rules.proofs.BookLaws.{accepted-facts}
 use Rattle.job.specs.declared.tally.Tally.{Tally}
 use Rattle.job.specs.State.{State, after, run, FitFor}
@@ -66,17 +63,6 @@ ledgersOf-after-aside t r h = λ i. record {
 }
 
 -- ---- the next n records of an accepted book, of which i are done
-pub tallyOf-run-suc : {t r : Tally} {o : Outcome} (h : Head) (k : List ℕ) (s : State) (i : ℕ)
-    → t ≡ tallyOf (run h k s i) → o ≡ outcomeAt h k (t .done) → r ≡ tallyOf (after (stateOf t) o)
-    → r ≡ tallyOf (run h k s (i + 1))
-unfolding run stateOf
-tallyOf-run-suc {t} h k s i e p q =
-    let now : stateOf t ≡ run h k s i = ap stateOf e ∙ stateOf-tallyOf (run h k s i) in
-    rw add-one
-    (q
-    ∙ ap (λ (o : Outcome). tallyOf (after (stateOf t) o)) p
-    ∙ ap (λ (x : State). tallyOf (after x (outcomeAt h k (x .done)))) now)
-
 -- A book has a record more, and a tally room for it.
 pub record Ready (h : Head) (t : Tally) : Type 0 where
   pub sound : AllSound (t .ledgers)

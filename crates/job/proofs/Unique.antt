@@ -3,9 +3,14 @@
 use mathlib.Core.Path.{_≡_, sym, _∙_}
 use denote.Ref.{now}
 use Rattle.job.proofs.ReplyLaws.{started-inj, woken-inj, reported-inj}
+use Rattle.job.proofs.reply.number_refusal.Reads as number-refusal
 use Rattle.job.proofs.wake.fresh.Reads as fresh
 use Rattle.job.proofs.wake.wake.Reads as wake
 use Rattle.job.proofs.report.report.Reads as report
+
+pub number-refusal-unique : (κs : _) (a : _) (r s : _) (x y : _)
+    → number-refusal.Post κs a r x → number-refusal.Post κs a s y → r ≡ s
+number-refusal-unique κs a r s x y p q = p ∙ sym q
 
 pub fresh-unique : (κs : _) (a : _) (r s : _) (x y : _) → fresh.Post κs a r x → fresh.Post κs a s y → r ≡ s
 fresh-unique κs a r s x y p q = started-inj r s (p .0 ∙ sym (q .0))

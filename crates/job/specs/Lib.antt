@@ -2,6 +2,7 @@
 pub mod State
 pub mod Checkpoint
 pub mod Tally
+pub mod Pile
 pub mod Reply
 pub mod Wake
 pub mod Report

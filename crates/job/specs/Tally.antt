@@ -5,17 +5,17 @@
 --     tallyOf s      a state, as the code holds it
 --     tallyIn c      what stands in the fields of a checkpoint, sound or not
 --     stateOf t      the state that t stands for
---     ledgersAfter g e   the ledgers g with the entry e added
+--     ledgersAfter g m   the ledgers g with the masses m added
 --
 -- Laws: proofs/TallyLaws.antt. Definitions only.
-use Prim.Native.Nat.{ℕ, _+_}
+use Prim.Native.Nat.{ℕ, _+_, _*_}
 use mathlib.Core.List.{List}
 use Rattle.mass.specs.declared.ledger.Ledger.{Ledger}
 use Rattle.mass.specs.declared.ledger.Ledgers.{Ledgers}
 use Rattle.mass.specs.Ledger.{total, ledgerOf}
-use Rattle.rules.specs.declared.entry.Entry.{Entry}
+use Rattle.job.specs.declared.tally.Masses.{Masses}
 use Rattle.job.specs.declared.tally.Tally.{Tally}
-use Rattle.job.specs.State.{State, toFossil, toBiomass}
+use Rattle.job.specs.State.{State}
 use Rattle.job.specs.Checkpoint.{doneIn, asideIn, indexIn, reasonIn, fossilAt, biomassAt, ch4At, n2oAt, tonnesIn, restIn}
 
 unfoldable pub ledgersOf : State → Ledgers
@@ -64,10 +64,10 @@ stateOf t = record {
   n2o = total (t .ledgers .n2o);
 }
 
-unfoldable pub ledgersAfter : Ledgers → Entry → Ledgers
-ledgersAfter g e = record {
-  fossil = ledgerOf (total (g .fossil) + toFossil (e .destination) (e .co2));
-  biomass = ledgerOf (total (g .biomass) + toBiomass (e .destination) (e .co2));
-  ch4 = ledgerOf (total (g .ch4) + e .ch4 .0);
-  n2o = ledgerOf (total (g .n2o) + e .n2o .0);
+unfoldable pub ledgersAfter : Ledgers → Masses → Ledgers
+ledgersAfter g m = record {
+  fossil = ledgerOf (total (g .fossil) + 1000 * m .fossil .0);
+  biomass = ledgerOf (total (g .biomass) + 1000 * m .biomass .0);
+  ch4 = ledgerOf (total (g .ch4) + m .ch4 .0);
+  n2o = ledgerOf (total (g .n2o) + m .n2o .0);
 }

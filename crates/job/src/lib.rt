@@ -1,6 +1,7 @@
 // The job: a fresh start, wakes that go on from a checkpoint, and the report. Bad input is answered
 // with a number; nothing here asks anything of its caller.
 mod checkpoint;
+mod hints;
 mod put;
 pub mod reply;
 pub mod report;

@@ -1,6 +1,9 @@
 // What the three calls answer. specs/Reply.antt gives the number and the values of each case.
 use mass::figures::Figures;
+use rules::book;
 use rules::book::Fault;
+ghost use mathlib.Core.Path.{_≡_};
+ghost use Rattle.job.specs.Reply.{refusalNumber};
 
 // Why a call was turned away. Nothing was written.
 pub enum Refusal {
@@ -12,6 +15,18 @@ pub enum Refusal {
     CheckpointUnsound,
     // 32: the output buffer isn't 96 bytes long.
     BufferLength,
+}
+
+// The number of a refusal.
+pub fn number_refusal(x: Refusal) -> u8
+    ensures number { λ r. ⌜ r ≡ refusalNumber x ⌝ }
+{
+    match x {
+        Refusal::Book(fault) => book::number_fault(fault),
+        Refusal::CheckpointLength => 30,
+        Refusal::CheckpointUnsound => 31,
+        Refusal::BufferLength => 32,
+    }
 }
 
 pub enum Started {

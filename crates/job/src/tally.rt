@@ -1,4 +1,6 @@
 // A job's state as the code holds it, and how records are added to it.
+use crate::hints;
+use mass::Ng;
 use mass::Ug;
 use mass::ledger;
 use mass::ledger::Ledgers;
@@ -7,12 +9,14 @@ use rules::entry::Destination;
 use rules::entry::Entry;
 use rules::record;
 use rules::record::Outcome;
+ghost use mathlib.Core.Bool.{true};
 ghost use mathlib.Core.Path.{_≡_};
 ghost use Prim.Native.Nat.{_+_, _*_, _<_, _≤_};
 ghost use Rattle.mass.specs.Figures.{AllSound};
 ghost use Rattle.rules.specs.Book.{opened, accepted};
 ghost use Rattle.job.specs.State.{toFossil, toBiomass, after, run, FitFor};
-ghost use Rattle.job.specs.Tally.{tallyOf, stateOf, ledgersAfter};
+ghost use Rattle.job.specs.Tally.{ledgersOf, tallyOf, stateOf, ledgersAfter};
+ghost use Rattle.job.specs.Pile.{stateWith, stateIn, stepped, Fit, Share};
 
 pub struct Tally {
     pub done: u32,
@@ -23,6 +27,23 @@ pub struct Tally {
     pub ledgers: Ledgers,
 }
 
+// What records give to each ledger, before it is carried.
+pub struct Masses {
+    pub fossil: Ug,
+    pub biomass: Ug,
+    pub ch4: Ng,
+    pub n2o: Ng,
+}
+
+// A tally and what its ledgers are still to get. A carry into a ledger takes two divisions, and the
+// masses of many records fit 64 bits: so they are summed, and carried when the next doesn't fit.
+pub struct Pile {
+    pub tally: Tally,
+    pub more: Masses,
+}
+
+const MOST: u64 = 0xffff_ffff_ffff_ffff;
+
 // The tally after the next n records.
 pub(crate) fn go_through(book: &[u8], h: Head, t: Tally, n: u32) -> Tally
     requires opened { ⌜ opened (now book) ≡ accepted h ⌝ }
@@ -31,26 +52,93 @@ pub(crate) fn go_through(book: &[u8], h: Head, t: Tally, n: u32) -> Tally
     requires left { ⌜ t .done + n ≤ h .n ⌝ }
     ensures run { λ r. ⌜ r ≡ tallyOf (run h (now (book .entry)) (stateOf t) n) ⌝ }
 {
-    let mut now_at = t;
+    // Hints are worth their table only for a record.
+    if n == 0 {
+        return t;
+    }
+    let end = h.length - 32;
+    let units = hints::note(book, h.units, h.fuels);
+    let fuels = hints::note(book, h.fuels, end);
+    let mut p = begin(t);
     let mut i: u32 = 0;
     while i < n {
-        let place = now_at.done as usize;
-        let outcome = record::judge(book, h, place);
-        now_at = add(now_at, outcome);
+        let place = p.tally.done as usize;
+        let outcome = record::judge_by_hints(book, h, place, &units, &fuels);
+        p = add(p, outcome);
         i += 1;
     }
-    now_at
+    settle(p)
 }
 
-// The tally after one record more.
-fn add(t: Tally, o: Outcome) -> Tally
-    requires sound { ⌜ AllSound (t .ledgers) ⌝ }
-    requires room { ⌜ (t .done < 4294967295) × (t .aside < 4294967295) ⌝ }
-    ensures after { λ r. ⌜ r ≡ tallyOf (after (stateOf t) o) ⌝ }
+fn begin(t: Tally) -> Pile
+    ensures nothing { λ r. ⌜ (r .tally ≡ t) × (stateIn r ≡ stateOf t) ⌝ }
+{
+    Pile {
+        tally: t,
+        more: Masses {
+            fossil: Ug(0),
+            biomass: Ug(0),
+            ch4: Ng(0),
+            n2o: Ng(0),
+        },
+    }
+}
+
+// The tally with all that its ledgers are to get.
+fn settle(p: Pile) -> Tally
+    requires sound { ⌜ AllSound (p .tally .ledgers) ⌝ }
+    ensures settled { λ r. ⌜ r ≡ tallyOf (stateIn p) ⌝ }
+{
+    let t = p.tally;
+    let g = t.ledgers;
+    let more = p.more;
+    Tally {
+        done: t.done,
+        aside: t.aside,
+        index: t.index,
+        reason: t.reason,
+        ledgers: give(g, more),
+    }
+}
+
+fn give(g: Ledgers, m: Masses) -> Ledgers
+    requires sound { ⌜ AllSound g ⌝ }
+    ensures given { λ r. ⌜ r ≡ ledgersAfter g m ⌝ }
+{
+    let fossil = g.fossil;
+    let biomass = g.biomass;
+    let ch4 = g.ch4;
+    let n2o = g.n2o;
+    Ledgers {
+        fossil: ledger::add_ug(fossil, m.fossil),
+        biomass: ledger::add_ug(biomass, m.biomass),
+        ch4: ledger::add_ng(ch4, m.ch4),
+        n2o: ledger::add_ng(n2o, m.n2o),
+    }
+}
+
+// The pile after one record more.
+fn add(p: Pile, o: Outcome) -> Pile
+    requires sound { ⌜ AllSound (p .tally .ledgers) × AllSound (ledgersOf (stateIn p)) ⌝ }
+    requires room { ⌜ (p .tally .done < 4294967295) × (p .tally .aside < 4294967295) ⌝ }
+    ensures after { λ r. ⌜ (stateIn r ≡ after (stateIn p) o) × AllSound (r .tally .ledgers) ⌝ }
 {
     match o {
-        Outcome::SetAside(reason) => set_aside(t, reason),
-        Outcome::Counted(e) => count(t, e),
+        Outcome::SetAside(reason) => pass(p, reason),
+        Outcome::Counted(e) => count(p, share(e)),
+    }
+}
+
+fn pass(p: Pile, reason: u8) -> Pile
+    requires sound { ⌜ AllSound (p .tally .ledgers) ⌝ }
+    requires room { ⌜ (p .tally .done < 4294967295) × (p .tally .aside < 4294967295) ⌝ }
+    ensures after { λ r. ⌜ (stateIn r ≡ after (stateIn p) (Outcome.SetAside reason)) × AllSound (r .tally .ledgers) ⌝ }
+{
+    let t = p.tally;
+    let more = p.more;
+    Pile {
+        tally: set_aside(t, reason),
+        more,
     }
 }
 
@@ -79,10 +167,62 @@ fn set_aside(t: Tally, reason: u8) -> Tally
     }
 }
 
-fn count(t: Tally, e: Entry) -> Tally
-    requires sound { ⌜ AllSound (t .ledgers) ⌝ }
+// The pile after a record that gives x.
+fn count(p: Pile, x: Masses) -> Pile
+    requires sound { ⌜ AllSound (p .tally .ledgers) × AllSound (ledgersOf (stateIn p)) ⌝ }
+    requires room { ⌜ p .tally .done < 4294967295 ⌝ }
+    ensures after { λ r. ⌜ (stateIn r ≡ stateWith (stepped (stateIn p)) x) × AllSound (r .tally .ledgers) ⌝ }
+{
+    if do_fit(p.more, x) {
+        return heap(p, x);
+    }
+    let t = settle(p);
+    Pile {
+        tally: step(t),
+        more: x,
+    }
+}
+
+fn heap(p: Pile, x: Masses) -> Pile
+    requires fit { ⌜ Fit (p .more) x ⌝ }
+    requires room { ⌜ p .tally .done < 4294967295 ⌝ }
+    ensures after { λ r. ⌜ (stateIn r ≡ stateWith (stepped (stateIn p)) x) × (r .tally .ledgers ≡ p .tally .ledgers) ⌝ }
+{
+    let t = p.tally;
+    let m = p.more;
+    Pile {
+        tally: step(t),
+        more: Masses {
+            fossil: Ug(m.fossil.0 + x.fossil.0),
+            biomass: Ug(m.biomass.0 + x.biomass.0),
+            ch4: Ng(m.ch4.0 + x.ch4.0),
+            n2o: Ng(m.n2o.0 + x.n2o.0),
+        },
+    }
+}
+
+// Whether each sum fits 64 bits.
+fn do_fit(a: Masses, b: Masses) -> bool
+    ensures fit { λ r. ⌜ (r ≡ true → Fit a b) ⌝ }
+{
+    if MOST - a.fossil.0 < b.fossil.0 {
+        return false;
+    }
+    if MOST - a.biomass.0 < b.biomass.0 {
+        return false;
+    }
+    if MOST - a.ch4.0 < b.ch4.0 {
+        return false;
+    }
+    if MOST - a.n2o.0 < b.n2o.0 {
+        return false;
+    }
+    true
+}
+
+fn step(t: Tally) -> Tally
     requires room { ⌜ t .done < 4294967295 ⌝ }
-    ensures after { λ r. ⌜ r ≡ tallyOf (after (stateOf t) (Outcome.Counted e)) ⌝ }
+    ensures stepped { λ r. ⌜ (stateOf r ≡ stepped (stateOf t)) × (r .ledgers ≡ t .ledgers) ⌝ }
 {
     let ledgers = t.ledgers;
     Tally {
@@ -90,28 +230,23 @@ fn count(t: Tally, e: Entry) -> Tally
         aside: t.aside,
         index: t.index,
         reason: t.reason,
-        ledgers: give(ledgers, e),
+        ledgers,
     }
 }
 
-// The ledgers with an entry added: a mass that goes elsewhere adds nothing.
-fn give(g: Ledgers, e: Entry) -> Ledgers
-    requires sound { ⌜ AllSound g ⌝ }
-    ensures given { λ r. ⌜ r ≡ ledgersAfter g e ⌝ }
+// What an entry gives: a mass that goes elsewhere gives nothing.
+fn share(e: Entry) -> Masses
+    ensures share { λ r. ⌜ Share r e ⌝ }
 {
-    let fossil = g.fossil;
-    let biomass = g.biomass;
-    let ch4 = g.ch4;
-    let n2o = g.n2o;
     let destination = e.destination;
     let co2 = e.co2;
-    let ch4_more = e.ch4;
-    let n2o_more = e.n2o;
-    Ledgers {
-        fossil: ledger::add_ug(fossil, keep_fossil(destination, co2)),
-        biomass: ledger::add_ug(biomass, keep_biomass(destination, co2)),
-        ch4: ledger::add_ng(ch4, ch4_more),
-        n2o: ledger::add_ng(n2o, n2o_more),
+    let ch4 = e.ch4;
+    let n2o = e.n2o;
+    Masses {
+        fossil: keep_fossil(destination, co2),
+        biomass: keep_biomass(destination, co2),
+        ch4,
+        n2o,
     }
 }
 

@@ -104,6 +104,23 @@ word-add l k (suc m) n =
     one-more : (m : ℕ) → 1 + m ≡ suc m
     one-more m = omega arith
 
+pub word-four : (l : List ℕ) (k low high : ℕ) → low ≡ word l k 2 → high ≡ word l (k + 2) 2 → low < 256 ^ 2 →
+    high < 256 ^ 2 → (low + 65536 * high ≡ word l k 4) × (low + 65536 * high < 256 ^ 4)
+word-four l k low high p q h j =
+    let sum : word l k 4 ≡ word l k 2 + 65536 * word l (k + 2) 2 = word-add l k 2 2 in
+    (omega (arith, sum), omega arith)
+
+pub word-eight : (l : List ℕ) (k low high : ℕ) → low ≡ word l k 4 → high ≡ word l (k + 4) 4 → low < 256 ^ 4 →
+    high < 256 ^ 4 → (low + 4294967296 * high ≡ word l k 8) × (low + 4294967296 * high < 256 ^ 8)
+word-eight l k low high p q h j =
+    let sum : word l k 8 ≡ word l k 4 + 4294967296 * word l (k + 4) 4 = word-add l k 4 4 in
+    (omega (arith, sum), omega arith)
+
+-- What is known of a word of m bytes is known of one of n, if n is m.
+pub word-width : (l : List ℕ) (k m n v : ℕ) → n ≡ m → (v ≡ word l k m) × (v < 256 ^ m) →
+    (v ≡ word l k n) × (v < 256 ^ n)
+word-width l k m n v e h = subst (λ (w : ℕ). (v ≡ word l k w) × (v < 256 ^ w)) (sym e) h
+
 pow-above : (m : ℕ) → 0 < 256 ^ m
 pow-above m = pow-le-pow-right {n = 256} (lit< tt) {i = 0} {j = m} zero-le
 

@@ -1,12 +1,29 @@
--- A sight is of one answer only. Assumes nothing.
+-- The sight of each answer, and that it is of one answer only. Assumes nothing.
 use mathlib.Core.Path.{_≡_, refl, sym, ap, _∙_}
 use lib.Dec.{eqb}
+use Rattle.rules.specs.declared.book.Fault.{Fault}
 use Rattle.rules.specs.declared.book.Fault.the-variants.{Length, Trailer, Units, Fuels}
 use Rattle.rules.specs.declared.reader.Seen.{Seen}
 use Rattle.rules.specs.declared.reader.Seen.the-variants.{Refused, Missing, Record}
+use Rattle.rules.specs.declared.record.Outcome.{Outcome}
 use Rattle.rules.specs.Tests.{choose}
+use Rattle.rules.specs.Book.{faultNumber}
 use Rattle.rules.specs.Reader.{Sight, turnedAway, missing, shown, sight}
 
+-- ---- the sight of each answer
+pub sight-refused : (x : Fault) → sight (Refused x) ≡ turnedAway (faultNumber x)
+unfolding sight
+sight-refused x = refl
+
+pub sight-missing : sight Missing ≡ missing
+unfolding sight
+sight-missing = refl
+
+pub sight-record : (o : Outcome) → sight (Record o) ≡ shown o
+unfolding sight
+sight-record o = refl
+
+-- ---- one answer only
 -- What `look` gave, from the sight that it stands for.
 gave : Sight → Seen
 gave (turnedAway n) =

@@ -9,7 +9,9 @@ use Rattle.rules.proofs.BookLaws.{answer-inj}
 use Rattle.rules.proofs.ReaderLaws.{sight-inj}
 use Rattle.rules.proofs.bytes.read_word.Reads as read-word
 use Rattle.rules.proofs.book.open.Reads as book-open
+use Rattle.rules.proofs.book.number_fault.Reads as number-fault
 use Rattle.rules.proofs.record.judge.Reads as judge
+use Rattle.rules.proofs.record.judge_by_hints.Reads as judge-by-hints
 use Rattle.rules.proofs.reader.look.Reads as look
 use Rattle.rules.proofs.reader.look_first.Reads as look-first
 use Rattle.rules.proofs.reader.look_next as look-next
@@ -22,8 +24,16 @@ read-word-unique κs a r s x y p q = p .0 ∙ sym (q .0)
 pub open-unique : (κs : _) (a : _) (r s : _) (x y : _) → book-open.Post κs a r x → book-open.Post κs a s y → r ≡ s
 open-unique κs a r s x y p q = answer-inj r s (p ∙ sym q)
 
+pub number-fault-unique : (κs : _) (a : _) (r s : _) (x y : _)
+    → number-fault.Post κs a r x → number-fault.Post κs a s y → r ≡ s
+number-fault-unique κs a r s x y p q = p ∙ sym q
+
 pub judge-unique : (κs : _) (a : _) (r s : _) (x y : _) → judge.Post κs a r x → judge.Post κs a s y → r ≡ s
 judge-unique κs a r s x y p q = p ∙ sym q
+
+pub judge-by-hints-unique : (κs : _) (a : _) (r s : _) (x y : _)
+    → judge-by-hints.Post κs a r x → judge-by-hints.Post κs a s y → r ≡ s
+judge-by-hints-unique κs a r s x y p q = p ∙ sym q
 
 pub look-unique : (κs : _) (a : _) (r s : _) (x y : _) → look.Post κs a r x → look.Post κs a s y → r ≡ s
 look-unique κs a r s x y p q = sight-inj r s (p ∙ sym q)

@@ -5,7 +5,7 @@ use crate::listing::Sort;
 ghost use mathlib.Core.Path.{_≡_};
 ghost use Prim.Native.Nat.{_≤_};
 ghost use lib.ListN.{length};
-ghost use Rattle.rules.specs.Book.{lengthOk, startsOk, trailerOk, opened, answer};
+ghost use Rattle.rules.specs.Book.{lengthOk, startsOk, trailerOk, opened, faultNumber, answer};
 
 // What is known of a book that was opened.
 pub struct Head {
@@ -35,6 +35,18 @@ pub enum Fault {
     Units,
     // 23: a fuel line breaks a rule, or there are over 64.
     Fuels,
+}
+
+// The number of a fault.
+pub fn number_fault(x: Fault) -> u8
+    ensures number { λ r. ⌜ r ≡ faultNumber x ⌝ }
+{
+    match x {
+        Fault::Length => 20,
+        Fault::Trailer => 21,
+        Fault::Units => 22,
+        Fault::Fuels => 23,
+    }
 }
 
 const LONGEST_BOOK: usize = 65536;

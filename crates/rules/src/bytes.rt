@@ -1,15 +1,33 @@
 // Little-endian numbers and 32-byte lines in a slice of bytes.
 ghost use mathlib.Core.Path.{_≡_};
-ghost use Prim.Native.Nat.{_+_, _-_, _/_, _%_, _^_, _<_, _≤_};
+ghost use Prim.Native.Nat.{_+_, _/_, _^_, _<_, _≤_};
 ghost use lib.ListN.{length};
 ghost use Rattle.rules.specs.Bytes as spec;
 
-// The number of the n bytes from `at` on.
+// The number of the n bytes from `at` on. The widths of a field are written out, since the compiler
+// makes one load of such a sum before it looks at a caller; of a loop's bytes it makes tests of each.
 pub fn read_word(s: &[u8], at: usize, n: usize) -> u64
     requires within { ⌜ at + n ≤ length (now s) ⌝ }
     requires few { ⌜ n ≤ 8 ⌝ }
     ensures value { λ r. ⌜ r ≡ spec.word (now (s .entry)) at n ⌝ }
     ensures below { λ r. ⌜ r < 256 ^ n ⌝ }
+{
+    if n == 4 {
+        return read_four(s, at);
+    }
+    if n == 2 {
+        return read_two(s, at);
+    }
+    if n == 8 {
+        return read_eight(s, at);
+    }
+    read_bytes(s, at, n)
+}
+
+fn read_bytes(s: &[u8], at: usize, n: usize) -> u64
+    requires within { ⌜ at + n ≤ length (now s) ⌝ }
+    requires few { ⌜ n ≤ 8 ⌝ }
+    ensures value { λ r. ⌜ (r ≡ spec.word (now (s .entry)) at n) × (r < 256 ^ n) ⌝ }
 {
     let mut v: u64 = 0;
     let mut i = n;
@@ -18,6 +36,33 @@ pub fn read_word(s: &[u8], at: usize, n: usize) -> u64
         v = v * 256 + widen(s[at + i]);
     }
     v
+}
+
+fn read_eight(s: &[u8], at: usize) -> u64
+    requires within { ⌜ at + 8 ≤ length (now s) ⌝ }
+    ensures value { λ r. ⌜ (r ≡ spec.word (now (s .entry)) at 8) × (r < 256 ^ 8) ⌝ }
+{
+    let low = read_four(s, at);
+    let high = read_four(s, at + 4);
+    low + 4294967296 * high
+}
+
+fn read_four(s: &[u8], at: usize) -> u64
+    requires within { ⌜ at + 4 ≤ length (now s) ⌝ }
+    ensures value { λ r. ⌜ (r ≡ spec.word (now (s .entry)) at 4) × (r < 256 ^ 4) ⌝ }
+{
+    let low = read_two(s, at);
+    let high = read_two(s, at + 2);
+    low + 65536 * high
+}
+
+fn read_two(s: &[u8], at: usize) -> u64
+    requires within { ⌜ at + 2 ≤ length (now s) ⌝ }
+    ensures value { λ r. ⌜ (r ≡ spec.word (now (s .entry)) at 2) × (r < 256 ^ 2) ⌝ }
+{
+    let low = widen(s[at]);
+    let high = widen(s[at + 1]);
+    low + 256 * high
 }
 
 fn widen(x: u8) -> u64
@@ -36,18 +81,22 @@ pub(crate) fn take_line(s: &[u8], k: usize) -> &[u8]
     &s[a..e]
 }
 
-// Whether the bytes of a line from `from` on are 0. Four are read at a time.
-pub(crate) fn is_blank(l: &[u8], from: usize) -> bool
+// Whether the bytes of a line from 16 on are 0. Eight are read at a time.
+pub(crate) fn is_blank_from_16(l: &[u8]) -> bool
     requires whole { ⌜ 32 ≤ length (now l) ⌝ }
-    requires fours { ⌜ (from ≤ 32) × (from % 4 ≡ 0) ⌝ }
-    ensures zeros { λ r. ⌜ r ≡ spec.zeros (now (l .entry)) from (32 - from) ⌝ }
+    ensures zeros { λ r. ⌜ r ≡ spec.zeros (now (l .entry)) 16 16 ⌝ }
 {
-    let mut b = from;
-    while b < 32 {
-        if read_word(l, b, 4) != 0 {
-            return false;
-        }
-        b += 4;
-    }
-    true
+    let low = read_word(l, 16, 8);
+    let high = read_word(l, 24, 8);
+    (low == 0) & (high == 0)
+}
+
+// The same from 20 on.
+pub(crate) fn is_blank_from_20(l: &[u8]) -> bool
+    requires whole { ⌜ 32 ≤ length (now l) ⌝ }
+    ensures zeros { λ r. ⌜ r ≡ spec.zeros (now (l .entry)) 20 12 ⌝ }
+{
+    let low = read_word(l, 20, 4);
+    let high = read_word(l, 24, 8);
+    (low == 0) & (high == 0)
 }

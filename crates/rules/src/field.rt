@@ -55,7 +55,7 @@ pub(crate) fn is_trailer_blank(l: &[u8]) -> bool
     requires whole { ⌜ 32 ≤ length (now l) ⌝ }
     ensures field { λ r. ⌜ r ≡ fields.trailerBlank (now (l .entry)) ⌝ }
 {
-    (bytes::read_word(l, 18, 2) == 0) & bytes::is_blank(l, 20)
+    (bytes::read_word(l, 18, 2) == 0) & bytes::is_blank_from_20(l)
 }
 
 // ---- a unit line or a fuel line

@@ -108,25 +108,38 @@ pub enum Found {
     Nothing,
 }
 
-// The place of the line with this number, by halving. The width goes 64, 32, 16, 8, 4, 2, 1, so
-// that seven lines are looked at and no more.
-pub(crate) fn find(s: &[u8], x: u64) -> Found
+// The place of the line with this number. For each last byte of a number, the hints say where its
+// line may stand. A hint is held against the line and never trusted, so that any bytes serve.
+pub(crate) fn find(s: &[u8], hints: &[u8], x: u64) -> Found
+    requires rising { ⌜ Rising (now s) ⌝ }
+    ensures place { λ r. ⌜ r ≡ place x 0 (linesIn (now (s .entry))) ⌝ }
+{
+    let last = (x % 256) as usize;
+    if last < hints.len() {
+        let hint = hints[last] as usize;
+        if hint < s.len() / 32 {
+            if field::number(bytes::take_line(s, hint)) == x {
+                return Found::At(hint);
+            }
+        }
+    }
+    halve(s, x)
+}
+
+// The place of the line with this number. Of 64 lines at most seven are looked at, since each turn
+// leaves at most half of those between `low` and `high`.
+fn halve(s: &[u8], x: u64) -> Found
     requires rising { ⌜ Rising (now s) ⌝ }
     ensures place { λ r. ⌜ r ≡ place x 0 (linesIn (now (s .entry))) ⌝ }
 {
     let mut low = 0;
     let mut high = s.len() / 32;
-    let mut width = MOST_LINES;
-    while 0 < width {
-        if high <= low {
-            return Found::Nothing;
-        }
+    while low < high {
         let mid = low + (high - low) / 2;
         let number = field::number(bytes::take_line(s, mid));
         if number == x {
             return Found::At(mid);
         }
-        width = width / 2;
         if number < x {
             low = mid + 1;
         } else {

@@ -1,30 +1,47 @@
--- The ledgers are those that `give` gives, and one record more is done. Assumes nothing.
-use Prim.Native.Nat.{_+_}
-use mathlib.Core.Path.{sym}
-use native.Mathlib.Nat.{add-zero}
+-- Where the masses fit they are summed; where they don't, the pile is carried first and they begin
+-- a new one. Assumes nothing.
+use Prim.Native.Nat.{_<_}
+use mathlib.Core.Path.{sym, subst}
 use borrow.Author.Needs.{needs}
-use Rattle.job.specs.State.{after}
-use Rattle.job.specs.Tally.{ledgersOf, tallyOf, stateOf, ledgersAfter}
+use Rattle.mass.specs.Figures.{AllSound}
+use Rattle.job.specs.declared.tally.Tally.{Tally}
+use Rattle.job.specs.Tally.{tallyOf, stateOf}
+use Rattle.job.specs.Pile.{stateWith, stateIn}
+use Rattle.job.proofs.PileLaws.{stateWith-of-carried, sound-of-carried}
 use Rattle.job.proofs.tally.count.Statement.{statement}
 use Rattle.job.proofs.tally.count.Tie as tie
 
-add-t4 : tie.Need-add-t4
-add-t4 c = search needs
+do-fit-requires : tie.Need-do-fit-requires
+do-fit-requires c κs = search needs
 
-give-requires : tie.Need-give-requires
-give-requires c κs = search needs
+heap-requires : tie.Need-heap-requires
+heap-requires c κs = (c .before .do-fit .ensures (c .if1 .taken), c .before .before .pre .1)
 
 returns : tie.Need-returns
-unfolding tallyOf ledgersOf after stateOf ledgersAfter
 returns c =
-    let t = c .before .before .before .args .t in
-    λ i. record {
-      done = t .done + 1;
-      aside = sym (add-zero (t .aside)) i;
-      index = t .index;
-      reason = t .reason;
-      ledgers = c .give .ensures i;
-    }
+    let done = c .heap .ensures in
+    (done .0, subst AllSound (sym (done .1)) (c .before .before .before .pre .0 .0))
+
+settle-requires : tie.Need-settle-requires
+settle-requires c κs = search needs
+
+step-requires : tie.Need-step-requires
+unfolding tallyOf stateIn stateWith stateOf
+step-requires c κs = subst (λ (t : Tally). t .done < 4294967295) (sym (c .settle .ensures)) (c .before .before .before .pre .1)
+
+returns-2 : tie.Need-returns-2
+unfolding stateIn
+returns-2 c =
+    let start = c .before .before .before .before in
+    let a = start .args in
+    let carried = c .before .settle .ensures in
+    let stepped = c .step .ensures in (
+      stateWith-of-carried (c .step .result) (c .before .settle .result) (stateIn (a .p)) (a .x) carried (stepped .0),
+      sound-of-carried (c .step .result) (c .before .settle .result) (stateIn (a .p)) carried (stepped .1)
+          (start .pre .0 .1),
+    )
 
 pub count-spec : {M : Type 1} → statement M
-count-spec = tie.close (tie.spec add-t4 give-requires returns)
+count-spec =
+    tie.close
+    (tie.spec do-fit-requires heap-requires returns settle-requires step-requires returns-2)

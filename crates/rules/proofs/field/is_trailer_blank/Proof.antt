@@ -1,4 +1,4 @@
--- The 14 bytes are two that are read at once and twelve by fours. Assumes nothing.
+-- The 14 bytes are two and the twelve from 20 on. Assumes nothing.
 use mathlib.Core.Path.{sym, _∙_}
 use lib.Dec.{eqb}
 use borrow.Author.Needs.{needs}
@@ -10,13 +10,13 @@ use Rattle.rules.proofs.field.is_trailer_blank.Tie as tie
 read-word-requires : tie.Need-read-word-requires
 read-word-requires c κs = search needs
 
-is-blank-requires : tie.Need-is-blank-requires
-is-blank-requires c κs = search needs
+is-blank-from-20-requires : tie.Need-is-blank-from-20-requires
+is-blank-from-20-requires c κs = search needs
 
 returns : tie.Need-returns
 returns c =
     let two = c .before .read-word .ensures .0 in
-    both (λ i. eqb (two i) 0) (c .is-blank .ensures) ∙ sym (zeros-add _ 18 2 12)
+    both (λ i. eqb (two i) 0) (c .is-blank-from-20 .ensures) ∙ sym (zeros-add _ 18 2 12)
 
 pub is-trailer-blank-spec : {M : Type 1} → statement M
-is-trailer-blank-spec = tie.close (tie.spec read-word-requires is-blank-requires returns)
+is-trailer-blank-spec = tie.close (tie.spec read-word-requires is-blank-from-20-requires returns)

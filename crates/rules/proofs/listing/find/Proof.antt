@@ -1,113 +1,47 @@
--- What lies outside `low` to `high` has another number, and what lies within is halved with the
--- width, so that nothing is left when the width is 0. Assumes nothing.
-use Prim.Native.Nat.{_+_, _-_, _/_, _<_, _≤_}
-use mathlib.Core.Path.{_≡_, ap, _∙_}
+-- A line that has the number is the only one, however it was come upon. Assumes nothing.
+use Prim.Native.Nat.{_%_}
+use mathlib.Core.Path.{ap, _∙_}
 use native.Mathlib.Omega.{arith}
-use lib.ListN.{length}
 use borrow.Author.Needs.{needs}
 use Rattle.rules.specs.Fields.{number}
-use Rattle.rules.specs.Listing.{numberAt}
-use Rattle.rules.proofs.ListingLaws.{Between, between-start, place-between, place-mid, between-up, between-down}
+use Rattle.rules.proofs.ListingLaws.{place-mid}
 use Rattle.rules.proofs.listing.find.Statement.{statement}
 use Rattle.rules.proofs.listing.find.Tie as tie
 
-abbrev Inv-loop : tie.InvT-loop
-Inv-loop s x low₀ high₀ width₀ low high width =
-    (low ≤ high) × (high ≤ length s / 32) × (high ≤ low + width) × Between s x low high
+shared-slice-read-hint : tie.Need-shared-slice-read-hint
+shared-slice-read-hint c = search needs
 
-abbrev μ-loop : tie.MeasureT-loop
-μ-loop s x low₀ high₀ width₀ low high width = width
+cast-hint : tie.Need-cast-hint
+cast-hint c = omega (arith, c .shared-slice-known3 .given (c .before .before .before .before .args .x % 256))
 
--- The middle is a line, and its number is what was read.
-mid-lt : (c : tie.Else1 Inv-loop μ-loop)
-    → let loop = c .before .before .loop in
-    let a = c .before .before .before .before .args in
-    loop .low + (loop .high - loop .low) / 2 < length (a .s .now) / 32
-mid-lt c = omega arith
+take-line-requires : tie.Need-take-line-requires
+take-line-requires c κs = search needs
 
-number-is : (c : tie.After-number Inv-loop μ-loop)
-    → let turn = c .before .before in
-    let loop = turn .before .before .loop in
-    let a = turn .before .before .before .before .args in
-    c .number .result ≡ numberAt (loop .low + (loop .high - loop .low) / 2) (a .s .now)
-number-is c = c .number .ensures ∙ ap number (c .before .take-line .ensures .0)
-
-loop-holds : tie.Need-loop-holds Inv-loop μ-loop
-loop-holds c = (search needs, search needs, search needs, between-start _ _)
-
-returns : tie.Need-returns Inv-loop μ-loop
-returns c = place-between _ _ _ _ (c .if1 .taken) (c .before .before .loop .inv .3)
-
-sub-mid : tie.Need-sub-mid Inv-loop μ-loop
-sub-mid c = search needs
-
-add-mid : tie.Need-add-mid Inv-loop μ-loop
-add-mid c = search needs
-
-take-line-requires : tie.Need-take-line-requires Inv-loop μ-loop
-take-line-requires c κs = mid-lt c
-
-number-requires : tie.Need-number-requires Inv-loop μ-loop
+number-requires : tie.Need-number-requires
 number-requires c κs = search needs
 
-returns-2 : tie.Need-returns-2 Inv-loop μ-loop
-returns-2 c =
-    let turn = c .before .before .before in
-    let rising = turn .before .before .before .before .pre in
-    place-mid _ _ _ _ rising (mid-lt turn) (number-is (c .before)) (c .if2 .taken)
+returns : tie.Need-returns
+returns c =
+    let read = c .before in
+    let there = read .before .before in
+    let number-is = read .number .ensures ∙ ap number (read .before .take-line .ensures .0) in
+    let rising = there .before .before .before .before .before .pre in
+    place-mid _ _ _ _ rising (there .if2 .taken) number-is (c .if3 .taken)
 
-add-low : tie.Need-add-low Inv-loop μ-loop
-add-low c = search needs
+halve-requires : tie.Need-halve-requires
+halve-requires c κs = search needs
 
-loop-less : tie.Need-loop-less Inv-loop μ-loop
-loop-less c = search needs
-
-loop-again : tie.Need-loop-again Inv-loop μ-loop
-loop-again c =
-    let turn = c .before .before .before .before in
-    let rising = turn .before .before .before .before .pre in
-    let between = turn .before .before .loop .inv .3 in
-    let number = number-is (c .before .before) in (
-      search needs,
-      search needs,
-      search needs,
-      between-up _ _ _ _ rising (mid-lt turn) number _ _ (c .if3 .taken) between,
-    )
-
-loop-less-2 : tie.Need-loop-less-2 Inv-loop μ-loop
-loop-less-2 c = search needs
-
-loop-again-2 : tie.Need-loop-again-2 Inv-loop μ-loop
-loop-again-2 c =
-    let turn = c .before .before .before .before in
-    let rising = turn .before .before .before .before .pre in
-    let between = turn .before .before .loop .inv .3 in
-    let number = number-is (c .before .before) in (
-      search needs,
-      search needs,
-      search needs,
-      between-down _ _ _ _ rising (mid-lt turn) number _ _ (c .before .if2 .left) (c .if3 .left) between,
-    )
-
-returns-3 : tie.Need-returns-3 Inv-loop μ-loop
-returns-3 c = place-between _ _ _ _ (omega arith) (c .before .loop .inv .3)
+returns-2 : tie.Need-returns-2
+returns-2 c = search needs
 
 pub find-spec : {M : Type 1} → statement M
 find-spec =
     tie.close
     (tie.spec
-    Inv-loop
-    μ-loop
-    loop-holds
-    returns
-    sub-mid
-    add-mid
+    shared-slice-read-hint
+    cast-hint
     take-line-requires
     number-requires
-    returns-2
-    add-low
-    loop-less
-    loop-again
-    loop-less-2
-    loop-again-2
-    returns-3)
+    returns
+    halve-requires
+    returns-2)

@@ -1,0 +1,166 @@
+-- What one record does to a pile, whether its masses are summed or carried. Assumes nothing.
+use Prim.Native.Nat.{ℕ, _+_, _-_, _*_, _<_, _≤_}
+use mathlib.Core.List.{List}
+use mathlib.Core.Path.{_≡_, sym, ap, _∙_, subst}
+use native.Mathlib.Nat.{add-zero}
+use native.Mathlib.Numerals.{add-one}
+use native.Mathlib.Omega.{arith}
+use lib.ListN.{length}
+use Rattle.mass.specs.Figures.{AllSound}
+use Rattle.rules.specs.declared.book.Head.{Head}
+use Rattle.rules.specs.declared.entry.Entry.{Entry}
+use Rattle.rules.specs.declared.record.Outcome.{Outcome}
+use Rattle.rules.specs.declared.record.Outcome.the-variants.{SetAside, Counted}
+use Rattle.rules.specs.Book.{opened, accepted}
+use Rattle.rules.specs.Record.{outcomeAt}
+use Rattle.rules.proofs.BookLaws.{accepted-facts}
+use Rattle.job.specs.declared.tally.Masses.{Masses}
+use Rattle.job.specs.declared.tally.Tally.{Tally}
+use Rattle.job.specs.State.{State, after, run, FitFor}
+use Rattle.job.specs.Tally.{ledgersOf, tallyOf, stateOf}
+use Rattle.job.specs.Pile.{stateWith, stepped, Share}
+use Rattle.job.proofs.TallyLaws.{stateOf-tallyOf, sound-ledgersOf, ledgersOf-after-aside}
+
+-- ---- what is added to a ledger
+none : (a v : ℕ) → v ≡ 0 → a + v ≡ a
+none a v h = omega arith
+
+swap : (a v : ℕ) → a + 0 + v ≡ a + v + 0
+swap a v = omega arith
+
+heavy : (a v w : ℕ) → a + 1000 * (v + w) ≡ a + 1000 * v + 1000 * w
+heavy a v w = omega arith
+
+light : (a v w : ℕ) → a + (v + w) ≡ a + v + w
+light a v w = omega arith
+
+pub stateWith-zero : (s : State) (m : Masses) → m .fossil .0 ≡ 0 → m .biomass .0 ≡ 0 → m .ch4 .0 ≡ 0
+    → m .n2o .0 ≡ 0 → stateWith s m ≡ s
+unfolding stateWith
+stateWith-zero s m f b c n = λ i. record {
+  done = s .done;
+  aside = s .aside;
+  index = s .index;
+  reason = s .reason;
+  fossil = none (s .fossil) (1000 * m .fossil .0) (ap (λ (v : ℕ). 1000 * v) f) i;
+  biomass = none (s .biomass) (1000 * m .biomass .0) (ap (λ (v : ℕ). 1000 * v) b) i;
+  ch4 = none (s .ch4) (m .ch4 .0) c i;
+  n2o = none (s .n2o) (m .n2o .0) n i;
+}
+
+-- ---- a record set aside
+stateWith-after-aside : (s : State) (m : Masses) (k : ℕ)
+    → stateWith (after s (SetAside k)) m ≡ after (stateWith s m) (SetAside k)
+unfolding stateWith after
+stateWith-after-aside s m k = λ i. record {
+  done = s .done + 1;
+  aside = s .aside + 1;
+  index = after s (SetAside k) .index;
+  reason = after s (SetAside k) .reason;
+  fossil = swap (s .fossil) (1000 * m .fossil .0) i;
+  biomass = swap (s .biomass) (1000 * m .biomass .0) i;
+  ch4 = swap (s .ch4) (m .ch4 .0) i;
+  n2o = swap (s .n2o) (m .n2o .0) i;
+}
+
+pub stateWith-of-aside : {r : Tally} (t : Tally) (m : Masses) (k : ℕ) → r ≡ tallyOf (after (stateOf t) (SetAside k))
+    → stateWith (stateOf r) m ≡ after (stateWith (stateOf t) m) (SetAside k)
+stateWith-of-aside t m k e =
+    ap (λ (s : State). stateWith s m) (ap stateOf e ∙ stateOf-tallyOf (after (stateOf t) (SetAside k)))
+    ∙ stateWith-after-aside (stateOf t) m k
+
+pub sound-of-aside : {r : Tally} (t : Tally) (k : ℕ) → r ≡ tallyOf (after (stateOf t) (SetAside k))
+    → AllSound (t .ledgers) → AllSound (r .ledgers)
+unfolding tallyOf
+sound-of-aside t k e h =
+    subst AllSound (ledgersOf-after-aside t k h ∙ sym (ap (λ (x : Tally). x .ledgers) e)) h
+
+-- ---- a record that counts
+pub stateWith-share : (s : State) (m : Masses) (e : Entry) → Share m e → stateWith (stepped s) m ≡ after s (Counted e)
+unfolding stateWith stepped after
+stateWith-share s m e h = λ i. record {
+  done = s .done + 1;
+  aside = sym (add-zero (s .aside)) i;
+  index = s .index;
+  reason = s .reason;
+  fossil = s .fossil + h .fossil-is i;
+  biomass = s .biomass + h .biomass-is i;
+  ch4 = s .ch4 + h .ch4-is i;
+  n2o = s .n2o + h .n2o-is i;
+}
+
+abbrev pub summed : Masses → Masses → Masses
+summed m x = record {
+  fossil = record { 0 = m .fossil .0 + x .fossil .0 };
+  biomass = record { 0 = m .biomass .0 + x .biomass .0 };
+  ch4 = record { 0 = m .ch4 .0 + x .ch4 .0 };
+  n2o = record { 0 = m .n2o .0 + x .n2o .0 };
+}
+
+stateWith-summed : (s : State) (m x : Masses)
+    → stateWith (stepped s) (summed m x) ≡ stateWith (stepped (stateWith s m)) x
+unfolding stateWith stepped
+stateWith-summed s m x = λ i. record {
+  done = s .done + 1;
+  aside = s .aside;
+  index = s .index;
+  reason = s .reason;
+  fossil = heavy (s .fossil) (m .fossil .0) (x .fossil .0) i;
+  biomass = heavy (s .biomass) (m .biomass .0) (x .biomass .0) i;
+  ch4 = light (s .ch4) (m .ch4 .0) (x .ch4 .0) i;
+  n2o = light (s .n2o) (m .n2o .0) (x .n2o .0) i;
+}
+
+-- Summed: the tally only steps, and the masses meet in the pile.
+pub stateWith-of-summed : (r t : Tally) (m x : Masses) → stateOf r ≡ stepped (stateOf t)
+    → stateWith (stateOf r) (summed m x) ≡ stateWith (stepped (stateWith (stateOf t) m)) x
+stateWith-of-summed r t m x e =
+    ap (λ (s : State). stateWith s (summed m x)) e ∙ stateWith-summed (stateOf t) m x
+
+-- Carried: the tally t of the state s steps, and the masses of the record begin a pile.
+pub stateWith-of-carried : (r t : Tally) (s : State) (x : Masses) → t ≡ tallyOf s → stateOf r ≡ stepped (stateOf t)
+    → stateWith (stateOf r) x ≡ stateWith (stepped s) x
+stateWith-of-carried r t s x e q =
+    let now : stateOf t ≡ s = ap stateOf e ∙ stateOf-tallyOf s in
+    ap (λ (y : State). stateWith y x) (q ∙ ap stepped now)
+
+pub sound-of-carried : (r t : Tally) (s : State) → t ≡ tallyOf s → r .ledgers ≡ t .ledgers → AllSound (ledgersOf s)
+    → AllSound (r .ledgers)
+unfolding tallyOf
+sound-of-carried r t s e q h = subst AllSound (sym (q ∙ ap (λ (x : Tally). x .ledgers) e)) h
+
+-- ---- a run begins with sound ledgers
+pub sound-begun : {q : Tally} (h : Head) (k : List ℕ) (t : Tally) → opened k ≡ accepted h → t ≡ tallyOf (stateOf t)
+    → FitFor h (stateOf t) → q ≡ t → AllSound (q .ledgers)
+unfolding tallyOf
+sound-begun h k t o e f p =
+    let book = accepted-facts k h o in
+    let few : h .n ≤ 131072 = omega arith in
+    subst AllSound (sym (ap (λ (x : Tally). x .ledgers) (p ∙ e))) (sound-ledgersOf h (stateOf t) f few)
+
+-- ---- the parts of a book, and a turn
+-- The parts that hints are taken from are within the book.
+pub record Parts (h : Head) (k : List ℕ) : Type 0 where
+  pub end : 32 ≤ h .length
+  pub units : (h .units ≤ h .fuels) × (h .fuels ≤ length k)
+  pub fuels : (h .fuels ≤ h .length - 32) × (h .length - 32 ≤ length k)
+
+pub parts : (h : Head) (k : List ℕ) → opened k ≡ accepted h → Parts h k
+parts h k o =
+    let known = accepted-facts k h o in
+    record { end = omega arith; units = (omega arith, omega arith); fuels = (omega arith, omega arith) }
+
+-- Over plain numbers, since at a need `omega` stops at the bounds of the ledgers.
+pub record Step (i n : ℕ) : Type 0 where
+  pub on : i + 1 ≤ n
+  pub less : n - (i + 1) < n - i
+
+pub step : (i n : ℕ) → i < n → Step i n
+step i n l = record { on = omega arith; less = omega arith }
+
+-- ---- the next n records, of which i are done
+pub run-suc : {x y : State} {o : Outcome} (h : Head) (k : List ℕ) (s : State) (i : ℕ) → x ≡ run h k s i
+    → o ≡ outcomeAt h k (x .done) → y ≡ after x o → y ≡ run h k s (i + 1)
+unfolding run
+run-suc {x} h k s i e p q =
+    rw add-one (q ∙ ap (after x) p ∙ ap (λ (z : State). after z (outcomeAt h k (z .done))) e)
