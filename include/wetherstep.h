@@ -1,0 +1,116 @@
+/*
+ * Wetherstep: a site's greenhouse gas return, worked out by a job that may be stopped anywhere.
+ *
+ * A job starts with a fresh checkpoint of a book, goes on by wakes, each from a checkpoint and with
+ * a budget of records, and ends with a report. Book and checkpoint are described in docs/FORMAT.md,
+ * the rules in docs/RULES.md. Link libwetherstep.a (x86-64 Linux). C99, also from C++.
+ *
+ * THE CALLER'S DUTIES. The library is proved for all bytes, lengths and budgets. It can't see that
+ *   - each length is true: so many bytes can be read at the pointer before it, or written there;
+ *   - the buffers of one call don't overlap, so a wake writes beside the checkpoint that it reads;
+ *   - `figures` isn't null, is aligned as a uint64_t is, and has room for six;
+ *   - while a call runs, nothing else writes to its buffers: no thread, no signal handler, no
+ *     device, and nobody to a file that is mapped there.
+ * A buffer of length 0 may have any pointer, also a null one.
+ *
+ * REFUSALS. A call whose number isn't 0 has written nothing: every buffer is as it was.
+ */
+#ifndef WETHERSTEP_H
+#define WETHERSTEP_H
+
+#include <stddef.h>
+#include <stdint.h>
+
+#ifdef __cplusplus
+extern "C" {
+#endif
+
+/*
+ * THE REPLY is one word. Every other bit is 0, and so is a field that the number doesn't use.
+ *
+ *   bits 0-7      the number: 0, or why the call was refused
+ *   bits 8-15     the reason: with number 41
+ *   bits 32-63    the count: of an accepted wake, the records gone through, also those set aside;
+ *                 with 40, the records done; with 41, the index of the first record set aside
+ */
+static inline unsigned wetherstep_number(uint64_t reply) { return (unsigned)(reply % 256); }
+static inline unsigned wetherstep_reason(uint64_t reply) { return (unsigned)(reply / 256 % 256); }
+static inline uint32_t wetherstep_count(uint64_t reply) { return (uint32_t)(reply / 4294967296u); }
+
+/* NUMBERS. The smallest that applies is given. With 0 the call did what it is for. */
+#define WETHERSTEP_ACCEPTED 0
+/*
+ * The book breaks a rule. No wake mends that: see that the book is whole, or have it corrected.
+ * With the same book, copied anew, go on from the saved checkpoint; with one that was changed,
+ * start afresh.
+ */
+#define WETHERSTEP_BOOK_LENGTH 20   /* no multiple of 32 from 32 to 65,536: was it copied whole? */
+#define WETHERSTEP_BOOK_TRAILER 21  /* its last line: is it a book, of a year from 2000 to 2099? */
+#define WETHERSTEP_BOOK_UNITS 22    /* a unit line, or over 64 of them: correct the list of units */
+#define WETHERSTEP_BOOK_FUELS 23    /* a fuel line, or over 64 of them: correct the list of fuels */
+/*
+ * The checkpoint, in a wake or a report. Try an older one of this book: that costs wakes, and no
+ * figure changes. If there is none, start afresh.
+ */
+#define WETHERSTEP_CHECKPOINT_LENGTH 30   /* not 96 bytes: was it saved and read whole? */
+#define WETHERSTEP_CHECKPOINT_UNSOUND 31  /* damaged, or of another book, or the book has grown */
+/* The buffer for a new checkpoint, in a fresh start or a wake: a mistake of the calling program. */
+#define WETHERSTEP_BUFFER_LENGTH 32       /* not 96 bytes */
+/* The report withholds the figures. */
+#define WETHERSTEP_UNFINISHED 40    /* so many records are done: wake again, until all are */
+#define WETHERSTEP_RECORD_ASIDE 41  /* index and reason of a record: correct it, start afresh */
+
+/*
+ * REASONS why a record was set aside. It adds to no total until it is corrected in the book. Others
+ * may follow: each run names the first.
+ */
+#define WETHERSTEP_REASON_FORM 1     /* kind, flags or a byte that must be 0: write it anew */
+#define WETHERSTEP_REASON_UNIT 2     /* the unit isn't listed: list it, or correct its number */
+#define WETHERSTEP_REASON_FUEL 3     /* the fuel isn't listed: list it, or correct its number */
+#define WETHERSTEP_REASON_RANGE 4    /* month, hour, amount, heat, carbon or reading: correct it */
+#define WETHERSTEP_REASON_MONITOR 5  /* an hour of a unit without a monitor: correct unit or flag */
+#define WETHERSTEP_REASON_METHOD 6   /* no permitted method: give the carbon, or check the rating */
+#define WETHERSTEP_REASON_HEAT 7     /* no heat in use: give it, or give the fuel a default */
+
+/*
+ * A CHECKPOINT is 96 bytes. Take them as they are: save all of them, and change none. Save to
+ * another file, then rename it over the last one, so that a stop at any instant leaves a whole
+ * checkpoint. A wake whose checkpoint wasn't saved counts as never made.
+ */
+#define WETHERSTEP_CHECKPOINT_SIZE 96
+
+/*
+ * FIGURES are six numbers, at these places: five in whole kg, each rounded once from its own exact
+ * mass, so that they need not add up, and the decision.
+ */
+#define WETHERSTEP_FIGURES 6
+#define WETHERSTEP_FOSSIL_CO2 0
+#define WETHERSTEP_BIOMASS_CO2 1
+#define WETHERSTEP_CH4 2
+#define WETHERSTEP_N2O 3
+#define WETHERSTEP_CO2E 4
+#define WETHERSTEP_MUST_REPORT 5  /* 1 if the site must report, else 0 */
+
+/* Writes a checkpoint of the book with nothing done. Numbers: 0, 20 to 23, 32. */
+uint64_t wetherstep_fresh(const uint8_t *book, size_t book_len, uint8_t *out, size_t out_len);
+
+/*
+ * Goes through the next records, `budget` at most and fewer at the book's end, and writes the
+ * checkpoint after them. A budget of 0, or a finished book, moves nothing and still writes a whole
+ * checkpoint. Numbers: 0, 20 to 23, 30 to 32.
+ */
+uint64_t wetherstep_wake(const uint8_t *book, size_t book_len, const uint8_t *checkpoint,
+                         size_t checkpoint_len, uint32_t budget, uint8_t *out, size_t out_len);
+
+/*
+ * Writes the figures of a finished book, no record of which was set aside. Numbers: 0, 20 to 23,
+ * 30, 31, 40, 41.
+ */
+uint64_t wetherstep_report(const uint8_t *book, size_t book_len, const uint8_t *checkpoint,
+                           size_t checkpoint_len, uint64_t figures[WETHERSTEP_FIGURES]);
+
+#ifdef __cplusplus
+}
+#endif
+
+#endif
