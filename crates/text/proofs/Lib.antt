@@ -1,0 +1,9 @@
+-- How pages are filled, and what is on them.
+pub mod PageLaws
+pub mod WordsLaws
+pub mod ReportLaws
+pub mod ProgressLaws
+pub mod LinesLaws
+pub mod BudgetLaws
+pub mod FrameLaws
+pub mod Unique

@@ -1,0 +1,8 @@
+-- What the programs print and parse, as bytes.
+pub mod Words
+pub mod Page
+pub mod Report
+pub mod Progress
+pub mod Lines
+pub mod Budget
+pub mod Frame

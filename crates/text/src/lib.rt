@@ -1,0 +1,8 @@
+// The bytes of what the programs print and parse. A program reads, calls and writes.
+pub mod budget;
+pub mod frame;
+pub mod lines;
+mod number;
+pub mod page;
+pub mod progress;
+pub mod report;

@@ -1,0 +1,99 @@
+// Every record of a book as a line: its method and masses, or its reason.
+use crate::number;
+use crate::page;
+use crate::page::Page;
+use crate::report;
+use rules::book;
+use rules::book::Opened;
+use rules::entry::Destination;
+use rules::entry::Entry;
+use rules::reader;
+use rules::reader::Seen;
+use rules::record::Outcome;
+ghost use mathlib.Core.List.{_++_};
+ghost use mathlib.Core.Path.{_≡_};
+ghost use Rattle.rules.specs.Reader.{sight};
+ghost use Rattle.text.specs.Page.{extended, pageOf};
+ghost use Rattle.text.specs.Words.{ascii, newline, field};
+ghost use Rattle.text.specs.Lines.{methodText, ledgerText, massesText, outcomeText, lineText, recordText, lineCount};
+
+// How many lines there are: one for each record, or the one of a refused book.
+pub fn count(book: &[u8]) -> usize
+    ensures count { λ r. ⌜ r ≡ lineCount (now (book .entry)) ⌝ }
+{
+    match book::open(book) {
+        Opened::Wrong(_) => 1,
+        Opened::Open(h) => h.n,
+    }
+}
+
+// Line i of a book; none past the last record.
+pub fn tell_record(book: &[u8], i: usize) -> Page
+    ensures text { λ r. ⌜ r ≡ pageOf (recordText (now (book .entry)) i) ⌝ }
+{
+    let seen = reader::look(book, i);
+    say_seen(page::take_blank(), i, seen)
+}
+
+fn say_seen(p: Page, i: usize, seen: Seen) -> Page
+    ensures said { λ r. ⌜ r ≡ extended p (lineText i (sight seen)) ⌝ }
+{
+    match seen {
+        Seen::Refused(fault) => report::say_fault(p, fault),
+        Seen::Missing => p,
+        Seen::Record(o) => say_record(p, i, o),
+    }
+}
+
+fn say_record(p: Page, i: usize, o: Outcome) -> Page
+    ensures said { λ r. ⌜ r ≡ extended p (field (ascii "record ") i ++ outcomeText o ++ newline) ⌝ }
+{
+    let q = number::say_field(p, b"record ", i as u64);
+    let q = say_outcome(q, o);
+    page::say(q, b"\n")
+}
+
+fn say_outcome(p: Page, o: Outcome) -> Page
+    ensures said { λ r. ⌜ r ≡ extended p (outcomeText o) ⌝ }
+{
+    match o {
+        Outcome::SetAside(reason) => number::say_field(p, b" reason ", reason as u64),
+        Outcome::Counted(e) => say_entry(p, e),
+    }
+}
+
+fn say_entry(p: Page, e: Entry) -> Page
+    ensures said { λ r. ⌜ r ≡ extended p (outcomeText (Outcome.Counted e)) ⌝ }
+{
+    let destination = e.destination;
+    let q = say_method(p, e.method);
+    let q = say_ledger(q, destination);
+    say_masses(q, e)
+}
+
+fn say_method(p: Page, method: u8) -> Page
+    ensures said { λ r. ⌜ r ≡ extended p (methodText method) ⌝ }
+{
+    if method == 0 {
+        return page::say(p, b" hour");
+    }
+    number::say_field(p, b" method ", method as u64)
+}
+
+fn say_ledger(p: Page, d: Destination) -> Page
+    ensures said { λ r. ⌜ r ≡ extended p (ledgerText d) ⌝ }
+{
+    match d {
+        Destination::Fossil => page::say(p, b" fossil"),
+        Destination::Biomass => page::say(p, b" biomass"),
+        Destination::Nowhere => page::say(p, b" none"),
+    }
+}
+
+fn say_masses(p: Page, e: Entry) -> Page
+    ensures said { λ r. ⌜ r ≡ extended p (massesText e) ⌝ }
+{
+    let q = number::say_field(p, b" co2-ug ", e.co2.0);
+    let q = number::say_field(q, b" ch4-ng ", e.ch4.0);
+    number::say_field(q, b" n2o-ng ", e.n2o.0)
+}

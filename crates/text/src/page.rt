@@ -1,0 +1,45 @@
+// A page: room for what a program writes at once.
+ghost use mathlib.Core.Path.{_≡_};
+ghost use Rattle.text.specs.Page as pages;
+
+pub(crate) const SIZE: usize = 512;
+
+pub struct Page {
+    // What is written stands in the first `len` bytes; the rest is 0.
+    pub bytes: [u8; 512],
+    pub len: usize,
+}
+
+pub(crate) fn take_blank() -> Page
+    ensures blank { λ r. ⌜ r ≡ pages.blank ⌝ }
+{
+    Page {
+        bytes: [0u8; 512],
+        len: 0,
+    }
+}
+
+pub(crate) fn say_byte(p: Page, b: u8) -> Page
+    ensures said { λ r. ⌜ r ≡ pages.withByte p b ⌝ }
+{
+    let at = p.len;
+    if at < SIZE {
+        let mut next = p;
+        next.bytes[at] = b;
+        next.len = at + 1;
+        return next;
+    }
+    p
+}
+
+pub(crate) fn say(p: Page, word: &[u8]) -> Page
+    ensures said { λ r. ⌜ r ≡ pages.extended p (now (word .entry)) ⌝ }
+{
+    let mut next = p;
+    let mut i = 0;
+    while i < word.len() {
+        next = say_byte(next, word[i]);
+        i += 1;
+    }
+    next
+}
