@@ -1,0 +1,74 @@
+// What the programs share: reading a descriptor to its end, and writing bytes and pages.
+//
+// No contract can say what a call of the operating system read or wrote. What is proved is that
+// every count lies within its buffer, and that each function ends if those calls return.
+use text::page::Page;
+ghost use mathlib.Core.Path.{_≡_};
+ghost use lib.ListN.{take};
+ghost use Rattle.files.specs.Got.{Within};
+
+// What came of reading into a buffer. Either way its other bytes may have changed too.
+pub enum Got {
+    // So many bytes stand at the start of the buffer: all there were, or as many as it holds.
+    Bytes(usize),
+    // A read failed, and errno says why.
+    Failed,
+}
+
+// Reads until the input ends or buf is full, in as many pieces as the input comes in.
+pub fn read_all(fd: i32, buf: &mut [u8]) -> Got
+    ensures within { λ r. ⌜ Within r (now (buf .exit)) ⌝ }
+{
+    let mut n = 0;
+    while n < buf.len() {
+        let got = read_some(fd, &mut buf[n..]);
+        match got {
+            Got::Failed => {
+                return Got::Failed;
+            }
+            Got::Bytes(more) => {
+                if more == 0 {
+                    return Got::Bytes(n);
+                }
+                n += more;
+            }
+        }
+    }
+    Got::Bytes(n)
+}
+
+// One read. Only at the end of the input does it come to no bytes, for room isn't empty.
+fn read_some(fd: i32, room: &mut [u8]) -> Got
+    ensures within { λ r. ⌜ Within r (now (room .exit)) ⌝ }
+{
+    let got = libc::read(fd, room);
+    if got < 0 {
+        return Got::Failed;
+    }
+    Got::Bytes(io::count(got, room))
+}
+
+// The first n of the bytes, or all of them where there are fewer.
+pub fn take_front(bytes: &[u8], n: usize) -> &[u8]
+    ensures front { λ r. ⌜ now r ≡ take n (now (bytes .entry)) ⌝ }
+{
+    if bytes.len() < n {
+        return bytes;
+    }
+    &bytes[..n]
+}
+
+// Writes the bytes, and answers whether it could; if not, standard error says why.
+pub fn write_bytes(fd: i32, bytes: &[u8]) -> bool {
+    let is_written = io::write_all(fd, bytes);
+    if !is_written {
+        os::fail(b"write");
+    }
+    is_written
+}
+
+// Writes what stands on the page, and answers as write_bytes does.
+pub fn write_page(fd: i32, p: Page) -> bool {
+    let bytes = p.bytes;
+    write_bytes(fd, take_front(&bytes, p.len))
+}

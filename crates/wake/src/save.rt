@@ -1,0 +1,105 @@
+// A file replaced whole: at every instant its name leads to all of the old bytes or all of the new.
+//
+// The new bytes go to a fresh name in the same folder and reach the disk before that name takes the
+// place of the file's own; then the folder is synced, so that the change itself lasts. Two saves at
+// once use two names, and the later change stands. The file is its owner's alone, as mkstemp makes
+// it. A save that is killed may leave its fresh name behind, and nothing reads that.
+ghost use Rattle.io.specs.Counts.{Counts};
+
+// Saves the bytes at path, and answers whether it could; if not, standard error says why.
+pub(crate) fn save(path: &[u8], bytes: &[u8]) -> bool {
+    // The folder is opened first: then only its sync can fail once path has changed.
+    let folder = open_folder(path);
+    if folder < 0 {
+        os::fail(path);
+        return false;
+    }
+    let mut room = [0u8; 4095];
+    let n = name_beside(path, &mut room);
+    let is_saved = replace(path, &mut room[..n], bytes, folder);
+    libc::close(folder);
+    is_saved
+}
+
+// The folder that holds path: all of path up to its last slash, or where the program runs.
+fn open_folder(path: &[u8]) -> i32 {
+    let n = find_name(path);
+    if n == 0 {
+        return os::open_read(b".");
+    }
+    os::open_read(&path[..n])
+}
+
+// Where the part after the last slash starts.
+fn find_name(path: &[u8]) -> usize
+    ensures within { λ r. ⌜ Counts r (now (path .entry)) ⌝ }
+{
+    let mut i = path.len();
+    while 0 < i {
+        if path[i - 1] == b'/' {
+            return i;
+        }
+        i -= 1;
+    }
+    i
+}
+
+// Puts path with `.XXXXXX` behind it at the start of room, and answers its length.
+fn name_beside(path: &[u8], room: &mut [u8]) -> usize
+    ensures within { λ r. ⌜ Counts r (now (room .exit)) ⌝ }
+{
+    let n = copy(path, room);
+    n + copy(b".XXXXXX", &mut room[n..])
+}
+
+// As much of src as fits at the start of dst, and its length.
+fn copy(src: &[u8], dst: &mut [u8]) -> usize
+    ensures within { λ r. ⌜ Counts r (now (dst .exit)) ⌝ }
+{
+    let mut i = 0;
+    while i < src.len() {
+        if dst.len() <= i {
+            return i;
+        }
+        dst[i] = src[i];
+        i += 1;
+    }
+    i
+}
+
+fn replace(path: &[u8], name: &mut [u8], bytes: &[u8], folder: i32) -> bool {
+    let fd = os::create_temp(name);
+    if fd < 0 {
+        os::fail(path);
+        return false;
+    }
+    if !write_through(fd, bytes) {
+        os::fail(path);
+        libc::close(fd);
+        os::unlink(name);
+        return false;
+    }
+    if libc::close(fd) < 0 {
+        os::fail(path);
+        os::unlink(name);
+        return false;
+    }
+    if os::rename(name, path) < 0 {
+        os::fail(path);
+        os::unlink(name);
+        return false;
+    }
+    if libc::fsync(folder) < 0 {
+        os::fail(path);
+        return false;
+    }
+    true
+}
+
+// Writes the bytes and waits until they are on the disk.
+fn write_through(fd: i32, bytes: &[u8]) -> bool {
+    if !io::write_all(fd, bytes) {
+        return false;
+    }
+    0 <= libc::fsync(fd)
+}

@@ -1,0 +1,177 @@
+"""What `annual` prints, held against the requirements' example, sums worked by hand and a report
+that was reckoned apart."""
+import fcntl
+import itertools
+import os
+import re
+import subprocess
+import tempfile
+import termios
+import time
+
+from program_books import LONGEST, LINE, TONNE, book, fuel_line, fuel_record, pad, patch, report
+from program_books import trailer, unit_line
+from program_runs import PATIENCE, PLANT, ROOT, Answer, expect, expect_failure, expect_line
+from program_runs import expect_told, turns
+
+EXAMPLE = b"""\
+year 2010
+records 1
+fossil-co2-kg 1900
+biomass-co2-kg 0
+ch4-kg 0
+n2o-kg 0
+co2e-kg 1902
+must-report no
+"""
+# One delivery of P1 gives these to fossil CO2, biomass CO2, CH4 and N2O, in ng.
+P1_MASSES = (1_900_000_000_000_000, 0, 34_200_000_000, 3_420_000_000)
+ONE = book()
+ROOM = LONGEST // LINE - 3  # records, beside a unit, a fuel and the trailer
+FULL = book([fuel_record()] * ROOM)
+
+# What is refused, by number. Of two faults the smaller number is given.
+REFUSED = {
+    "no bytes": (20, b""),
+    "a line less a byte": (20, ONE[:31]),
+    "a book less its last byte": (20, ONE[:-1]),
+    "a book and a byte": (20, ONE + b"\0"),
+    "a byte more than the longest book": (20, FULL + b"\0"),
+    "a line more than the longest book": (20, bytes(LINE) + FULL),
+    "twice the longest book": (20, FULL + FULL),
+    "32 zero bytes": (21, bytes(LINE)),
+    "another signature": (21, patch(ONE, 96, b"STCA")),
+    "version 2": (21, patch(ONE, 100, b"\2")),
+    "a byte of the trailer that must be 0": (21, patch(ONE, 102, b"\1")),
+    "year 1999": (21, book(year=1999)),
+    "year 2100": (21, book(year=2100)),
+    "unit lines past fuel lines": (21, ONE[:96] + trailer(96, 64)),
+    "fuel lines past the trailer": (21, ONE[:96] + trailer(32, 128)),
+    "a start within a line": (21, ONE[:96] + trailer(16, 64)),
+    "unit number 0": (22, book(units=[unit_line(0)])),
+    "a unit's rating of 0": (22, book(units=[unit_line(rating=0)])),
+    "a unit's rating of 100,001": (22, book(units=[unit_line(rating=100_001)])),
+    "two units of one number": (22, book(units=[unit_line(), unit_line()])),
+    "65 units": (22, book(units=[unit_line(i) for i in range(1, 66)])),
+    "a wrong unit and a wrong fuel": (22, book(units=[unit_line(0)], fuels=[fuel_line(0)])),
+    "fuel number 0": (23, book(fuels=[fuel_line(0)])),
+    "fuel kind 4": (23, book(fuels=[fuel_line(kind=4, fuel_class=0)])),
+    "a liquid natural gas": (23, book(fuels=[fuel_line(kind=2)])),
+    "no CO2 factor": (23, book(fuels=[fuel_line(co2=0)])),
+    "fuels that fall": (23, book(fuels=[fuel_line(2), fuel_line(1)])),
+    "65 fuels": (23, book(fuels=[fuel_line(i) for i in range(1, 66)])),
+}
+
+
+def site(fossil, biomass):
+    """A book with so many tonnes of each CO2 alone: a unit of fuel gives one kilogram."""
+    gas = fuel_line(1, 3, 0, heat=100_000, co2=10_000, ch4=0, n2o=0)
+    wood = fuel_line(2, 1, 3, heat=100_000, co2=10_000, ch4=0, n2o=0)
+    burned = [fuel_record(1000 * fossil), fuel_record(1000 * biomass, fuel=2)]
+    return book(burned, fuels=[gas, wood])
+
+
+# Tonnes of fossil and biomass CO2, and the decision that the requirements work out by hand.
+DECISIONS = {
+    "P10, exactly 10,000 t": (10_000, 0, b"yes"),
+    "a tonne less than P10": (9_999, 0, b"no"),
+    "P11, 24,999 t of which 16,000 t are wood's": (8_999, 16_000, b"no"),
+    "P12, exactly 25,000 t of which 16,000 t are wood's": (9_000, 16_000, b"yes"),
+}
+
+
+def in_pieces(programs, name, data, sizes):
+    """Runs with input that comes in pieces: each is sent when the one before has been read."""
+    reading, writing = os.pipe()
+    process = programs.start(name, stdin=reading, stdout=subprocess.PIPE, stderr=subprocess.PIPE)
+    at = 0
+    for size in itertools.cycle(sizes):
+        if at >= len(data) or process.poll() is not None:
+            break
+        os.write(writing, data[at:at + size])
+        at += size
+        await_reading(process, reading)
+    os.close(writing)
+    out, err = process.communicate(timeout=PATIENCE)
+    os.close(reading)
+    return Answer(process.returncode, out, err)
+
+
+def await_reading(process, pipe):
+    """Waits until a program has read all that the pipe holds, or has ended."""
+    for _ in turns():
+        held = fcntl.ioctl(pipe, termios.FIONREAD, bytes(4))
+        if held == bytes(4) or process.poll() is not None:
+            return
+        time.sleep(0.0001)
+
+
+def book_in_format_page():
+    page = (ROOT / "docs/FORMAT.md").read_text(encoding="utf-8")
+    rows = re.findall(r"^[0-9a-f]{4}  ((?:[0-9a-f]{2} ?){16})$", page, re.M)
+    return bytes.fromhex(" ".join(rows))
+
+
+def try_reports(programs, cases):
+    plant, told = PLANT.read_bytes(), (ROOT / "examples/plant.report").read_bytes()
+    with cases.case("docs/FORMAT.md shows the book that is made here"):
+        expect(book_in_format_page(), ONE, "the book")
+    with cases.case("annual: the example of 128 bytes"):
+        expect_told(programs.run("annual", data=ONE), EXAMPLE)
+    with cases.case("annual: the example, byte by byte through a pipe"):
+        expect_told(in_pieces(programs, "annual", ONE, [1]), EXAMPLE)
+    with cases.case("annual: examples/plant.book, as examples/plant.report says"):
+        expect_told(programs.run("annual", data=plant), told)
+    with cases.case("annual: examples/plant.book as a file"), open(PLANT, "rb") as file:
+        expect_told(programs.run("annual", stdin=file), told)
+    with cases.case("annual: examples/plant.book in odd pieces"):
+        expect_told(in_pieces(programs, "annual", plant, [1, 31, 33, 7, 1025, 97]), told)
+    with cases.case("annual: the longest book"):
+        masses = [ROOM * mass for mass in P1_MASSES]
+        expect_told(programs.run("annual", data=FULL), report(FULL, masses))
+    with cases.case("annual: the longest book in odd pieces"):
+        expect_told(in_pieces(programs, "annual", FULL, [4097, 1, 9999]), report(FULL, masses))
+    with cases.case("annual: a trailer alone, whose totals are 0"):
+        empty = trailer(0, 0, year=2099)
+        expect_told(programs.run("annual", data=empty), report(empty, (0, 0, 0, 0)))
+
+
+def try_decisions(programs, cases):
+    for name, (fossil, biomass, decision) in DECISIONS.items():
+        with cases.case(f"annual: {name}"):
+            of = site(fossil, biomass)
+            wanted = report(of, (fossil * TONNE, biomass * TONNE, 0, 0))
+            expect(wanted.split()[-1], decision, "this script's own decision")
+            expect_told(programs.run("annual", data=of), wanted)
+
+
+def try_refusals(programs, cases):
+    for name, (number, of) in REFUSED.items():
+        for program in ("annual", "lines"):
+            with cases.case(f"{program}: {name} is refused with {number}"):
+                expect_told(programs.run(program, data=of), f"refused {number}\n".encode())
+    large = book(units=[unit_line(rating=2501)])
+    with cases.case("annual: a record set aside"):
+        expect_told(programs.run("annual", data=large), b"refused 41 record 0 reason 6\n")
+    with cases.case("annual: the first of two records set aside"):
+        of = book([fuel_record(), fuel_record(month=13), pad(b"")])
+        expect_told(programs.run("annual", data=of), b"refused 41 record 1 reason 4\n")
+
+
+def try_failures(programs, cases, name):
+    """A read and a write that fail. Of what is printed, nobody could say that it is all."""
+    with tempfile.TemporaryDirectory() as folder, cases.case(f"{name}: its input is a folder"):
+        entry = os.open(folder, os.O_RDONLY)
+        answer = programs.run(name, stdin=entry)
+        os.close(entry)
+        expect_failure(answer, b"standard input")
+    with cases.case(f"{name}: its output is a full device"), open("/dev/full", "wb") as full:
+        data = (ROOT / "crates" / name / "stdin").read_bytes()
+        expect_line(programs.run(name, data=data, stdout=full), b"write: ")
+
+
+def try_annual(programs, cases):
+    try_reports(programs, cases)
+    try_decisions(programs, cases)
+    try_refusals(programs, cases)
+    try_failures(programs, cases, "annual")

@@ -1,0 +1,114 @@
+"""Books, checkpoints and reports put together by docs/FORMAT.md, and sums in whole numbers.
+
+No program of the repository makes what stands here, except the lines that are added up.
+"""
+import re
+import struct
+
+KILOGRAM, TONNE = 10**12, 10**15  # in ng
+LINE, LONGEST = 32, 65536
+CH4_WARMING, N2O_WARMING = 21, 310
+LEDGERS = ("fossil", "biomass", "ch4", "n2o")
+
+
+def pad(content):
+    return content.ljust(LINE, b"\0")
+
+
+def fuel_record(amount=1000, unit=1, fuel=1, month=6, heat=None, carbon=None):
+    flags = (heat is not None) + 2 * (carbon is not None)
+    return pad(struct.pack("<BBHHHIII", 1, flags, unit, fuel, month, amount,
+                           heat or 0, carbon or 0))
+
+
+def hour_record(percent, flow, unit=1, hour=1):
+    return pad(struct.pack("<BxHxxHff", 2, unit, hour, percent, flow))
+
+
+def unit_line(number=1, rating=2500, monitor=False):
+    return pad(struct.pack("<HBxI", number, monitor, rating))
+
+
+def fuel_line(number=1, kind=3, fuel_class=1, heat=38000, co2=50000, ch4=900, n2o=90):
+    return pad(struct.pack("<HBBIIII", number, kind, fuel_class, heat, co2, ch4, n2o))
+
+
+def trailer(units_at, fuels_at, year=2010, version=1):
+    return pad(b"STCB" + struct.pack("<HxxIIH", version, units_at, fuels_at, year))
+
+
+def book(records=(fuel_record(),), units=(unit_line(),), fuels=(fuel_line(),), year=2010):
+    """A book of these lines. As it stands, the one of docs/FORMAT.md."""
+    units_at = LINE * len(records)
+    fuels_at = units_at + LINE * len(units)
+    return b"".join([*records, *units, *fuels, trailer(units_at, fuels_at, year)])
+
+
+def patch(content, at, new):
+    return content[:at] + new + content[at + len(new):]
+
+
+def count_of(content):
+    return struct.unpack_from("<I", content, len(content) - LINE + 8)[0] // LINE
+
+
+def year_of(content):
+    return struct.unpack_from("<H", content, len(content) - LINE + 16)[0]
+
+
+def checkpoint(of, done=0, ledgers=(0, 0, 0, 0), aside=0, first=0, reason=0):
+    """The checkpoint of a book; the ledgers are in ng."""
+    parts = b"".join(struct.pack("<QQ", *divmod(mass, TONNE)) for mass in ledgers)
+    head = struct.pack("<IIIBxxx", done, aside, first, reason)
+    return head + parts + struct.pack("<IH", len(of), year_of(of)) + bytes(10)
+
+
+def kilograms(mass):
+    """Rounded once, half upward."""
+    return (2 * mass + KILOGRAM) // (2 * KILOGRAM)
+
+
+def must_report(total, biomass):
+    if total < 25_000 * TONNE:
+        total -= min(biomass, 15_000 * TONNE)
+    return total >= 10_000 * TONNE
+
+
+def report(of, ledgers):
+    """What is printed of a book whose records give these ledgers, in ng."""
+    fossil, biomass, ch4, n2o = ledgers
+    total = fossil + biomass + CH4_WARMING * ch4 + N2O_WARMING * n2o
+    figures = zip(("fossil-co2", "biomass-co2", "ch4", "n2o", "co2e"), (*ledgers, total))
+    lines = [f"year {year_of(of)}", f"records {count_of(of)}"]
+    lines += [f"{name}-kg {kilograms(mass)}" for name, mass in figures]
+    lines += [f"must-report {'yes' if must_report(total, biomass) else 'no'}"]
+    return "".join(line + "\n" for line in lines).encode()
+
+
+COUNTED = re.compile(r"record (\d+) (?:method ([1-4])|hour) (fossil|biomass|none)"
+                     r" co2-ug (\d+) ch4-ng (\d+) n2o-ng (\d+)")
+
+
+def masses_of(lines):
+    """What each line of `lines` gives the four ledgers, in ng. Every record must be counted."""
+    for index, line in enumerate(lines.decode().splitlines()):
+        found = COUNTED.fullmatch(line)
+        if not found or int(found[1]) != index:
+            raise ValueError(f"line {index} is {line!r}")
+        co2, ch4, n2o = (int(found[group]) for group in (4, 5, 6))
+        yield (1000 * co2 * (found[3] == "fossil"), 1000 * co2 * (found[3] == "biomass"), ch4, n2o)
+
+
+def places_of(of, lines):
+    """The checkpoint at every place of a job on the book, from no record done to all."""
+    ledgers = (0, 0, 0, 0)
+    places = [checkpoint(of)]
+    for done, masses in enumerate(masses_of(lines), 1):
+        ledgers = tuple(map(sum, zip(ledgers, masses)))
+        places.append(checkpoint(of, done, ledgers))
+    return places
+
+
+def ledgers_in(saved):
+    numbers = struct.unpack_from("<8Q", saved, 16)
+    return tuple(TONNE * tonnes + rest for tonnes, rest in zip(numbers[::2], numbers[1::2]))

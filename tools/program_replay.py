@@ -1,0 +1,94 @@
+"""How `replay` ends: at a wrong head, or where its input is cut short. Its answers to right frames
+are held against a stored run by `rt ci`, and a few are here, worked out by hand."""
+import struct
+
+from program_annual import ONE, P1_MASSES, in_pieces, try_failures
+from program_books import book, checkpoint, trailer
+from program_runs import ROOT, expect, expect_told
+
+FRESH, WAKE, REPORT, RECORD = 1, 2, 3, 4
+LONGEST_PART = 131_072
+BLANK = b"\xaa" * 96
+EMPTY = trailer(0, 0)  # the shortest book, so that there are few places to cut
+
+
+def head(call, argument=0, lengths=(0, 0, 0)):
+    return struct.pack("<BxxxIIIIxxxx", call, argument, *lengths)
+
+
+def frame(call, argument=0, of=b"", kept=b"", out=b""):
+    return head(call, argument, (len(of), len(kept), len(out))) + of + kept + out
+
+
+def answer(number=0, reason=0, count=0, out=b""):
+    return struct.pack("<BBxxI", number, reason, count).ljust(64, b"\0") + out
+
+
+START = frame(FRESH, of=ONE, out=BLANK)
+STARTED = answer(out=checkpoint(ONE))
+
+# Heads that each break one rule.
+WRONG_HEADS = {
+    "call 0": head(0),
+    "call 5": head(5),
+    "call 255": head(255),
+    "byte 1": b"\1\1\0\0" + head(FRESH)[4:],
+    "byte 2": b"\1\0\1\0" + head(FRESH)[4:],
+    "byte 3": b"\1\0\0\x80" + head(FRESH)[4:],
+    "a fresh start with a budget": head(FRESH, 1),
+    "a report with a budget": head(REPORT, 1 << 24),
+    "a book of 131,073 bytes": head(FRESH, 0, (LONGEST_PART + 1, 0, 0)),
+    "a checkpoint of 131,073 bytes": head(WAKE, 0, (0, LONGEST_PART + 1, 0)),
+    "a buffer of 131,073 bytes": head(FRESH, 0, (0, 0, LONGEST_PART + 1)),
+    "a book of 2^32 - 1 bytes": head(RECORD, 0, (2**32 - 1, 0, 0)),
+    "byte 20": head(FRESH)[:20] + b"\1\0\0\0",
+    "byte 23": head(FRESH)[:20] + b"\0\0\0\1",
+}
+
+
+def try_ends(programs, cases):
+    for name, wrong in WRONG_HEADS.items():
+        with cases.case(f"replay: {name} in a head stops it"):
+            expect_told(programs.run("replay", data=START + wrong + START), STARTED)
+    short = frame(REPORT)
+    first, second = answer(20), answer(out=checkpoint(EMPTY))
+    stream = short + frame(WAKE, 7, EMPTY, checkpoint(EMPTY), BLANK)
+    with cases.case(f"replay: a stream cut at each of its {len(stream)} bytes"):
+        for length in range(len(stream) + 1):
+            wanted = first * (length >= len(short)) + second * (length == len(stream))
+            expect_told(programs.run("replay", data=stream[:length]), wanted)
+    with cases.case("replay: no input"):
+        expect_told(programs.run("replay"), b"")
+
+
+def try_answers(programs, cases):
+    ledgers = P1_MASSES
+    ended = checkpoint(ONE, 1, ledgers)
+    with cases.case("replay: the longest book, checkpoint and buffer that a head may name"):
+        zeros = bytes(LONGEST_PART)
+        for call in (FRESH, WAKE, REPORT, RECORD):
+            told = programs.run("replay", data=frame(call, 0, zeros, zeros, zeros) + START)
+            expect_told(told, answer(20, out=zeros) + STARTED)
+    with cases.case("replay: every call, byte by byte through a pipe"):
+        stream = (START + frame(WAKE, 2**32 - 1, ONE, checkpoint(ONE), BLANK)
+                  + frame(REPORT, 0, ONE, ended) + frame(RECORD, 0, ONE))
+        figures = (answer()[:8] + struct.pack("<5Q", 1900, 0, 0, 0, 1902)).ljust(64, b"\0")
+        masses = struct.pack("<3Q", ledgers[0] // 1000, ledgers[2], ledgers[3])
+        record = (bytes([0, 0, 1, 1, 0, 0, 0, 0]) + masses).ljust(64, b"\0")
+        wanted = STARTED + answer(count=1, out=ended) + figures + record
+        expect_told(in_pieces(programs, "replay", stream, [1]), wanted)
+    with cases.case("replay: a record set aside, from wake to report"):
+        of = book([bytes(32)])
+        aside = checkpoint(of, 1, aside=1, reason=1)
+        stream = frame(WAKE, 1, of, checkpoint(of), BLANK) + frame(REPORT, 0, of, aside)
+        expect_told(programs.run("replay", data=stream), answer(count=1, out=aside) + answer(41, 1))
+    with cases.case("replay: its stored run"):
+        stored = ROOT / "crates/replay"
+        told = programs.run("replay", data=(stored / "stdin").read_bytes())
+        expect(told.out, (stored / "stdout").read_bytes(), "standard output")
+
+
+def try_replay(programs, cases):
+    try_ends(programs, cases)
+    try_answers(programs, cases)
+    try_failures(programs, cases, "replay")
