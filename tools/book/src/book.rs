@@ -1,0 +1,253 @@
+//! What a book says, and the rules that make it sound: docs/RULES.md, "The book".
+//!
+//! Text and bytes both go through `Book::new` and the `add_` functions, so the rules stand once and
+//! every `Book` is sound. Records have no rules here: judging them is the library's work.
+
+use std::ops::RangeInclusive;
+
+pub const LINE: usize = 32;
+pub const LENGTHS: RangeInclusive<usize> = LINE..=65_536;
+
+const MOST_UNITS: usize = 64;
+const MOST_FUELS: usize = 64;
+const YEARS: RangeInclusive<u16> = 2000..=2099;
+const RATINGS: RangeInclusive<u32> = 1..=100_000;
+const HEATS: RangeInclusive<u32> = 0..=200_000;
+const CO2_FACTORS: RangeInclusive<u32> = 1..=200_000;
+const OTHER_FACTORS: RangeInclusive<u32> = 0..=200_000;
+
+pub struct Book {
+    year: u16,
+    units: Vec<Unit>,
+    fuels: Vec<Fuel>,
+    records: Vec<Record>,
+}
+
+pub struct Unit {
+    pub number: u16,
+    /// In tenths of MMBtu/h.
+    pub rating: u32,
+    pub monitor: bool,
+}
+
+pub struct Fuel {
+    pub number: u16,
+    pub kind: Kind,
+    pub class: Class,
+    /// In kJ per unit of fuel; 0 stands for none.
+    pub heat: u32,
+    pub co2: u32,
+    pub ch4: u32,
+    pub n2o: u32,
+}
+
+#[derive(Clone, Copy, PartialEq)]
+pub enum Kind {
+    Solid = 1,
+    Liquid = 2,
+    Gas = 3,
+}
+
+#[derive(Clone, Copy, PartialEq)]
+pub enum Class {
+    Other = 0,
+    NaturalGas = 1,
+    DistillateOil = 2,
+    PureBiomass = 3,
+}
+
+pub enum Record {
+    Delivery {
+        unit: u16,
+        fuel: u16,
+        month: u16,
+        amount: u32,
+        heat: Option<u32>,
+        carbon: Option<u32>,
+    },
+    Hour {
+        unit: u16,
+        hour: u16,
+        /// The readings are kept as bits: a NaN that travels as a float may lose its payload.
+        percent: u32,
+        flow: u32,
+    },
+    /// A record that the words of the other two can't say.
+    Raw([u8; LINE]),
+}
+
+impl Kind {
+    pub const ALL: [Kind; 3] = [Kind::Solid, Kind::Liquid, Kind::Gas];
+
+    pub fn word(self) -> &'static str {
+        match self {
+            Kind::Solid => "solid",
+            Kind::Liquid => "liquid",
+            Kind::Gas => "gas",
+        }
+    }
+}
+
+impl Class {
+    pub const ALL: [Class; 4] = [
+        Class::Other,
+        Class::NaturalGas,
+        Class::DistillateOil,
+        Class::PureBiomass,
+    ];
+
+    pub fn word(self) -> &'static str {
+        match self {
+            Class::Other => "other",
+            Class::NaturalGas => "natural-gas",
+            Class::DistillateOil => "distillate-oil",
+            Class::PureBiomass => "pure-biomass",
+        }
+    }
+
+    fn only_kind(self) -> Option<Kind> {
+        match self {
+            Class::Other => None,
+            Class::NaturalGas => Some(Kind::Gas),
+            Class::DistillateOil => Some(Kind::Liquid),
+            Class::PureBiomass => Some(Kind::Solid),
+        }
+    }
+}
+
+impl Book {
+    pub fn new(year: u16) -> Result<Book, String> {
+        if !YEARS.contains(&year) {
+            let (first, last) = YEARS.into_inner();
+            return Err(format!("year {year} isn't from {first} to {last}"));
+        }
+        Ok(Book {
+            year,
+            units: Vec::new(),
+            fuels: Vec::new(),
+            records: Vec::new(),
+        })
+    }
+
+    pub fn year(&self) -> u16 {
+        self.year
+    }
+
+    pub fn units(&self) -> &[Unit] {
+        &self.units
+    }
+
+    pub fn fuels(&self) -> &[Fuel] {
+        &self.fuels
+    }
+
+    pub fn records(&self) -> &[Record] {
+        &self.records
+    }
+
+    pub fn add_unit(&mut self, unit: Unit) -> Result<(), String> {
+        check_number("unit", unit.number, self.units.last().map(|u| u.number))?;
+        check_count("unit", self.units.len(), MOST_UNITS)?;
+        unit.check()?;
+        self.check_room()?;
+        self.units.push(unit);
+        Ok(())
+    }
+
+    pub fn add_fuel(&mut self, fuel: Fuel) -> Result<(), String> {
+        check_number("fuel", fuel.number, self.fuels.last().map(|f| f.number))?;
+        check_count("fuel", self.fuels.len(), MOST_FUELS)?;
+        fuel.check()?;
+        self.check_room()?;
+        self.fuels.push(fuel);
+        Ok(())
+    }
+
+    pub fn add_record(&mut self, record: Record) -> Result<(), String> {
+        self.check_room()?;
+        self.records.push(record);
+        Ok(())
+    }
+
+    fn check_room(&self) -> Result<(), String> {
+        let lines_with_trailer = self.records.len() + self.units.len() + self.fuels.len() + 1;
+        let longest = LENGTHS.into_inner().1;
+        if (lines_with_trailer + 1) * LINE > longest {
+            let most = longest / LINE - 1;
+            return Err(format!(
+                "the book is full: its {longest} bytes hold {most} units, fuels and records"
+            ));
+        }
+        Ok(())
+    }
+}
+
+impl Unit {
+    fn check(&self) -> Result<(), String> {
+        if RATINGS.contains(&self.rating) {
+            return Ok(());
+        }
+        let (lowest, highest) = RATINGS.into_inner();
+        Err(format!(
+            "unit {} has rating {}; a rating is from {} to {} MMBtu/h",
+            self.number,
+            in_tenths(self.rating),
+            in_tenths(lowest),
+            in_tenths(highest)
+        ))
+    }
+}
+
+impl Fuel {
+    fn check(&self) -> Result<(), String> {
+        if self.class.only_kind().is_some_and(|only| only != self.kind) {
+            return Err(format!(
+                "fuel {} can't be {}, since it is {}",
+                self.number,
+                self.class.word(),
+                self.kind.word()
+            ));
+        }
+        self.check_value("heat", self.heat, HEATS)?;
+        self.check_value("co2", self.co2, CO2_FACTORS)?;
+        self.check_value("ch4", self.ch4, OTHER_FACTORS)?;
+        self.check_value("n2o", self.n2o, OTHER_FACTORS)
+    }
+
+    fn check_value(
+        &self,
+        name: &str,
+        value: u32,
+        range: RangeInclusive<u32>,
+    ) -> Result<(), String> {
+        if range.contains(&value) {
+            return Ok(());
+        }
+        let (number, (lowest, highest)) = (self.number, range.into_inner());
+        Err(format!(
+            "fuel {number} has {name} {value}; its {name} is from {lowest} to {highest}"
+        ))
+    }
+}
+
+fn check_number(what: &str, number: u16, before: Option<u16>) -> Result<(), String> {
+    match before {
+        _ if number == 0 => Err(format!("{what} 0 can't be; {what} numbers start at 1")),
+        Some(before) if number <= before => Err(format!(
+            "{what} {number} comes after {what} {before}; {what} numbers rise"
+        )),
+        _ => Ok(()),
+    }
+}
+
+fn check_count(what: &str, count: usize, most: usize) -> Result<(), String> {
+    if count < most {
+        return Ok(());
+    }
+    Err(format!("a book has at most {most} {what} lines"))
+}
+
+/// Spells a rating, which is kept in tenths, with its one decimal.
+pub fn in_tenths(rating: u32) -> String {
+    format!("{}.{}", rating / 10, rating % 10)
+}

@@ -1,0 +1,190 @@
+//! The 32 bytes of one line, by the offsets of docs/FORMAT.md.
+
+use crate::book::{Class, Fuel, Kind, Record, Unit, LINE};
+
+pub type Line = [u8; LINE];
+
+const SIGNATURE: [u8; 4] = *b"STCB";
+const VERSION: u16 = 1;
+const DELIVERY: u8 = 1;
+const HOUR: u8 = 2;
+const HEAT_MEASURED: u8 = 1;
+const CARBON_MEASURED: u8 = 2;
+
+pub struct Trailer {
+    pub unit_start: u32,
+    pub fuel_start: u32,
+    pub year: u16,
+}
+
+impl Trailer {
+    pub fn encode(&self) -> Line {
+        let mut line = [0; LINE];
+        line[..4].copy_from_slice(&SIGNATURE);
+        put16(&mut line, 4, VERSION);
+        put32(&mut line, 8, self.unit_start);
+        put32(&mut line, 12, self.fuel_start);
+        put16(&mut line, 16, self.year);
+        line
+    }
+
+    pub fn decode(line: &Line) -> Result<Trailer, String> {
+        let trailer = Trailer {
+            unit_start: get32(line, 8),
+            fuel_start: get32(line, 12),
+            year: get16(line, 16),
+        };
+        match first_difference(line, &trailer.encode()) {
+            None => Ok(trailer),
+            Some(0..=3) => Err("it doesn't start with STCB".to_string()),
+            Some(4..=5) => Err(format!("its version isn't {VERSION}")),
+            Some(at) => Err(must_be_zero(at)),
+        }
+    }
+}
+
+pub fn encode_unit(unit: &Unit) -> Line {
+    let mut line = [0; LINE];
+    put16(&mut line, 0, unit.number);
+    line[2] = u8::from(unit.monitor);
+    put32(&mut line, 4, unit.rating);
+    line
+}
+
+pub fn decode_unit(line: &Line) -> Result<Unit, String> {
+    let unit = Unit {
+        number: get16(line, 0),
+        rating: get32(line, 4),
+        monitor: line[2] & 1 == 1,
+    };
+    match first_difference(line, &encode_unit(&unit)) {
+        None => Ok(unit),
+        Some(at) => Err(must_be_zero(at)),
+    }
+}
+
+pub fn encode_fuel(fuel: &Fuel) -> Line {
+    let mut line = [0; LINE];
+    put16(&mut line, 0, fuel.number);
+    line[2] = fuel.kind as u8;
+    line[3] = fuel.class as u8;
+    put32(&mut line, 4, fuel.heat);
+    put32(&mut line, 8, fuel.co2);
+    put32(&mut line, 12, fuel.ch4);
+    put32(&mut line, 16, fuel.n2o);
+    line
+}
+
+pub fn decode_fuel(line: &Line) -> Result<Fuel, String> {
+    let kind = Kind::ALL.into_iter().find(|&kind| kind as u8 == line[2]);
+    let class = Class::ALL.into_iter().find(|&class| class as u8 == line[3]);
+    let fuel = Fuel {
+        number: get16(line, 0),
+        kind: kind.ok_or(format!("kind {} isn't from 1 to 3", line[2]))?,
+        class: class.ok_or(format!("class {} isn't from 0 to 3", line[3]))?,
+        heat: get32(line, 4),
+        co2: get32(line, 8),
+        ch4: get32(line, 12),
+        n2o: get32(line, 16),
+    };
+    match first_difference(line, &encode_fuel(&fuel)) {
+        None => Ok(fuel),
+        Some(at) => Err(must_be_zero(at)),
+    }
+}
+
+pub fn encode_record(record: &Record) -> Line {
+    let mut line = [0; LINE];
+    match *record {
+        Record::Delivery {
+            unit,
+            fuel,
+            month,
+            amount,
+            heat,
+            carbon,
+        } => {
+            line[0] = DELIVERY;
+            line[1] |= heat.map_or(0, |_| HEAT_MEASURED);
+            line[1] |= carbon.map_or(0, |_| CARBON_MEASURED);
+            put16(&mut line, 2, unit);
+            put16(&mut line, 4, fuel);
+            put16(&mut line, 6, month);
+            put32(&mut line, 8, amount);
+            put32(&mut line, 12, heat.unwrap_or(0));
+            put32(&mut line, 16, carbon.unwrap_or(0));
+        }
+        Record::Hour {
+            unit,
+            hour,
+            percent,
+            flow,
+        } => {
+            line[0] = HOUR;
+            put16(&mut line, 2, unit);
+            put16(&mut line, 6, hour);
+            put32(&mut line, 8, percent);
+            put32(&mut line, 12, flow);
+        }
+        Record::Raw(bytes) => line = bytes,
+    }
+    line
+}
+
+/// A record is said in words only if the words give back all of its bytes.
+pub fn decode_record(line: &Line) -> Record {
+    let in_words = match line[0] {
+        DELIVERY => decode_delivery(line),
+        HOUR => decode_hour(line),
+        _ => return Record::Raw(*line),
+    };
+    if encode_record(&in_words) == *line {
+        in_words
+    } else {
+        Record::Raw(*line)
+    }
+}
+
+fn decode_delivery(line: &Line) -> Record {
+    Record::Delivery {
+        unit: get16(line, 2),
+        fuel: get16(line, 4),
+        month: get16(line, 6),
+        amount: get32(line, 8),
+        heat: (line[1] & HEAT_MEASURED != 0).then(|| get32(line, 12)),
+        carbon: (line[1] & CARBON_MEASURED != 0).then(|| get32(line, 16)),
+    }
+}
+
+fn decode_hour(line: &Line) -> Record {
+    Record::Hour {
+        unit: get16(line, 2),
+        hour: get16(line, 6),
+        percent: get32(line, 8),
+        flow: get32(line, 12),
+    }
+}
+
+fn first_difference(line: &Line, allowed: &Line) -> Option<usize> {
+    (0..LINE).find(|&at| line[at] != allowed[at])
+}
+
+fn must_be_zero(at: usize) -> String {
+    format!("byte {at} of the line has a bit that must be 0")
+}
+
+fn get16(line: &Line, at: usize) -> u16 {
+    u16::from_le_bytes([line[at], line[at + 1]])
+}
+
+fn get32(line: &Line, at: usize) -> u32 {
+    u32::from_le_bytes([line[at], line[at + 1], line[at + 2], line[at + 3]])
+}
+
+fn put16(line: &mut Line, at: usize, value: u16) {
+    line[at..at + 2].copy_from_slice(&value.to_le_bytes());
+}
+
+fn put32(line: &mut Line, at: usize, value: u32) {
+    line[at..at + 4].copy_from_slice(&value.to_le_bytes());
+}

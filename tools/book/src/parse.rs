@@ -1,0 +1,151 @@
+//! A text for people, read into a book. The grammar stands in README.md beside this folder.
+
+use crate::book::{Book, Class, Fuel, Kind, Record, Unit};
+use crate::words::Words;
+
+/// What is wrong with a text, and at which of its lines, counting from 1.
+#[derive(Debug, PartialEq)]
+pub struct TextFault {
+    pub line: usize,
+    pub message: String,
+}
+
+pub fn parse(text: &[u8]) -> Result<Book, TextFault> {
+    let mut book = None;
+    let mut last = 1;
+    for (i, line) in text.split(|&byte| byte == b'\n').enumerate() {
+        last = i + 1;
+        parse_line(line, &mut book).map_err(|message| TextFault {
+            line: last,
+            message,
+        })?;
+    }
+    book.ok_or(TextFault {
+        line: last,
+        message: "the text ends and has said no year".to_string(),
+    })
+}
+
+fn parse_line(line: &[u8], book: &mut Option<Book>) -> Result<(), String> {
+    let line = std::str::from_utf8(line).map_err(|_| "this line isn't UTF-8 text")?;
+    let mut words = Words::of(line);
+    let Some(first) = words.next() else {
+        return Ok(());
+    };
+    match (first, book.as_mut()) {
+        ("year", None) => *book = Some(parse_year(&mut words)?),
+        ("year", Some(_)) => return Err("the year is said a second time".to_string()),
+        (_, None) => return Err(format!("the year comes first, before `{first}`")),
+        (_, Some(book)) => add_line(first, &mut words, book)?,
+    }
+    Ok(())
+}
+
+fn parse_year(words: &mut Words) -> Result<Book, String> {
+    let year = words.number16("year")?;
+    words.end()?;
+    Book::new(year)
+}
+
+fn add_line(first: &str, words: &mut Words, book: &mut Book) -> Result<(), String> {
+    match first {
+        "unit" => book.add_unit(parse_unit(words)?),
+        "fuel" => book.add_fuel(parse_fuel(words)?),
+        "delivery" => book.add_record(parse_delivery(words)?),
+        "hour" => book.add_record(parse_hour(words)?),
+        "raw" => book.add_record(parse_raw(words)?),
+        _ => Err(format!(
+            "no line starts with `{first}`; lines start with unit, fuel, delivery, hour or raw"
+        )),
+    }
+}
+
+fn parse_unit(words: &mut Words) -> Result<Unit, String> {
+    let number = words.number16("unit")?;
+    words.expect("rating")?;
+    let rating = words.tenths("rating")?;
+    let monitor = words.takes("monitor");
+    words.end()?;
+    Ok(Unit {
+        number,
+        rating,
+        monitor,
+    })
+}
+
+fn parse_fuel(words: &mut Words) -> Result<Fuel, String> {
+    let number = words.number16("fuel")?;
+    let kind = words.one_of(&Kind::ALL, Kind::word)?;
+    let class = words.one_of(&Class::ALL, Class::word)?;
+    let heat = number_if_said(words, "heat")?.unwrap_or(0);
+    let co2 = number_after(words, "co2")?;
+    let ch4 = number_after(words, "ch4")?;
+    let n2o = number_after(words, "n2o")?;
+    words.end()?;
+    Ok(Fuel {
+        number,
+        kind,
+        class,
+        heat,
+        co2,
+        ch4,
+        n2o,
+    })
+}
+
+fn parse_delivery(words: &mut Words) -> Result<Record, String> {
+    let unit = short_after(words, "unit")?;
+    let fuel = short_after(words, "fuel")?;
+    let month = short_after(words, "month")?;
+    let amount = number_after(words, "amount")?;
+    let heat = number_if_said(words, "heat")?;
+    let carbon = number_if_said(words, "carbon")?;
+    words.end()?;
+    Ok(Record::Delivery {
+        unit,
+        fuel,
+        month,
+        amount,
+        heat,
+        carbon,
+    })
+}
+
+fn parse_hour(words: &mut Words) -> Result<Record, String> {
+    let unit = short_after(words, "unit")?;
+    let hour = short_after(words, "hour")?;
+    words.expect("percent")?;
+    let percent = words.single("percent")?;
+    words.expect("flow")?;
+    let flow = words.single("flow")?;
+    words.end()?;
+    Ok(Record::Hour {
+        unit,
+        hour,
+        percent,
+        flow,
+    })
+}
+
+fn parse_raw(words: &mut Words) -> Result<Record, String> {
+    let bytes = words.raw_bytes("raw")?;
+    words.end()?;
+    Ok(Record::Raw(bytes))
+}
+
+fn short_after(words: &mut Words, name: &str) -> Result<u16, String> {
+    words.expect(name)?;
+    words.number16(name)
+}
+
+fn number_after(words: &mut Words, name: &str) -> Result<u32, String> {
+    words.expect(name)?;
+    words.number32(name)
+}
+
+fn number_if_said(words: &mut Words, name: &str) -> Result<Option<u32>, String> {
+    if !words.takes(name) {
+        return Ok(None);
+    }
+    words.number32(name).map(Some)
+}

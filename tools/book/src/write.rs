@@ -1,0 +1,67 @@
+//! The canonical text of a book: the year, the units, the fuels, the records, a line each.
+
+use crate::book::{in_tenths, Book, Fuel, Record, Unit};
+use crate::single;
+
+pub fn text(book: &Book) -> String {
+    let mut lines = vec![format!("year {}", book.year())];
+    lines.extend(book.units().iter().map(unit_line));
+    lines.extend(book.fuels().iter().map(fuel_line));
+    lines.extend(book.records().iter().map(record_line));
+    lines.join("\n") + "\n"
+}
+
+fn unit_line(unit: &Unit) -> String {
+    let monitor = if unit.monitor { " monitor" } else { "" };
+    format!(
+        "unit {} rating {}{monitor}",
+        unit.number,
+        in_tenths(unit.rating)
+    )
+}
+
+fn fuel_line(fuel: &Fuel) -> String {
+    let heat = match fuel.heat {
+        0 => String::new(),
+        heat => format!(" heat {heat}"),
+    };
+    format!(
+        "fuel {} {} {}{heat} co2 {} ch4 {} n2o {}",
+        fuel.number,
+        fuel.kind.word(),
+        fuel.class.word(),
+        fuel.co2,
+        fuel.ch4,
+        fuel.n2o
+    )
+}
+
+fn record_line(record: &Record) -> String {
+    match record {
+        Record::Delivery {
+            unit,
+            fuel,
+            month,
+            amount,
+            heat,
+            carbon,
+        } => {
+            let heat = heat.map_or(String::new(), |heat| format!(" heat {heat}"));
+            let carbon = carbon.map_or(String::new(), |carbon| format!(" carbon {carbon}"));
+            format!("delivery unit {unit} fuel {fuel} month {month} amount {amount}{heat}{carbon}")
+        }
+        Record::Hour {
+            unit,
+            hour,
+            percent,
+            flow,
+        } => {
+            let (percent, flow) = (single::spell(*percent), single::spell(*flow));
+            format!("hour unit {unit} hour {hour} percent {percent} flow {flow}")
+        }
+        Record::Raw(bytes) => {
+            let digits: String = bytes.iter().map(|byte| format!("{byte:02X}")).collect();
+            format!("raw {digits}")
+        }
+    }
+}

@@ -1,0 +1,283 @@
+//! Text to book and book to text, by the library on thousands of random books and by the program on
+//! files, and what is refused.
+
+#[path = "round_trip/bad_books.rs"]
+mod bad_books;
+#[path = "round_trip/bad_texts.rs"]
+mod bad_texts;
+#[path = "round_trip/dice.rs"]
+mod dice;
+#[path = "round_trip/program.rs"]
+mod program;
+#[path = "round_trip/random_books.rs"]
+mod random_books;
+#[path = "round_trip/random_lines.rs"]
+mod random_lines;
+
+use std::fs;
+use std::path::Path;
+
+use bad_books::{changed, sized, BYTES, TEXT};
+use bad_texts::{one_line_too_many, rows, BAD_AFTER_NO_YEAR, BAD_AFTER_SOUND, NO_YEAR, SOUND};
+use book::{pack, unpack};
+use dice::Dice;
+use program::{fresh_folder, names_in, refused, run};
+use random_books::{Sample, MOST_LINES};
+
+const BOOKS: usize = 3000;
+const SEED: u64 = 2010;
+
+fn each_random_book(mut visit: impl FnMut(Sample, &mut Dice)) {
+    let mut dice = Dice::new(SEED);
+    for _ in 0..BOOKS {
+        let sample = Sample::random(&mut dice);
+        visit(sample, &mut dice);
+    }
+}
+
+#[test]
+fn a_random_book_gives_its_text() {
+    each_random_book(|sample, _| assert_eq!(unpack(&sample.bytes()), Ok(sample.text())));
+}
+
+#[test]
+fn a_random_text_gives_its_book() {
+    each_random_book(|sample, _| assert_eq!(pack(sample.text().as_bytes()), Ok(sample.bytes())));
+}
+
+#[test]
+fn a_text_in_other_words_gives_the_same_book() {
+    each_random_book(|sample, dice| {
+        let text = sample.loose_text(dice);
+        assert_eq!(pack(text.as_bytes()), Ok(sample.bytes()), "{text}");
+    });
+}
+
+/// Every bit of a book is either said by its text or fixed by the rules.
+#[test]
+fn a_changed_byte_is_refused_or_said() {
+    let (mut said, mut refusals) = (0, 0);
+    each_random_book(|sample, dice| {
+        let mut bytes = sample.bytes();
+        let at = dice.below(bytes.len() as u64) as usize;
+        bytes[at] ^= 1 + dice.below(255) as u8;
+        match unpack(&bytes) {
+            Ok(text) => {
+                said += 1;
+                assert_ne!(text, sample.text());
+                assert_eq!(pack(text.as_bytes()), Ok(bytes));
+            }
+            Err(refusal) => {
+                refusals += 1;
+                let in_records = at < 32 * sample.records.len();
+                assert!(!in_records, "byte {at} of a record: {refusal}");
+            }
+        }
+    });
+    assert!(
+        said > 500 && refusals > 500,
+        "{said} said, {refusals} refused"
+    );
+}
+
+/// The tests above say little if the random books are poor.
+#[test]
+fn random_books_are_of_every_sort() {
+    let (mut no_records, mut full, mut no_units, mut most_units, mut most_fuels) = (0, 0, 0, 0, 0);
+    let starts = ["delivery ", "hour ", "raw 01", "raw 02", "raw FF"];
+    let mut records = [0; 5];
+    each_random_book(|sample, _| {
+        no_records += u32::from(sample.records.is_empty());
+        full += u32::from(sample.bytes().len() == 65_536);
+        no_units += u32::from(sample.units.is_empty());
+        most_units += u32::from(sample.units.len() == 64);
+        most_fuels += u32::from(sample.fuels.len() == 64);
+        for (count, start) in records.iter_mut().zip(starts) {
+            let said = sample.records.iter();
+            *count += said.filter(|said| said.words.starts_with(start)).count();
+        }
+    });
+    let books = [no_records, full, no_units, most_units, most_fuels];
+    assert!(books.iter().all(|&count| count >= 20), "{books:?}");
+    assert!(records.iter().all(|&count| count >= 1000), "{records:?}");
+}
+
+#[test]
+fn the_book_of_the_format_page_is_its_text() {
+    assert_eq!(unpack(&BYTES), Ok(TEXT.to_string()));
+    assert_eq!(pack(TEXT.as_bytes()), Ok(BYTES.to_vec()));
+}
+
+#[test]
+fn the_sample_book_is_its_text() {
+    let examples = Path::new(env!("CARGO_MANIFEST_DIR")).join("../../examples");
+    let text = fs::read(examples.join("plant.txt")).unwrap();
+    let book = fs::read(examples.join("plant.book")).unwrap();
+    assert_eq!(pack(&text).as_deref(), Ok(book.as_slice()));
+}
+
+#[test]
+fn the_program_turns_files_both_ways() {
+    let folder = fresh_folder("both_ways");
+    let [text, book, back] = ["plant.txt", "plant.book", "back.txt"].map(|name| folder.join(name));
+    fs::write(&text, format!("# a comment\n{TEXT}")).unwrap();
+    fs::write(&back, "an older text").unwrap();
+    // A second name of the old file shows that it is replaced and not written over.
+    let older = folder.join("older.txt");
+    fs::hard_link(&back, &older).unwrap();
+    for arguments in [
+        ["pack".as_ref(), &*text, &*book],
+        ["unpack".as_ref(), &*book, &*back],
+    ] {
+        let ended = run(&arguments);
+        assert_eq!((ended.status, ended.message.as_str()), (Some(0), ""));
+    }
+    assert_eq!(fs::read(&book).unwrap(), BYTES);
+    assert_eq!(fs::read_to_string(&back).unwrap(), TEXT);
+    assert_eq!(fs::read_to_string(&older).unwrap(), "an older text");
+    let names = ["back.txt", "older.txt", "plant.book", "plant.txt"];
+    assert_eq!(names_in(&folder), names);
+}
+
+#[test]
+fn wrong_arguments_get_the_usage() {
+    let folder = fresh_folder("wrong_arguments");
+    let (from, to) = (folder.join("from"), folder.join("to"));
+    fs::write(&from, TEXT).unwrap();
+    let wrong: [&[&Path]; 6] = [
+        &[],
+        &["pack".as_ref()],
+        &["pack".as_ref(), &from],
+        &["pack".as_ref(), &from, &to, &to],
+        &["print".as_ref(), &from, &to],
+        &["--help".as_ref()],
+    ];
+    for arguments in wrong {
+        let ended = run(arguments);
+        assert_eq!(ended.status, Some(2), "{arguments:?}");
+        assert_eq!(
+            ended.message,
+            "usage: book pack TEXT BOOK | book unpack BOOK TEXT\n"
+        );
+    }
+    assert_eq!(names_in(&folder), ["from"]);
+}
+
+#[test]
+fn a_file_that_cannot_be_read_or_written_is_named() {
+    let folder = fresh_folder("files");
+    let [text, missing, nested] = ["text", "missing", "none/book"].map(|name| folder.join(name));
+    fs::write(&text, TEXT).unwrap();
+    let cases = [
+        (&missing, &nested, &missing),
+        (&text, &nested, &nested),
+        (&text, &text, &text),
+    ];
+    for (from, to, named) in cases {
+        let ended = run(&["pack".as_ref(), from, to]);
+        assert_eq!(ended.status, Some(1), "{}", ended.message);
+        let start = format!("{}: ", named.display());
+        assert!(ended.message.starts_with(&start), "{}", ended.message);
+    }
+    let onto_folder = run(&["pack".as_ref(), &text, &folder]);
+    assert_eq!(onto_folder.status, Some(1));
+    assert!(onto_folder.message.ends_with("no plain file\n"));
+    assert_eq!(fs::read_to_string(&text).unwrap(), TEXT);
+    assert_eq!(names_in(&folder), ["text"]);
+}
+
+#[test]
+fn a_bad_line_is_refused_at_its_number() {
+    let folder = fresh_folder("bad_lines");
+    // Or a fault of the start would pass for one of the bad line.
+    assert!(pack(SOUND.as_bytes()).is_ok());
+    for (start, table) in [(NO_YEAR, BAD_AFTER_NO_YEAR), (SOUND, BAD_AFTER_SOUND)] {
+        for (bad, words) in rows(table) {
+            let text = format!("{start}{bad} # why\n# more\n");
+            let message = refused(&folder, "pack", text.as_bytes());
+            assert!(message.starts_with(":4: "), "{bad}: {message}");
+            assert!(message.contains(words), "{bad}: {message}");
+        }
+    }
+}
+
+#[test]
+fn a_text_without_a_year_is_refused_at_its_end() {
+    let folder = fresh_folder("no_year");
+    for (text, line) in [("", 1), ("# nothing", 1), ("\n# nothing\n\n", 4)] {
+        let message = refused(&folder, "pack", text.as_bytes());
+        assert_eq!(
+            message,
+            format!(":{line}: the text ends and has said no year")
+        );
+    }
+}
+
+#[test]
+fn a_line_that_is_no_text_is_refused_at_its_number() {
+    let folder = fresh_folder("no_text");
+    let message = refused(&folder, "pack", b"year 2010\n# caf\xe9\n");
+    assert_eq!(message, ":2: this line isn't UTF-8 text");
+}
+
+#[test]
+fn a_line_too_many_is_refused_at_its_number() {
+    let folder = fresh_folder("line_too_many");
+    for (text, line, words) in one_line_too_many() {
+        let message = refused(&folder, "pack", text.as_bytes());
+        assert!(message.starts_with(&format!(":{line}: ")), "{message}");
+        assert!(message.contains(words), "{message}");
+        let one_less: Vec<&str> = text.lines().take(line - 1).collect();
+        assert!(pack(one_less.join("\n").as_bytes()).is_ok(), "{words}");
+    }
+}
+
+#[test]
+fn an_unsound_book_is_refused_with_its_number() {
+    let folder = fresh_folder("bad_books");
+    for (bytes, number, words) in changed() {
+        let message = refused(&folder, "unpack", &bytes);
+        assert!(
+            message.starts_with(&format!(": refused {number}: ")),
+            "{words}: {message}"
+        );
+        assert!(message.contains(words), "{words}: {message}");
+    }
+    // Of two faults the smaller number is told.
+    let mut twice = BYTES;
+    (twice[66], twice[34]) = (0, 2);
+    assert!(refused(&folder, "unpack", &twice).starts_with(": refused 22: "));
+}
+
+#[test]
+fn a_book_of_bad_size_is_refused_with_its_number() {
+    let folder = fresh_folder("bad_sizes");
+    for (records, units, fuels) in [(0, 0, 0), (MOST_LINES, 0, 0), (0, 64, 64)] {
+        assert!(unpack(&sized(records, units, fuels)).is_ok());
+    }
+    let cases = [
+        (vec![], 20, "0 bytes are no book"),
+        (BYTES[..31].to_vec(), 20, "31 bytes are no book"),
+        (BYTES[1..].to_vec(), 20, "127 bytes are no book"),
+        (sized(MOST_LINES + 1, 0, 0), 20, "65568 bytes are no book"),
+        (
+            sized(1, 65, 0),
+            22,
+            "unit line 65 at byte 2080: a book has at most 64 unit lines",
+        ),
+        (
+            sized(1, 0, 65),
+            23,
+            "fuel line 65 at byte 2080: a book has at most 64 fuel lines",
+        ),
+        (sized(0, 65, 65), 22, "unit line 65"),
+    ];
+    for (bytes, number, words) in cases {
+        let message = refused(&folder, "unpack", &bytes);
+        assert!(
+            message.starts_with(&format!(": refused {number}: ")),
+            "{message}"
+        );
+        assert!(message.contains(words), "{message}");
+    }
+}

@@ -1,0 +1,127 @@
+//! Texts that are refused: the bad line, and words that the message must have.
+
+/// What a text starts with before the year is said.
+pub const NO_YEAR: &str = "# a comment\n\n\n";
+
+/// A sound start, of as many lines.
+pub const SOUND: &str = "year 2010\nunit 5 rating 1\nfuel 5 gas other co2 1 ch4 0 n2o 0\n";
+
+pub const BAD_AFTER_NO_YEAR: &str = "
+unit 1 rating 1.0 => the year comes first, before `unit`
+year 1999 => year 1999 isn't from 2000 to 2099
+year 2100 => year 2100 isn't from 2000 to 2099
+year 67546 => year 67546 is too large
+year => `year` is followed by nothing
+year twenty => plain digits, not by `twenty`
+year +2010 => plain digits, not by `+2010`
+year 2010 2011 => `2011` is one word too many
+";
+
+pub const BAD_AFTER_SOUND: &str = "
+year 2010 => the year is said a second time
+unti 6 rating 1.0 => no line starts with `unti`
+Unit 6 rating 1.0 => no line starts with `Unit`
+
+unit 0 rating 1.0 => unit numbers start at 1
+unit 5 rating 1.0 => unit 5 comes after unit 5; unit numbers rise
+unit 3 rating 1.0 => unit 3 comes after unit 5; unit numbers rise
+unit 65536 rating 1.0 => unit 65536 is too large
+unit => `unit` is followed by nothing
+unit 6 => `rating` is missing
+unit 6 rating => `rating` is followed by nothing
+unit 6 monitor => `rating` should stand where `monitor` does
+unit 6 rating 0 => unit 6 has rating 0.0; a rating is from 0.1 to 10000.0
+unit 6 rating 10000.1 => unit 6 has rating 10000.1
+unit 6 rating 429496729.6 => rating 429496729.6 is too large
+unit 6 rating 250.05 => one decimal or none, not by `250.05`
+unit 6 rating 250. => one decimal or none, not by `250.`
+unit 6 rating .5 => one decimal or none, not by `.5`
+unit 6 rating -1.0 => one decimal or none, not by `-1.0`
+unit 6 rating 1.0 monitr => `monitr` is one word too many
+unit 6 rating 1.0 monitor 2 => `2` is one word too many
+
+fuel 0 gas other co2 1 ch4 0 n2o 0 => fuel numbers start at 1
+fuel 5 gas other co2 1 ch4 0 n2o 0 => fuel 5 comes after fuel 5; fuel numbers rise
+fuel 4 gas other co2 1 ch4 0 n2o 0 => fuel 4 comes after fuel 5; fuel numbers rise
+fuel 65536 gas other co2 1 ch4 0 n2o 0 => fuel 65536 is too large
+fuel 6 plasma other co2 1 ch4 0 n2o 0 => `plasma` is none of solid, liquid, gas
+fuel 6 gas coal co2 1 ch4 0 n2o 0 => `coal` is none of other, natural-gas, distillate-oil, pure-
+fuel 6 gas => the line ends without one of other, natural-gas
+fuel 6 liquid natural-gas co2 1 ch4 0 n2o 0 => can't be natural-gas, since it is liquid
+fuel 6 solid natural-gas co2 1 ch4 0 n2o 0 => can't be natural-gas, since it is solid
+fuel 6 solid distillate-oil co2 1 ch4 0 n2o 0 => can't be distillate-oil, since it is solid
+fuel 6 gas distillate-oil co2 1 ch4 0 n2o 0 => can't be distillate-oil, since it is gas
+fuel 6 liquid pure-biomass co2 1 ch4 0 n2o 0 => can't be pure-biomass, since it is liquid
+fuel 6 gas pure-biomass co2 1 ch4 0 n2o 0 => can't be pure-biomass, since it is gas
+fuel 6 gas other heat 200001 co2 1 ch4 0 n2o 0 => heat 200001; its heat is from 0 to 200000
+fuel 6 gas other co2 0 ch4 0 n2o 0 => fuel 6 has co2 0; its co2 is from 1 to 200000
+fuel 6 gas other co2 200001 ch4 0 n2o 0 => fuel 6 has co2 200001
+fuel 6 gas other co2 1 ch4 200001 n2o 0 => ch4 200001; its ch4 is from 0 to 200000
+fuel 6 gas other co2 1 ch4 0 n2o 200001 => n2o 200001; its n2o is from 0 to 200000
+fuel 6 gas other co2 4294967296 ch4 0 n2o 0 => co2 4294967296 is too large
+fuel 6 gas other ch4 0 co2 1 n2o 0 => `co2` should stand where `ch4` does
+fuel 6 gas other co2 1 ch4 0 => `n2o` is missing
+fuel 6 gas other co2 1 ch4 0 n2o 0 0 => `0` is one word too many
+
+delivery fuel 1 unit 1 month 1 amount 1 => `unit` should stand where `fuel` does
+delivery unit 65536 fuel 1 month 1 amount 1 => unit 65536 is too large
+delivery unit 1 fuel 65536 month 1 amount 1 => fuel 65536 is too large
+delivery unit 1 fuel 1 month 65536 amount 1 => month 65536 is too large
+delivery unit 1 fuel 1 month 1 amount 4294967296 => amount 4294967296 is too large
+delivery unit 1 fuel 1 month 1 amount 1,000 => plain digits, not by `1,000`
+delivery unit 1 fuel 1 month 1 amount -1 => plain digits, not by `-1`
+delivery unit 1 fuel 1 month 1 => `amount` is missing
+delivery unit 1 fuel 1 month 1 amount 1 heat => `heat` is followed by nothing
+delivery unit 1 fuel 1 month 1 amount 1 heat 4294967296 => heat 4294967296 is too large
+delivery unit 1 fuel 1 month 1 amount 1 carbon 2 heat 3 => `heat` is one word too many
+
+hour unit 65536 hour 1 percent 1 flow 1 => unit 65536 is too large
+hour unit 1 hour 65536 percent 1 flow 1 => hour 65536 is too large
+hour unit 1 hour 1 flow 1 percent 1 => `percent` should stand where `flow` does
+hour unit 1 hour 1 percent 1 => `flow` is missing
+hour unit 1 hour 1 percent nan flow 1 => `nan` is no decimal number
+hour unit 1 hour 1 percent inf flow 1 => `inf` is no decimal number
+hour unit 1 hour 1 percent 1e39 flow 1 => 1e39 is too large for a single
+hour unit 1 hour 1 percent -1e39 flow 1 => -1e39 is too large for a single
+hour unit 1 hour 1 percent 1e-60 flow 1 => 1e-60 is too close to 0
+hour unit 1 hour 1 percent -1e-60 flow 1 => -1e-60 is too close to 0
+hour unit 1 hour 1 percent -0.0 flow 1 => `bits 80000000` is minus zero
+hour unit 1 hour 1 percent 1 flow bits => `bits` is followed by nothing
+hour unit 1 hour 1 percent 1 flow bits 7FC0000 => 8 hex digits, not by `7FC0000`
+hour unit 1 hour 1 percent 1 flow bits 07FC00000 => 8 hex digits, not by `07FC00000`
+hour unit 1 hour 1 percent 1 flow bits +7FC0000 => 8 hex digits, not by `+7FC0000`
+hour unit 1 hour 1 percent 1 flow bits 7FC0000G => 8 hex digits, not by `7FC0000G`
+hour unit 1 hour 1 percent 1 flow 1 2 => `2` is one word too many
+
+raw => `raw` is followed by nothing
+raw 000000000000000000000000000000000000000000000000000000000000000 => followed by 64 hex digits
+raw 00000000000000000000000000000000000000000000000000000000000000000 => followed by 64 hex digits
+raw 000000000000000000000000000000000000000000000000000000000000000G => followed by 64 hex digits
+raw 0000000000000000000000000000000000000000000000000000000000000000 0 => `0` is one word too many
+";
+
+/// Gives the bad lines of a table, each with the words of its message.
+pub fn rows(table: &'static str) -> impl Iterator<Item = (&'static str, &'static str)> {
+    let rows = table.lines().filter(|row| !row.is_empty());
+    rows.map(|row| row.split_once(" => ").unwrap())
+}
+
+/// Gives texts whose last line is one too many: the text, the line's number, words of the message.
+pub fn one_line_too_many() -> [(String, usize, &'static str); 3] {
+    let numbered = |line: fn(usize) -> String, count| {
+        let lines: Vec<String> = (1..=count).map(line).collect();
+        format!("year 2010\n{}\n", lines.join("\n"))
+    };
+    let unit = |number| format!("unit {number} rating 1");
+    let fuel = |number| format!("fuel {number} gas other co2 1 ch4 0 n2o 0");
+    let hour = |number| format!("hour unit 1 hour {number} percent 1 flow 1");
+    [
+        (numbered(unit, 65), 66, "at most 64 unit lines"),
+        (numbered(fuel, 65), 66, "at most 64 fuel lines"),
+        (
+            numbered(hour, 2048),
+            2049,
+            "the book is full: its 65536 bytes hold 2047",
+        ),
+    ]
+}

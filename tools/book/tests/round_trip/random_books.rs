@@ -1,0 +1,97 @@
+//! Random sound books, as bytes, as canonical text and as a text that a person might write.
+
+use crate::dice::Dice;
+use crate::random_lines::{fuel, unit, Said, SORTS};
+
+pub const MOST_LINES: usize = 65_536 / 32 - 1;
+
+pub struct Sample {
+    pub year: u64,
+    pub units: Vec<Said>,
+    pub fuels: Vec<Said>,
+    pub records: Vec<Said>,
+}
+
+impl Sample {
+    pub fn random(dice: &mut Dice) -> Sample {
+        let units = rising(unit, dice);
+        let fuels = rising(fuel, dice);
+        let room = MOST_LINES - units.len() - fuels.len();
+        let records = match dice.below(100) {
+            0..=9 => 0,
+            10 => room,
+            _ => dice.below(40) as usize,
+        };
+        Sample {
+            year: dice.within(2000, 2099),
+            units,
+            fuels,
+            records: (0..records).map(|_| dice.pick(&SORTS)(dice)).collect(),
+        }
+    }
+
+    pub fn bytes(&self) -> Vec<u8> {
+        let unit_start = self.records.len() * 32;
+        let fuel_start = unit_start + self.units.len() * 32;
+        let lines = self.records.iter().chain(&self.units).chain(&self.fuels);
+        let mut bytes: Vec<u8> = lines.flat_map(|said| said.line).collect();
+        bytes.extend(b"STCB\x01\0\0\0");
+        bytes.extend((unit_start as u32).to_le_bytes());
+        bytes.extend((fuel_start as u32).to_le_bytes());
+        bytes.extend((self.year as u16).to_le_bytes());
+        bytes.extend([0; 14]);
+        bytes
+    }
+
+    pub fn text(&self) -> String {
+        let mut text = format!("year {}\n", self.year);
+        for said in self.units.iter().chain(&self.fuels).chain(&self.records) {
+            text += &format!("{}\n", said.words);
+        }
+        text
+    }
+
+    /// Mixes units, fuels and records, each kept in its order, and says them carelessly.
+    pub fn loose_text(&self, dice: &mut Dice) -> String {
+        let mut waiting = [self.units.iter(), self.fuels.iter(), self.records.iter()];
+        let mut text = loose_line(&format!("year {}", self.year), dice);
+        while waiting.iter().any(|queue| queue.len() > 0) {
+            if let Some(said) = waiting[dice.below(3) as usize].next() {
+                let words = dice.pick(&[&said.words, &said.loosely]);
+                text += &loose_line(words, dice);
+            }
+        }
+        text += dice.pick(&["", "\n", "# the end, without a newline", "\t"]);
+        text
+    }
+}
+
+fn loose_line(words: &str, dice: &mut Dice) -> String {
+    let before = dice.pick(&[
+        "",
+        "\n",
+        "# a comment: unit 7 rating 1.0\n",
+        "  \t\n\n",
+        "    ",
+    ]);
+    let gap = dice.pick(&[" ", "  ", "\t", " \t "]);
+    let after = dice.pick(&["", " ", "\r", "# close", "  # naïve µg # again"]);
+    let spaced: Vec<&str> = words.split(' ').collect();
+    format!("{before}{}{after}\n", spaced.join(gap))
+}
+
+/// Gives at most 64 lines, whose numbers rise by 1 to 1,000 and may end at the highest, 65,535.
+fn rising(line: fn(u16, &mut Dice) -> Said, dice: &mut Dice) -> Vec<Said> {
+    let many = dice.below(65);
+    let count = dice.pick(&[0, 1, 2, 3, 64, many]);
+    let mut number = 0;
+    let mut lines = Vec::new();
+    for place in 1..=count {
+        number += dice.within(1, 1000) as u16;
+        if place == count && dice.one_in(4) {
+            number = u16::MAX;
+        }
+        lines.push(line(number, dice));
+    }
+    lines
+}

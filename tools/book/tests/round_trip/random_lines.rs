@@ -1,0 +1,220 @@
+//! Random lines of a book, each with the words that say it. Bytes and words are put together here
+//! from docs/FORMAT.md and README.md, so that the program is compared with something else.
+
+use crate::dice::Dice;
+
+pub struct Said {
+    pub line: [u8; 32],
+    /// The canonical words.
+    pub words: String,
+    /// Other words for the same line.
+    pub loosely: String,
+}
+
+/// Every sort of record that a book can hold; the last six can't be said in words.
+pub const SORTS: [fn(&mut Dice) -> Said; 8] = [
+    delivery,
+    hour,
+    unknown_kind,
+    unknown_flags,
+    heat_unflagged,
+    carbon_unflagged,
+    delivery_with_tail,
+    hour_with_stray_byte,
+];
+
+/// Bits and spellings, some of which stand at the borders of a rule.
+const READINGS: [(u32, &str); 19] = [
+    (0x0000_0000, "0"),
+    (0x8000_0000, "bits 80000000"),
+    (0x7F80_0000, "bits 7F800000"),
+    (0xFF80_0000, "bits FF800000"),
+    (0x7FC0_0000, "bits 7FC00000"),
+    (0x7F80_0001, "bits 7F800001"),
+    (0x0000_0001, "1e-45"),
+    (0x8000_0001, "-1e-45"),
+    (0x0080_0000, "1.1754944e-38"),
+    (0x7F7F_FFFF, "3.4028235e38"),
+    (0x3727_C5AC, "0.00001"),
+    (0x3727_C5AB, "9.999999e-6"),
+    (0x3DCC_CCCD, "0.1"),
+    (0x4148_0000, "12.5"),
+    (0x42C8_0001, "100.00001"),
+    (0xBF80_0000, "-1"),
+    (0x49F4_2400, "2000000"),
+    (0x4E6E_6B28, "1000000000"),
+    (0x5015_02F9, "1e10"),
+];
+
+pub fn unit(number: u16, dice: &mut Dice) -> Said {
+    let rating = dice.within(1, 100_000);
+    let monitor = dice.one_in(2);
+    let mut line = [0; 32];
+    put(&mut line, 0, 2, number.into());
+    put(&mut line, 2, 1, monitor.into());
+    put(&mut line, 4, 4, rating);
+    let (whole, tenth) = (rating / 10, rating % 10);
+    let shortest = match tenth {
+        0 => format!("{whole}"),
+        _ => format!("0{whole}.{tenth}"),
+    };
+    let end = if monitor { " monitor" } else { "" };
+    Said {
+        line,
+        words: format!("unit {number} rating {whole}.{tenth}{end}"),
+        loosely: format!("unit 0{number} rating {shortest}{end}"),
+    }
+}
+
+pub fn fuel(number: u16, dice: &mut Dice) -> Said {
+    let (kind, class, kind_and_class) = dice.pick(&[
+        (1, 0, "solid other"),
+        (2, 0, "liquid other"),
+        (3, 0, "gas other"),
+        (3, 1, "gas natural-gas"),
+        (2, 2, "liquid distillate-oil"),
+        (1, 3, "solid pure-biomass"),
+    ]);
+    let heat = dice.within(0, 200_000);
+    let co2 = dice.within(1, 200_000);
+    let ch4 = dice.within(0, 200_000);
+    let n2o = dice.within(0, 200_000);
+    let mut line = [0; 32];
+    put(&mut line, 0, 2, number.into());
+    put(&mut line, 2, 1, kind);
+    put(&mut line, 3, 1, class);
+    for (at, value) in [(4, heat), (8, co2), (12, ch4), (16, n2o)] {
+        put(&mut line, at, 4, value);
+    }
+    let factors = format!("co2 {co2} ch4 {ch4} n2o {n2o}");
+    let with_heat = format!("fuel {number} {kind_and_class} heat {heat} {factors}");
+    let words = match heat {
+        0 => format!("fuel {number} {kind_and_class} {factors}"),
+        _ => with_heat.clone(),
+    };
+    Said {
+        line,
+        words,
+        loosely: with_heat,
+    }
+}
+
+fn delivery(dice: &mut Dice) -> Said {
+    let mut line = [0; 32];
+    line[0] = 1;
+    let mut words = "delivery".to_string();
+    for (name, at) in [("unit", 2), ("fuel", 4), ("month", 6)] {
+        let value = dice.within(0, 65_535);
+        put(&mut line, at, 2, value);
+        words += &format!(" {name} {value}");
+    }
+    let amount = dice.within(0, u32::MAX.into());
+    put(&mut line, 8, 4, amount);
+    words += &format!(" amount {amount}");
+    for (name, at, flag) in [("heat", 12, 1), ("carbon", 16, 2)] {
+        if dice.one_in(2) {
+            let value = dice.within(0, u32::MAX.into());
+            line[1] |= flag;
+            put(&mut line, at, 4, value);
+            words += &format!(" {name} {value}");
+        }
+    }
+    said(line, words)
+}
+
+fn hour(dice: &mut Dice) -> Said {
+    let unit = dice.within(0, 65_535);
+    let hour = dice.within(0, 65_535);
+    let (percent, percent_words) = reading(dice);
+    let (flow, flow_words) = reading(dice);
+    let mut line = [0; 32];
+    line[0] = 2;
+    put(&mut line, 2, 2, unit);
+    put(&mut line, 6, 2, hour);
+    put(&mut line, 8, 4, percent.into());
+    put(&mut line, 12, 4, flow.into());
+    let words = format!("hour unit {unit} hour {hour} percent {percent_words} flow {flow_words}");
+    said(line, words)
+}
+
+/// Quarters below 2^14 and whole numbers below 2^23 lie so far from their neighbours' decimals that
+/// all of their digits are needed, and so are known without asking for a shortest spelling.
+fn reading(dice: &mut Dice) -> (u32, String) {
+    let quarters = dice.below(1 << 16) as u32;
+    let fraction = ["", ".25", ".5", ".75"][quarters as usize % 4];
+    let whole = dice.below(1 << 23) as u32;
+    let nan = 0x7F80_0001 + dice.below(0x007F_FFFF) as u32;
+    let negative_nan = nan | 0x8000_0000;
+    let (bits, spelling) = dice.pick(&READINGS);
+    match dice.below(5) {
+        0 => (bits, spelling.to_string()),
+        1 => (nan, format!("bits {nan:08X}")),
+        2 => (negative_nan, format!("bits {negative_nan:08X}")),
+        3 => ((whole as f32).to_bits(), whole.to_string()),
+        _ => (
+            (quarters as f32 / 4.0).to_bits(),
+            format!("{}{fraction}", quarters / 4),
+        ),
+    }
+}
+
+fn unknown_kind(dice: &mut Dice) -> Said {
+    let mut line = std::array::from_fn(|_| dice.next() as u8);
+    line[0] = dice.pick(&[0, 3, 4, 128, 255]);
+    raw(line)
+}
+
+fn unknown_flags(dice: &mut Dice) -> Said {
+    let mut line = delivery(dice).line;
+    line[1] |= dice.pick(&[4, 8, 128]);
+    raw(line)
+}
+
+fn heat_unflagged(dice: &mut Dice) -> Said {
+    let mut line = delivery(dice).line;
+    line[1] &= 2;
+    line[dice.pick(&[12, 13, 14, 15])] = 1 + dice.below(255) as u8;
+    raw(line)
+}
+
+fn carbon_unflagged(dice: &mut Dice) -> Said {
+    let mut line = delivery(dice).line;
+    line[1] &= 1;
+    line[dice.pick(&[16, 17, 18, 19])] = 1 + dice.below(255) as u8;
+    raw(line)
+}
+
+fn delivery_with_tail(dice: &mut Dice) -> Said {
+    let mut line = delivery(dice).line;
+    line[20 + dice.below(12) as usize] = 1 + dice.below(255) as u8;
+    raw(line)
+}
+
+fn hour_with_stray_byte(dice: &mut Dice) -> Said {
+    let mut line = hour(dice).line;
+    let tail = 16 + dice.below(16) as usize;
+    line[dice.pick(&[1, 4, 5, tail])] = 1 + dice.below(255) as u8;
+    raw(line)
+}
+
+fn said(line: [u8; 32], words: String) -> Said {
+    let loosely = raw(line).loosely;
+    Said {
+        line,
+        words,
+        loosely,
+    }
+}
+
+fn raw(line: [u8; 32]) -> Said {
+    let digits: String = line.iter().map(|byte| format!("{byte:02X}")).collect();
+    Said {
+        line,
+        words: format!("raw {digits}"),
+        loosely: format!("raw {}", digits.to_lowercase()),
+    }
+}
+
+fn put(line: &mut [u8; 32], at: usize, size: usize, value: u64) {
+    line[at..at + size].copy_from_slice(&value.to_le_bytes()[..size]);
+}
