@@ -1,0 +1,20 @@
+//! Group 2: books at every edge that the requirements draw, and random ones.
+
+mod decisions;
+mod limits;
+mod methods;
+mod readings;
+mod sizes;
+
+use crate::exchange::{Exchange, Outcome};
+use crate::random::Random;
+use crate::random_books;
+
+pub fn run(exchange: &mut Exchange, rng: &mut Random) -> Outcome<()> {
+    limits::run(exchange, rng)?;
+    methods::run(exchange, rng)?;
+    decisions::run(exchange, rng)?;
+    readings::run(exchange, rng)?;
+    sizes::run(exchange, rng)?;
+    random_books::run(exchange, rng)
+}

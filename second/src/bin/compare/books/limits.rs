@@ -1,0 +1,143 @@
+//! Every field of every line at its limits and one past each.
+
+use crate::draft::{put, Draft, Line};
+use crate::exchange::{Exchange, Outcome};
+use crate::job;
+use crate::random::Random;
+use crate::sample::small_book;
+
+/// A field: where it lies, how many bytes it has, and the ends of its range.
+struct Field {
+    place: usize,
+    width: usize,
+    ends: &'static [u32],
+}
+
+const fn field(place: usize, width: usize, ends: &'static [u32]) -> Field {
+    Field { place, width, ends }
+}
+
+/// Starts about those of the sample: four records, two units, three fuels.
+const TRAILER: [Field; 6] = [
+    field(0, 4, &[0x4243_5453]),
+    field(4, 2, &[1]),
+    field(6, 2, &[0]),
+    field(8, 4, &[32 * 4, 32 * 5, 32 * 6, 32 * 9, 65_536]),
+    field(12, 4, &[32 * 3, 32 * 4, 32 * 6, 32 * 9, 32 * 10]),
+    field(16, 2, &[2000, 2099]),
+];
+
+const UNIT: [Field; 4] = [
+    field(0, 2, &[0, 1, 2, 3, 65_535]),
+    field(2, 1, &[0, 1, 255]),
+    field(3, 1, &[0]),
+    field(4, 4, &[1, 2_500, 100_000, u32::MAX]),
+];
+
+const FUEL: [Field; 7] = [
+    field(0, 2, &[0, 1, 2, 3, 65_535]),
+    field(2, 1, &[1, 2, 3, 255]),
+    field(3, 1, &[0, 1, 2, 3, 255]),
+    field(4, 4, &[0, 200_000, u32::MAX]),
+    field(8, 4, &[1, 200_000, u32::MAX]),
+    field(12, 4, &[0, 200_000, u32::MAX]),
+    field(16, 4, &[0, 200_000, u32::MAX]),
+];
+
+const FUEL_RECORD: [Field; 8] = [
+    field(0, 1, &[1, 2, 255]),
+    field(1, 1, &[0, 1, 2, 3, 255]),
+    field(2, 2, &[0, 1, 2, 3, 65_535]),
+    field(4, 2, &[0, 1, 2, 3, 65_535]),
+    field(6, 2, &[1, 12, 65_535]),
+    field(8, 4, &[0, 100_000_000, u32::MAX]),
+    field(12, 4, &[0, 1, 200_000, u32::MAX]),
+    field(16, 4, &[0, 1_000_000, 4_000_000, u32::MAX]),
+];
+
+const HOUR: [Field; 5] = [
+    field(0, 1, &[2]),
+    field(1, 1, &[0]),
+    field(2, 2, &[0, 1, 2, 3]),
+    field(4, 2, &[0]),
+    field(6, 2, &[1, 8_784, 65_535]),
+];
+
+impl Field {
+    /// The ends themselves and their neighbours on either side.
+    fn values(&self) -> impl Iterator<Item = u32> {
+        let neighbours = |&end: &u32| [end.wrapping_sub(1), end, end.wrapping_add(1)];
+        self.ends.iter().flat_map(neighbours)
+    }
+
+    fn set(&self, bytes: &mut [u8], value: u32) {
+        put(bytes, self.place, &value.to_le_bytes()[..self.width]);
+    }
+}
+
+pub fn run(exchange: &mut Exchange, rng: &mut Random) -> Outcome<()> {
+    let base = small_book();
+    let units = base.records.len();
+    let fuels = units + base.units.len();
+    let trailer = fuels + base.fuels.len();
+    let places: [(&str, &[Field], std::ops::Range<usize>); 5] = [
+        ("limits in fuel records", &FUEL_RECORD, 0..3),
+        ("limits in monitor hours", &HOUR, 3..4),
+        ("limits in unit lines", &UNIT, units..fuels),
+        ("limits in fuel lines", &FUEL, fuels..trailer),
+        ("limits in the trailer", &TRAILER, trailer..trailer + 1),
+    ];
+    for (name, fields, lines) in places {
+        exchange.case(name);
+        for line in lines {
+            vary(exchange, rng, &base, fields, line)?;
+        }
+    }
+    exchange.case("every pair of limits in one fuel record");
+    pairs(exchange, &base)
+}
+
+fn vary(
+    exchange: &mut Exchange,
+    rng: &mut Random,
+    base: &Draft,
+    fields: &[Field],
+    line: usize,
+) -> Outcome<()> {
+    for field in fields {
+        for value in field.values() {
+            let mut book = base.bytes();
+            field.set(&mut book[32 * line..32 * line + 32], value);
+            job::everything(exchange, rng, &book, base.records.len())?;
+        }
+    }
+    Ok(())
+}
+
+/// Two fields wrong at once show which reason comes first.
+fn pairs(exchange: &mut Exchange, base: &Draft) -> Outcome<()> {
+    for (first, one) in FUEL_RECORD.iter().enumerate() {
+        for other in &FUEL_RECORD[first + 1..] {
+            let records = pair_records(base.records[0], one, other);
+            let draft = Draft {
+                records,
+                ..base.clone()
+            };
+            job::records(exchange, &draft.bytes(), draft.records.len())?;
+        }
+    }
+    Ok(())
+}
+
+fn pair_records(line: Line, one: &Field, other: &Field) -> Vec<Line> {
+    let mut records = Vec::new();
+    for value in one.values() {
+        for other_value in other.values() {
+            let mut record = line;
+            one.set(&mut record, value);
+            other.set(&mut record, other_value);
+            records.push(record);
+        }
+    }
+    records
+}

@@ -1,0 +1,157 @@
+//! Each group can fail: wrong programs are caught, and by which groups.
+
+use std::io::{self, Read, Write};
+use std::thread;
+use std::time::Duration;
+
+use second::answer::{answer, Answer, Frame};
+use second::replay::serve;
+
+use crate::link::Connection;
+use crate::run::{Run, Settings};
+use crate::{counts, run_group, wrong_peers, Group, GROUPS};
+
+type Peer = fn(&Frame) -> Answer;
+
+/// Another program within this one, joined by pipes.
+fn connect<F>(program: F) -> io::Result<Connection>
+where
+    F: FnOnce(io::PipeReader, io::PipeWriter) -> io::Result<()> + Send + 'static,
+{
+    let (their_input, our_output) = io::pipe()?;
+    let (our_input, their_output) = io::pipe()?;
+    // A wrong program may end with a broken pipe; what it answered counts.
+    thread::spawn(move || program(their_input, their_output));
+    Ok(Connection {
+        input: Box::new(our_output),
+        output: Box::new(our_input),
+        child: None,
+    })
+}
+
+fn peer(answering: Peer) -> io::Result<Connection> {
+    connect(move |input, output| serve(input, output, answering))
+}
+
+fn new_run() -> Run {
+    Run::new(Settings {
+        patience: Duration::from_secs(20),
+        failures_folder: std::env::temp_dir().join("second-failures-of-wrong-peers"),
+        ..Settings::default()
+    })
+}
+
+/// The groups in which a peer fails.
+fn caught_by(answering: Peer) -> Vec<&'static str> {
+    let fails = |&(name, group): &(&'static str, Group)| {
+        let mut run = new_run();
+        run_group(&mut run, name, group, peer(answering));
+        (run.failed > 0).then_some(name)
+    };
+    GROUPS.iter().filter_map(fails).collect()
+}
+
+/// One test for each wrong peer: exactly these groups catch it.
+macro_rules! caught {
+    ($($peer:ident by $groups:expr;)*) => {
+        $(
+            #[test]
+            fn $peer() {
+                assert_eq!(caught_by(wrong_peers::$peer), $groups);
+            }
+        )*
+    };
+}
+
+const ALL: [&str; 5] = ["worked", "books", "damage", "histories", "public-figures"];
+
+caught! {
+    rounds_each_record_to_kilograms by ALL;
+    falls_back_to_method_1 by ["worked", "books", "damage", "histories"];
+    counts_fuel_co2_of_a_monitored_unit by ["books", "damage", "histories", "public-figures"];
+    multiplies_in_single_precision by ["books", "damage", "histories"];
+    compares_rounded_co2e by ["books", "histories"];
+    rounds_halves_of_r_upward by ["worked", "books", "damage", "histories"];
+    takes_a_thousandfold_in_double_precision by ["books"];
+    takes_minus_zero_for_less_than_zero by ["books", "histories"];
+    turns_carbon_into_co2_by_44_over_12 by ALL;
+    subtracts_all_biomass_always by ALL;
+    warms_by_25_for_ch4 by ["books", "damage", "histories", "public-figures"];
+    clears_the_output_when_it_refuses by ALL;
+    wakes_to_the_end_whatever_the_budget by ["books", "damage", "histories"];
+    knows_eight_reasons by ["damage", "histories"];
+    overlooks_the_last_byte_of_lines by ["books", "damage", "histories"];
+    minds_the_output_buffer_first by ["histories"];
+}
+
+#[test]
+fn the_right_peer_passes_every_group_and_every_count() {
+    let mut run = new_run();
+    for (name, group) in GROUPS {
+        run_group(&mut run, name, group, peer(answer));
+    }
+    counts::tell(&mut run);
+    assert_eq!(run.failed, 0);
+    assert!(run.passed > 200);
+}
+
+#[test]
+fn counts_of_nothing_fail() {
+    let mut run = new_run();
+    let (name, group) = GROUPS[0];
+    run_group(&mut run, name, group, peer(answer));
+    assert_eq!(run.failed, 0);
+    counts::tell(&mut run);
+    assert!(run.failed > 0);
+}
+
+/// How the first group goes with a program that does not keep to the frames.
+fn first_group(other: io::Result<Connection>) -> u64 {
+    let mut run = new_run();
+    run.settings.patience = Duration::from_millis(300);
+    let (name, group) = GROUPS[0];
+    run_group(&mut run, name, group, other);
+    run.failed
+}
+
+#[test]
+fn a_program_that_ends_early_is_told() {
+    let ends = connect(|input, output| serve(input.take(5_000), output, answer));
+    assert!(first_group(ends) > 0);
+}
+
+#[test]
+fn a_program_that_never_answers_is_told_soon() {
+    let silent = connect(|mut input, output| {
+        io::copy(&mut input, &mut io::sink())?;
+        thread::sleep(Duration::from_secs(2));
+        drop(output);
+        Ok(())
+    });
+    assert!(first_group(silent) > 0);
+}
+
+#[test]
+fn once_silent_the_other_groups_are_left_out() {
+    let mut run = new_run();
+    run.fell_silent = true;
+    for (name, group) in GROUPS {
+        run_group(&mut run, name, group, peer(answer));
+    }
+    assert_eq!((run.calls, run.failed), (0, GROUPS.len() as u64));
+}
+
+#[test]
+fn a_program_that_goes_on_after_its_last_answer_is_told() {
+    let talkative = connect(|input, mut output| {
+        serve(input, &output, answer)?;
+        output.write_all(&[0])
+    });
+    assert_eq!(first_group(talkative), 1);
+}
+
+#[test]
+fn a_program_that_cannot_be_started_is_told() {
+    let missing = crate::link::start(&["/nowhere/replay".to_string()]);
+    assert_eq!(first_group(missing), 1);
+}

@@ -1,0 +1,114 @@
+//! What was compared and found equal, counted by what the requirements tell apart.
+
+use second::answer::{Answer, Call, NO_SUCH_RECORD};
+use second::bytes::u32_at;
+use second::replay::FRAME_HEAD;
+
+use crate::run::Run;
+use crate::specials::{class, is_usable, CLASSES, FLOW_LIMIT, PERCENT_LIMIT};
+
+const NUMBERS: [u8; 10] = [0, 20, 21, 22, 23, 30, 31, 32, 40, 41];
+const METHODS: [u8; 6] = [0, 1, 2, 3, 4, NO_SUCH_RECORD];
+const HOUR: u8 = 2;
+const SET_ASIDE: u8 = 41;
+
+#[derive(Default)]
+pub struct Counts {
+    calls: [u64; 4],
+    numbers: [u64; NUMBERS.len()],
+    reasons_of_records: [u64; 7],
+    reasons_of_refusals: [u64; 7],
+    methods: [u64; METHODS.len()],
+    ledgers: [u64; 3],
+    percents: [u64; CLASSES.len()],
+    flows: [u64; CLASSES.len()],
+}
+
+impl Counts {
+    /// Counts one call from its frame and the answer of both sides.
+    pub fn count(&mut self, frame: &[u8], answer: &Answer) {
+        let [number, reason, ..] = answer.head;
+        self.calls[usize::from(frame[0]) - 1] += 1;
+        add_at(&mut self.numbers, &NUMBERS, number);
+        if frame[0] == Call::Record as u8 && number == 0 {
+            self.count_record(frame, answer);
+        } else if number == SET_ASIDE {
+            self.reasons_of_refusals[usize::from(reason) - 1] += 1;
+        }
+    }
+
+    fn count_record(&mut self, frame: &[u8], answer: &Answer) {
+        let [_, reason, method, ledger, ..] = answer.head;
+        let index = u32_at(frame, 4) as usize;
+        if reason > 0 {
+            self.reasons_of_records[usize::from(reason) - 1] += 1;
+        } else {
+            add_at(&mut self.methods, &METHODS, method);
+        }
+        if method == NO_SUCH_RECORD {
+            return;
+        }
+        if reason == 0 {
+            self.ledgers[usize::from(ledger)] += 1;
+        }
+        let line = &frame[FRAME_HEAD + 32 * index..][..32];
+        if line[0] == HOUR && [0, 4, 5].contains(&reason) {
+            self.count_readings(line);
+        }
+    }
+
+    /// The flow is counted where it decides: "the percent is judged before
+    /// the flow".
+    fn count_readings(&mut self, line: &[u8]) {
+        let percent = class(u32_at(line, 8), PERCENT_LIMIT);
+        self.percents[percent] += 1;
+        if is_usable(percent) {
+            self.flows[class(u32_at(line, 12), FLOW_LIMIT)] += 1;
+        }
+    }
+
+    /// What is told apart, and for each part its name and count.
+    fn table(&self) -> Vec<(&'static str, Vec<(String, u64)>)> {
+        let named = |names: &[&str], counts: &[u64]| -> Vec<(String, u64)> {
+            let names = names.iter().map(|name| name.to_string());
+            names.zip(counts.iter().copied()).collect()
+        };
+        let numbers = NUMBERS.iter().map(u8::to_string).zip(self.numbers);
+        let reasons = ["1", "2", "3", "4", "5", "6", "7"];
+        let methods = ["0 (hour)", "1", "2", "3", "4", "none (no such record)"];
+        let calls = ["fresh", "wake", "report", "one record"];
+        vec![
+            ("call", named(&calls, &self.calls)),
+            ("number", numbers.collect()),
+            ("record's reason", named(&reasons, &self.reasons_of_records)),
+            (
+                "refusal 41's reason",
+                named(&reasons, &self.reasons_of_refusals),
+            ),
+            ("method", named(&methods, &self.methods)),
+            (
+                "ledger",
+                named(&["none", "fossil", "biomass"], &self.ledgers),
+            ),
+            ("percent", named(&CLASSES, &self.percents)),
+            ("flow", named(&CLASSES, &self.flows)),
+        ]
+    }
+}
+
+fn add_at(counts: &mut [u64], keys: &[u8], key: u8) {
+    if let Some(place) = keys.iter().position(|&known| known == key) {
+        counts[place] += 1;
+    }
+}
+
+/// Each count is one check: what was never compared is not known to agree.
+pub fn tell(run: &mut Run) {
+    println!("counts of what was compared:");
+    for (subject, rows) in run.counts.table() {
+        for (name, count) in rows {
+            let row = format!("{subject} {name}");
+            run.tell("counts", &format!("{row:<38}{count:>9}"), count > 0, "");
+        }
+    }
+}

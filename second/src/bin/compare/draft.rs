@@ -1,0 +1,112 @@
+//! Books written line by line, from the requirements' table of lines alone.
+
+pub type Line = [u8; 32];
+
+pub const LONGEST_BOOK: usize = 65_536;
+
+/// The parts of a book; `bytes` puts them together with the trailer.
+#[derive(Clone)]
+pub struct Draft {
+    pub records: Vec<Line>,
+    pub units: Vec<Line>,
+    pub fuels: Vec<Line>,
+    pub year: u16,
+}
+
+#[derive(Clone, Copy)]
+pub struct FuelLine {
+    pub number: u16,
+    pub kind: u8,
+    pub class: u8,
+    pub heat: u32,
+    pub co2: u32,
+    pub ch4: u32,
+    pub n2o: u32,
+}
+
+#[derive(Clone, Copy)]
+pub struct Burnt {
+    pub unit: u16,
+    pub fuel: u16,
+    pub month: u16,
+    pub amount: u32,
+    pub heat: Option<u32>,
+    pub carbon: Option<u32>,
+}
+
+impl Draft {
+    pub fn bytes(&self) -> Vec<u8> {
+        let body = [&self.records[..], &self.units[..], &self.fuels[..]].concat();
+        let mut bytes = body.concat();
+        bytes.extend(self.trailer());
+        bytes
+    }
+
+    pub fn trailer(&self) -> Line {
+        let unit_start = 32 * self.records.len() as u32;
+        let fuel_start = unit_start + 32 * self.units.len() as u32;
+        let mut line = [0; 32];
+        put(&mut line, 0, b"STCB");
+        put(&mut line, 4, &1u16.to_le_bytes());
+        put(&mut line, 8, &unit_start.to_le_bytes());
+        put(&mut line, 12, &fuel_start.to_le_bytes());
+        put(&mut line, 16, &self.year.to_le_bytes());
+        line
+    }
+
+    /// How many records fill the book up to `length` bytes.
+    pub fn room(&self, length: usize) -> usize {
+        length / 32 - 1 - self.units.len() - self.fuels.len()
+    }
+}
+
+pub fn unit(number: u16, monitored: bool, rating: u32) -> Line {
+    let mut line = [0; 32];
+    put(&mut line, 0, &number.to_le_bytes());
+    line[2] = u8::from(monitored);
+    put(&mut line, 4, &rating.to_le_bytes());
+    line
+}
+
+impl FuelLine {
+    pub fn line(&self) -> Line {
+        let mut line = [0; 32];
+        put(&mut line, 0, &self.number.to_le_bytes());
+        line[2] = self.kind;
+        line[3] = self.class;
+        put(&mut line, 4, &self.heat.to_le_bytes());
+        put(&mut line, 8, &self.co2.to_le_bytes());
+        put(&mut line, 12, &self.ch4.to_le_bytes());
+        put(&mut line, 16, &self.n2o.to_le_bytes());
+        line
+    }
+}
+
+impl Burnt {
+    pub fn line(&self) -> Line {
+        let mut line = [0; 32];
+        line[0] = 1;
+        line[1] = u8::from(self.heat.is_some()) | u8::from(self.carbon.is_some()) << 1;
+        put(&mut line, 2, &self.unit.to_le_bytes());
+        put(&mut line, 4, &self.fuel.to_le_bytes());
+        put(&mut line, 6, &self.month.to_le_bytes());
+        put(&mut line, 8, &self.amount.to_le_bytes());
+        put(&mut line, 12, &self.heat.unwrap_or(0).to_le_bytes());
+        put(&mut line, 16, &self.carbon.unwrap_or(0).to_le_bytes());
+        line
+    }
+}
+
+pub fn hour(unit: u16, hour: u16, percent: u32, flow: u32) -> Line {
+    let mut line = [0; 32];
+    line[0] = 2;
+    put(&mut line, 2, &unit.to_le_bytes());
+    put(&mut line, 6, &hour.to_le_bytes());
+    put(&mut line, 8, &percent.to_le_bytes());
+    put(&mut line, 12, &flow.to_le_bytes());
+    line
+}
+
+pub fn put(bytes: &mut [u8], place: usize, value: &[u8]) {
+    bytes[place..place + value.len()].copy_from_slice(value);
+}

@@ -1,0 +1,147 @@
+//! Random books, biased to the edges of what the requirements allow.
+
+use second::book::Book;
+use second::bytes::u16_at;
+use second::record::judge;
+
+use crate::draft::{hour, unit, Burnt, Draft, FuelLine, Line};
+use crate::exchange::{Exchange, Outcome};
+use crate::job;
+use crate::random::Random;
+use crate::specials::{singles, FLOW_LIMIT, PERCENT_LIMIT};
+
+const BOOKS: usize = 4_000;
+
+pub fn run(exchange: &mut Exchange, rng: &mut Random) -> Outcome<()> {
+    exchange.case("random books");
+    for _ in 0..BOOKS * exchange.run.settings.times {
+        let draft = book(rng);
+        job::everything(exchange, rng, &draft.bytes(), draft.records.len())?;
+    }
+    Ok(())
+}
+
+/// A book of up to 40 records. Half of the books have only records that are
+/// counted, so that reports with figures are as common as refusals.
+pub fn book(rng: &mut Random) -> Draft {
+    let mut draft = listing(rng);
+    let count = rng.index(40);
+    if rng.one_in(2) {
+        draft.records = counted_records(rng, &draft, count);
+        return draft;
+    }
+    for _ in 0..count {
+        let record = match rng.below(3) {
+            0 => wild_record(rng, &draft),
+            _ => good_record(rng, &draft),
+        };
+        draft.records.push(record);
+    }
+    draft
+}
+
+/// Records that add to the ledgers, for a listing that is sound.
+pub fn counted_records(rng: &mut Random, listing: &Draft, count: usize) -> Vec<Line> {
+    let bytes = listing.bytes();
+    let book = Book::read(&bytes).expect("the listing is sound");
+    let mut records = Vec::new();
+    while records.len() < count {
+        let record = good_record(rng, listing);
+        if judge(&book, &record).is_ok() {
+            records.push(record);
+        }
+    }
+    records
+}
+
+/// Unit and fuel lines that are sound, at most eight of each.
+pub fn listing(rng: &mut Random) -> Draft {
+    let mut draft = Draft {
+        records: Vec::new(),
+        units: Vec::new(),
+        fuels: Vec::new(),
+        year: 2000 + rng.below(100) as u16,
+    };
+    let ratings = [1, 2_499, 2_500, 2_501, 99_999, 100_000];
+    for number in rising(rng) {
+        let rating = rng.pick(&ratings);
+        draft.units.push(unit(number, rng.one_in(3), rating));
+    }
+    for number in rising(rng) {
+        draft.fuels.push(fuel(rng, number).line());
+    }
+    draft
+}
+
+fn rising(rng: &mut Random) -> Vec<u16> {
+    let step = rng.pick(&[1, 2, 256, 8_000]);
+    let count = 1 + rng.below(8) as u16;
+    (1..=count).map(|place| place * step).collect()
+}
+
+fn fuel(rng: &mut Random, number: u16) -> FuelLine {
+    let choices = [(1, 0), (2, 0), (3, 0), (3, 1), (2, 2), (1, 3)];
+    let (kind, class) = rng.pick(&choices);
+    let mut or_zero = |zero_in: u64| match rng.one_in(zero_in) {
+        true => 0,
+        false => rng.within(200_000),
+    };
+    FuelLine {
+        number,
+        kind,
+        class,
+        heat: or_zero(3),
+        ch4: or_zero(6),
+        n2o: or_zero(6),
+        co2: rng.within(200_000),
+    }
+}
+
+/// A record in good form and in range, for a listed unit and fuel; it may
+/// still have no permitted method or no heat.
+pub fn good_record(rng: &mut Random, draft: &Draft) -> Line {
+    let units = draft.units.iter().copied();
+    let monitored: Vec<Line> = units.filter(|unit| unit[2] == 1).collect();
+    if !monitored.is_empty() && rng.one_in(3) {
+        let unit = u16_at(&rng.pick(&monitored), 0);
+        let percent = PERCENT_LIMIT - rng.below(0x0800_0000) as u32;
+        let flow = FLOW_LIMIT - rng.below(0x0C00_0000) as u32;
+        return hour(unit, 1 + rng.below(8_784) as u16, percent, flow);
+    }
+    let record = Burnt {
+        unit: u16_at(&rng.pick(&draft.units), 0),
+        fuel: u16_at(&rng.pick(&draft.fuels), 0),
+        month: 1 + rng.below(12) as u16,
+        amount: rng.within(100_000_000),
+        heat: rng.one_in(2).then(|| rng.within(200_000)),
+        carbon: rng.one_in(4).then(|| rng.within(1_000_000)),
+    };
+    record.line()
+}
+
+/// A record with anything at or past its edges.
+pub fn wild_record(rng: &mut Random, draft: &Draft) -> Line {
+    let unit = u16_at(&rng.pick(&draft.units), 0) + u16::from(rng.one_in(10));
+    let mut line = if rng.one_in(2) {
+        let percent = rng.pick(&singles(PERCENT_LIMIT));
+        let flow = rng.pick(&singles(FLOW_LIMIT));
+        hour(unit, rng.edgy(8_784) as u16, percent, flow)
+    } else {
+        let record = Burnt {
+            unit,
+            fuel: u16_at(&rng.pick(&draft.fuels), 0) + u16::from(rng.one_in(10)),
+            month: rng.edgy(12) as u16,
+            amount: rng.edgy(100_000_000),
+            heat: rng.one_in(2).then(|| rng.edgy(200_000)),
+            carbon: rng.one_in(2).then(|| {
+                let most = rng.pick(&[1_000_000, 4_000_000]);
+                rng.edgy(most)
+            }),
+        };
+        record.line()
+    };
+    if rng.one_in(12) {
+        line[rng.index(32)] = rng.byte();
+    }
+    line
+}

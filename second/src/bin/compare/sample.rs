@@ -1,0 +1,38 @@
+//! A small sound book that has every kind of line.
+
+use crate::draft::{hour, unit, Burnt, Draft, FuelLine};
+
+/// Fuel records of a gas and of a solid with everything measured, one with
+/// nothing measured, and an hour; a plain and a monitored unit; fuels of every
+/// kind and class but "other".
+pub fn small_book() -> Draft {
+    let fuel = |number, kind, class| FuelLine {
+        number,
+        kind,
+        class,
+        heat: 38_000,
+        co2: 50_000,
+        ch4: 900,
+        n2o: 90,
+    };
+    let burnt = |fuel, heat, carbon| Burnt {
+        unit: 1,
+        fuel,
+        month: 7,
+        amount: 70_000,
+        heat,
+        carbon,
+    };
+    let fuels = [fuel(1, 3, 1), fuel(2, 1, 3), fuel(3, 2, 2)];
+    Draft {
+        records: vec![
+            burnt(1, Some(39_000), Some(520_000)).line(),
+            burnt(2, Some(20_000), Some(500_000)).line(),
+            burnt(3, None, None).line(),
+            hour(2, 4_000, 0x4148_0000, 0x49F4_2400),
+        ],
+        units: vec![unit(1, false, 2_500), unit(2, true, 2_501)],
+        fuels: fuels.map(|fuel| fuel.line()).to_vec(),
+        year: 2010,
+    }
+}

@@ -1,0 +1,21 @@
+//! What the requirements ask for, reckoned by other means than floating point and
+//! split ledgers: readings are whole numbers times powers of two, masses are
+//! whole nanograms in 128 bits, and tonnes appear only where bytes are written.
+
+pub mod annual;
+pub mod answer;
+pub mod book;
+pub mod bytes;
+pub mod checkpoint;
+pub mod fuel_record;
+pub mod hour;
+pub mod ledger;
+pub mod lines;
+pub mod record;
+pub mod refusal;
+pub mod replay;
+pub mod report;
+pub mod single;
+
+/// Every line of a book has this many bytes (the requirements, "The book").
+pub const LINE: usize = 32;

@@ -1,0 +1,119 @@
+//! Unit lines and fuel lines (the requirements, "The book").
+
+use crate::bytes::{all_zero, u16_at, u32_at};
+use crate::LINE;
+
+/// "At most 64 lines of each."
+const MOST_LINES: usize = 64;
+
+#[derive(Clone, Copy, Debug)]
+pub struct Unit {
+    pub number: u16,
+    pub monitored: bool,
+    /// In tenths of MMBtu/h.
+    pub rating: u32,
+}
+
+#[derive(Clone, Copy, Debug)]
+pub struct Fuel {
+    pub number: u16,
+    pub kind: u8,
+    pub class: u8,
+    /// kJ per unit; 0 is none.
+    pub default_heat: u32,
+    /// mg/MJ.
+    pub co2: u32,
+    /// µg/MJ.
+    pub ch4: u32,
+    /// µg/MJ.
+    pub n2o: u32,
+}
+
+pub const SOLID: u8 = 1;
+pub const LIQUID: u8 = 2;
+pub const GAS: u8 = 3;
+
+pub const NATURAL_GAS: u8 = 1;
+pub const DISTILLATE_OIL: u8 = 2;
+pub const PURE_BIOMASS: u8 = 3;
+
+trait Numbered: Sized {
+    fn from_line(line: &[u8]) -> Option<Self>;
+    fn number(&self) -> u16;
+}
+
+/// All unit lines, or nothing if one is wrong or there are over 64.
+pub fn units(bytes: &[u8]) -> Option<Vec<Unit>> {
+    rising_lines(bytes)
+}
+
+/// All fuel lines, or nothing if one is wrong or there are over 64.
+pub fn fuels(bytes: &[u8]) -> Option<Vec<Fuel>> {
+    rising_lines(bytes)
+}
+
+fn rising_lines<T: Numbered>(bytes: &[u8]) -> Option<Vec<T>> {
+    if bytes.len() / LINE > MOST_LINES {
+        return None;
+    }
+    let lines: Option<Vec<T>> = bytes.chunks(LINE).map(T::from_line).collect();
+    lines.filter(|lines| lines.is_sorted_by(|one, next| one.number() < next.number()))
+}
+
+impl Numbered for Unit {
+    fn from_line(line: &[u8]) -> Option<Unit> {
+        let unit = Unit {
+            number: u16_at(line, 0),
+            monitored: line[2] & 1 == 1,
+            rating: u32_at(line, 4),
+        };
+        let sound = unit.number != 0
+            && line[2] <= 1
+            && line[3] == 0
+            && (1..=100_000).contains(&unit.rating)
+            && all_zero(&line[8..]);
+        sound.then_some(unit)
+    }
+
+    fn number(&self) -> u16 {
+        self.number
+    }
+}
+
+impl Numbered for Fuel {
+    fn from_line(line: &[u8]) -> Option<Fuel> {
+        let fuel = Fuel {
+            number: u16_at(line, 0),
+            kind: line[2],
+            class: line[3],
+            default_heat: u32_at(line, 4),
+            co2: u32_at(line, 8),
+            ch4: u32_at(line, 12),
+            n2o: u32_at(line, 16),
+        };
+        (fuel.is_sound() && all_zero(&line[20..])).then_some(fuel)
+    }
+
+    fn number(&self) -> u16 {
+        self.number
+    }
+}
+
+impl Fuel {
+    fn is_sound(&self) -> bool {
+        const MOST: u32 = 200_000;
+        let kind_fits_class = match self.class {
+            0 => (SOLID..=GAS).contains(&self.kind),
+            NATURAL_GAS => self.kind == GAS,
+            DISTILLATE_OIL => self.kind == LIQUID,
+            PURE_BIOMASS => self.kind == SOLID,
+            _ => false,
+        };
+        self.number != 0
+            && kind_fits_class
+            && self.default_heat <= MOST
+            && (1..=MOST).contains(&self.co2)
+            && self.ch4 <= MOST
+            && self.n2o <= MOST
+    }
+}
