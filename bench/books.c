@@ -1,0 +1,149 @@
+/* Makes the books. Numbers come from a fixed row, so that two runs time the same bytes. */
+#include "books.h"
+
+#include <stdbool.h>
+#include <string.h>
+
+uint32_t draw(uint64_t *row, uint32_t limit)
+{
+    *row = *row * UINT64_C(6364136223846793005) + UINT64_C(1442695040888963407);
+    return (uint32_t)((*row >> 32) % limit);
+}
+
+static void write(uint8_t *at, uint64_t value, size_t bytes)
+{
+    for (size_t i = 0; i < bytes; i++)
+        at[i] = (uint8_t)(value >> 8 * i);
+}
+
+static void write_single(uint8_t *at, float value)
+{
+    uint32_t bits;
+    memcpy(&bits, &value, sizeof bits);
+    write(at, bits, 4);
+}
+
+static uint8_t *line(struct bytes *b, size_t i)
+{
+    return b->book + BOOK_LINE * i;
+}
+
+/* Numbers with gaps, so that a look-up can't be an index. */
+static uint32_t number_of(size_t i)
+{
+    return (uint32_t)(7 + 11 * i + i * i % 5);
+}
+
+/* In a mixed book every fourth unit has a monitor, and of the others every fourth is a big one. */
+static bool is_monitored(enum mix mix, size_t i)
+{
+    return mix == ALL_HOURS || (mix == MIXED && i % 4 == 0);
+}
+
+static bool is_big(size_t i)
+{
+    return i % 4 == 2;
+}
+
+static void write_unit(uint8_t *l, enum mix mix, size_t i)
+{
+    write(l, number_of(i), 2);
+    write(l + 2, is_monitored(mix, i), 1);
+    write(l + 4, is_big(i) ? 9000 : 2500, 4);
+}
+
+static void write_fuel(uint8_t *l, size_t i)
+{
+    static const uint8_t kinds[4] = {3, 2, 1, 1}, classes[4] = {1, 2, 3, 0};
+    write(l, number_of(i), 2);
+    write(l + 2, kinds[i % 4], 1);
+    write(l + 3, classes[i % 4], 1);
+    write(l + 4, 38000 + (uint32_t)i, 4);
+    write(l + 8, 50000 + 100 * (uint32_t)i, 4);
+    write(l + 12, 900 + (uint32_t)i, 4);
+    write(l + 16, 90 + (uint32_t)i, 4);
+}
+
+/* A big unit gets its carbon measured: no other method is permitted for every class. */
+static void write_burned(uint8_t *l, size_t unit, size_t fuel, uint64_t *row)
+{
+    uint32_t flags = draw(row, 4) | (is_big(unit) ? 2 : 0);
+    write(l, 1, 1);
+    write(l + 1, flags, 1);
+    write(l + 2, number_of(unit), 2);
+    write(l + 4, number_of(fuel), 2);
+    write(l + 6, 1 + draw(row, 12), 2);
+    write(l + 8, draw(row, 100000001), 4);
+    if (flags & 1)
+        write(l + 12, 1 + draw(row, 200000), 4);
+    if (flags & 2)
+        write(l + 16, draw(row, 1000001), 4);
+}
+
+static void write_hour(uint8_t *l, size_t unit, uint64_t *row)
+{
+    write(l, 2, 1);
+    write(l + 2, number_of(unit), 2);
+    write(l + 6, 1 + draw(row, 8784), 2);
+    write_single(l + 8, (float)draw(row, 100001) / 1000.0f);
+    write_single(l + 12, (float)draw(row, 1000000001));
+}
+
+void make_book(struct bytes *b, const struct recipe *recipe)
+{
+    const size_t rest = recipe->units + recipe->fuels + 1;
+    const size_t n = recipe->records ? recipe->records : LONGEST_BOOK / BOOK_LINE - rest;
+    uint64_t row = 1;
+    memset(b, 0, sizeof *b);
+    b->records = n;
+    b->length = BOOK_LINE * (n + rest);
+    for (size_t i = 0; i < n; i++) {
+        size_t unit = draw(&row, (uint32_t)recipe->units);
+        bool hour = is_monitored(recipe->mix, unit) && (recipe->mix == ALL_HOURS || draw(&row, 2));
+        if (hour)
+            write_hour(line(b, i), unit, &row);
+        else
+            write_burned(line(b, i), unit, draw(&row, (uint32_t)recipe->fuels), &row);
+    }
+    for (size_t i = 0; i < recipe->units; i++)
+        write_unit(line(b, n + i), recipe->mix, i);
+    for (size_t i = 0; i < recipe->fuels; i++)
+        write_fuel(line(b, n + recipe->units + i), i);
+    uint8_t *trailer = line(b, n + rest - 1);
+    memcpy(trailer, "STCB", 4);
+    write(trailer + 4, 1, 2);
+    write(trailer + 8, (uint32_t)(BOOK_LINE * n), 4);
+    write(trailer + 12, (uint32_t)(BOOK_LINE * (n + recipe->units)), 4);
+    write(trailer + 16, 2010, 2);
+}
+
+/* Unit 0 has a monitor in a mixed book, unit 1 is small, unit 2 big, and no unit has number 1. */
+void spoil(struct bytes *b, size_t i, unsigned reason)
+{
+    uint8_t *l = line(b, i);
+    uint64_t row = i;
+    memset(l, 0, BOOK_LINE);
+    if (reason == 5) {
+        write_hour(l, 1, &row);
+        return;
+    }
+    write_burned(l, 1, 0, &row);
+    if (reason == 1)
+        write(l + 31, 1, 1);
+    else if (reason == 2)
+        write(l + 2, 1, 2);
+    else if (reason == 3)
+        write(l + 4, 1, 2);
+    else if (reason == 4)
+        write(l + 6, 13, 2);
+    else if (reason == 6) { /* a big unit with nothing measured */
+        write(l + 1, 0, 1);
+        write(l + 2, number_of(2), 2);
+        write(l + 12, 0, 8);
+    } else if (reason == 7) { /* carbon measured, heat not, and the fuel's default taken away */
+        write(l + 1, 2, 1);
+        write(l + 12, 0, 4);
+        write(line(b, b->length / BOOK_LINE - 2) + 4, 0, 4);
+        memcpy(l + 4, line(b, b->length / BOOK_LINE - 2), 2);
+    }
+}

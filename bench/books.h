@@ -1,0 +1,33 @@
+/* The books of the bench, the same in every run. */
+#ifndef BOOKS_H
+#define BOOKS_H
+
+#include <stddef.h>
+#include <stdint.h>
+
+enum { LONGEST_BOOK = 65536, BOOK_LINE = 32 };
+
+enum mix { MIXED, ALL_FUEL, ALL_HOURS };
+
+struct recipe {
+    const char *name;
+    enum mix mix;
+    size_t records, units, fuels; /* records 0: as many as a full book has room for */
+};
+
+struct bytes {
+    size_t length, records;
+    uint8_t book[LONGEST_BOOK];
+};
+
+/* A number below `limit`, the next of a fixed row. */
+uint32_t draw(uint64_t *row, uint32_t limit);
+
+/* A sound book, every record of which counts. */
+void make_book(struct bytes *b, const struct recipe *recipe);
+
+/* Makes record i of a mixed book one with this reason, 1 to 7. For 7 the last fuel line loses its
+   default heat. */
+void spoil(struct bytes *b, size_t i, unsigned reason);
+
+#endif

@@ -1,0 +1,225 @@
+/*
+ * Times the library and the plain C on the same books in the same run. Both are called through a
+ * pointer; their rounds alternate, so that both see the same machine; medians are told.
+ */
+#include "books.h"
+#include "compare.h"
+#include "plain.h"
+#include "wetherstep.h"
+
+#include <stdbool.h>
+#include <stdio.h>
+#include <stdlib.h>
+#include <string.h>
+#include <time.h>
+
+enum { SIZE = WETHERSTEP_CHECKPOINT_SIZE, ROUNDS = 201, SAMPLE_NS = 200000 };
+
+struct calls {
+    uint64_t (*fresh)(const uint8_t *, size_t, uint8_t *, size_t);
+    uint64_t (*wake)(const uint8_t *, size_t, const uint8_t *, size_t, uint32_t, uint8_t *, size_t);
+    uint64_t (*report)(const uint8_t *, size_t, const uint8_t *, size_t, uint64_t *);
+};
+
+static const struct calls library = {wetherstep_fresh, wetherstep_wake, wetherstep_report};
+static const struct calls plain = {plain_fresh, plain_wake, plain_report};
+
+/* A piece of work on a book; the checkpoint `at` is the finished one, `start` the fresh one. */
+struct job {
+    const struct bytes *book;
+    uint8_t start[SIZE], at[SIZE];
+    uint32_t budget;
+};
+
+typedef void work(const struct calls *calls, const struct job *job);
+
+/* The three calls, the wake in one piece. */
+static void do_whole(const struct calls *calls, const struct job *job)
+{
+    const struct bytes *b = job->book;
+    uint8_t start[SIZE], end[SIZE];
+    uint64_t figures[6];
+    calls->fresh(b->book, b->length, start, SIZE);
+    calls->wake(b->book, b->length, start, SIZE, UINT32_MAX, end, SIZE);
+    calls->report(b->book, b->length, end, SIZE, figures);
+}
+
+/* The whole book by wakes of one budget, each from the checkpoint that the last one wrote. */
+static void do_wakes(const struct calls *calls, const struct job *job)
+{
+    const struct bytes *b = job->book;
+    uint8_t turns[2][SIZE];
+    memcpy(turns[0], job->start, SIZE);
+    for (uint32_t i = 0, done = 0; done < b->records; i ^= 1)
+        done += wetherstep_count(calls->wake(b->book, b->length, turns[i], SIZE, job->budget,
+                                             turns[i ^ 1], SIZE));
+}
+
+static void do_one_wake(const struct calls *calls, const struct job *job)
+{
+    uint8_t out[SIZE];
+    calls->wake(job->book->book, job->book->length, job->start, SIZE, job->budget, out, SIZE);
+}
+
+static void do_report(const struct calls *calls, const struct job *job)
+{
+    uint64_t figures[6];
+    calls->report(job->book->book, job->book->length, job->at, SIZE, figures);
+}
+
+static double now_ns(void)
+{
+    struct timespec t;
+    clock_gettime(CLOCK_MONOTONIC, &t);
+    return 1e9 * (double)t.tv_sec + (double)t.tv_nsec;
+}
+
+static double time_work(work *work, const struct calls *calls, const struct job *job, int repeats)
+{
+    double from = now_ns();
+    for (int i = 0; i < repeats; i++)
+        work(calls, job);
+    return (now_ns() - from) / repeats;
+}
+
+static int by_size(const void *one, const void *two)
+{
+    double a = *(const double *)one, b = *(const double *)two;
+    return (a > b) - (a < b);
+}
+
+struct times {
+    double library, plain;
+};
+
+/* The medians, in ns for one piece of work. */
+static struct times measure(work *work, const struct job *job)
+{
+    static double one[ROUNDS], two[ROUNDS];
+    double once = time_work(work, &plain, job, 3);
+    int repeats = once < SAMPLE_NS ? (int)(SAMPLE_NS / (once + 1)) + 1 : 1;
+    for (int i = 0; i < ROUNDS; i++) {
+        /* Each goes first in every second round. */
+        if (i % 2 == 0)
+            one[i] = time_work(work, &library, job, repeats);
+        two[i] = time_work(work, &plain, job, repeats);
+        if (i % 2 != 0)
+            one[i] = time_work(work, &library, job, repeats);
+    }
+    qsort(one, ROUNDS, sizeof *one, by_size);
+    qsort(two, ROUNDS, sizeof *two, by_size);
+    return (struct times){one[ROUNDS / 2], two[ROUNDS / 2]};
+}
+
+static void head(const char *title, const char *each)
+{
+    printf("\n%-34s %8s  %10s  %10s  %s\n", title, "records", "library", "C", "library / C");
+    printf("%-34s %8s  %10s  %10s\n", "", "", each, each);
+}
+
+static void row(const char *name, size_t records, struct times t, double parts)
+{
+    printf("%-34s %8zu  %10.1f  %10.1f  %.2f\n", name, records, t.library / parts, t.plain / parts,
+           t.library / t.plain);
+    fflush(stdout);
+}
+
+static struct job begin(struct bytes *b, const struct recipe *recipe, bool compare)
+{
+    struct job job = {b, {0}, {0}, 0};
+    make_book(b, recipe);
+    if (compare)
+        compare_book(b, recipe->name);
+    plain_fresh(b->book, b->length, job.start, SIZE);
+    plain_wake(b->book, b->length, job.start, SIZE, UINT32_MAX, job.at, SIZE);
+    return job;
+}
+
+static const struct recipe books[] = {
+    {"full, mixed, 8 units, 8 fuels", MIXED, 0, 8, 8},
+    {"full, all fuel, 8 units, 8 fuels", ALL_FUEL, 0, 8, 8},
+    {"full, all hours, 8 units", ALL_HOURS, 0, 8, 0},
+    {"full, mixed, 64 units, 64 fuels", MIXED, 0, 64, 64},
+    {"small, mixed, 4 units, 4 fuels", MIXED, 1, 4, 4},
+    {"small, mixed, 4 units, 4 fuels", MIXED, 10, 4, 4},
+    {"small, mixed, 4 units, 4 fuels", MIXED, 100, 4, 4},
+};
+
+enum { BOOKS = sizeof books / sizeof *books };
+
+static void time_books(struct bytes *b)
+{
+    head("fresh start, one wake, report", "ns/record");
+    for (int i = 0; i < BOOKS; i++) {
+        struct job job = begin(b, &books[i], false);
+        row(books[i].name, b->records, measure(do_whole, &job), (double)b->records);
+    }
+}
+
+static void time_wakes(struct bytes *b)
+{
+    static const uint32_t budgets[] = {1, 10, 100};
+    head("a full book by wakes", "ns/wake");
+    for (int i = 0; i < BOOKS; i++)
+        for (int j = 0; j < 3 && books[i].mix == MIXED && books[i].records == 0; j++) {
+            struct job job = begin(b, &books[i], false);
+            char name[64];
+            size_t wakes = (b->records + budgets[j] - 1) / budgets[j];
+            job.budget = budgets[j];
+            snprintf(name, sizeof name, "budget %u, %zu units, %zu fuels", (unsigned)budgets[j],
+                     books[i].units, books[i].fuels);
+            row(name, b->records, measure(do_wakes, &job), (double)wakes);
+        }
+}
+
+static void time_opening(const struct job *job, const struct recipe *recipe, work *work,
+                         const char *call)
+{
+    char name[64];
+    snprintf(name, sizeof name, "%s, %zu units, %zu fuels", call, recipe->units, recipe->fuels);
+    row(name, job->book->records, measure(work, job), 1);
+}
+
+static void time_openings(struct bytes *b)
+{
+    head("a book opened, and no more", "ns/call");
+    for (int i = 0; i < BOOKS; i++)
+        if (books[i].mix == MIXED && (books[i].records == 0 || books[i].records == 1)) {
+            struct job job = begin(b, &books[i], false);
+            time_opening(&job, &books[i], do_one_wake, "wake of 0");
+            time_opening(&job, &books[i], do_report, "report");
+        }
+}
+
+/* Time per record must not grow with the book: a wake of all, less a wake of none. */
+static void time_growth(struct bytes *b)
+{
+    static const size_t sizes[] = {64, 512, 0};
+    head("a wake of all less a wake of none", "ns/record");
+    for (int i = 0; i < 3; i++) {
+        const struct recipe recipe = {"mixed, 8 units, 8 fuels", MIXED, sizes[i], 8, 8};
+        struct job job = begin(b, &recipe, false);
+        struct times none = measure(do_one_wake, &job);
+        job.budget = UINT32_MAX;
+        struct times all = measure(do_one_wake, &job);
+        struct times left = {all.library - none.library, all.plain - none.plain};
+        row(recipe.name, b->records, left, (double)b->records);
+    }
+}
+
+int main(int count, char **words)
+{
+    static struct bytes b;
+    for (int i = 0; i < BOOKS; i++)
+        begin(&b, &books[i], true);
+    compare_damaged();
+    if (count > 1 && strcmp(words[1], "compare") == 0)
+        return 0;
+    printf("medians of %d rounds, library and C by turns; the book in cache; no buffer is cleared "
+           "before a call\n", ROUNDS);
+    time_books(&b);
+    time_wakes(&b);
+    time_openings(&b);
+    time_growth(&b);
+    return 0;
+}
