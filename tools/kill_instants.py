@@ -201,7 +201,8 @@ def wakes_at_once(job, plan, place, budgets):
         raise Wrong(f"the two from {place} with {budgets} tell {outs}")
     saved = job.look()
     possible = ends if is_apart else [both]
-    expect(saved in [plan.places[end] for end in possible], True, "that one of the two was saved")
+    is_theirs = saved in [plan.places[end] for end in possible]
+    expect(is_theirs, True, "that the checkpoint is of one of the two")
     job.expect_saved(saved)
     return plan.places.index(saved), is_apart
 

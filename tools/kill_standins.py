@@ -24,7 +24,8 @@ write_slowly() {
 }
 """
 IN_PLACE = 'write_slowly "$saved"; cat "$mine/told"'
-ONE_NAME = 'write_slowly "$saved.aaaaaa"; mv "$saved.aaaaaa" "$saved"; cat "$mine/told"'
+# One that is too late to rename says nothing of it: it is its checkpoint that has to give it away.
+ONE_NAME = 'write_slowly "$saved.aaaaaa"; mv "$saved.aaaaaa" "$saved" 2>&-; cat "$mine/told"'
 TOLD_FIRST = 'cat "$mine/told"; linger; mv "$mine/checkpoint" "$saved"'
 REMOVED_FIRST = 'rm -f "$saved"; linger; mv "$mine/checkpoint" "$saved"; cat "$mine/told"'
 NOT_CLEARED = '[ -s "$mine/told" ] || : >"$saved.aaaaaa"'
