@@ -1,10 +1,15 @@
-// What the programs share: reading a descriptor to its end, and writing bytes and pages.
+// What the programs share: reading a descriptor to its end, writing bytes and pages, and a job that is
+// kept in files.
 //
 // No contract can say what a call of the operating system read or wrote. What is proved is that
 // every count lies within its buffer, and that each function ends if those calls return.
+pub mod kept;
+pub mod save;
+
 use text::page::Page;
 ghost use mathlib.Core.Path.{_≡_};
 ghost use lib.ListN.{take};
+ghost use Rattle.io.specs.Counts.{Counts};
 ghost use Rattle.files.specs.Got.{Within};
 
 // What came of reading into a buffer. Either way its other bytes may have changed too.
@@ -37,6 +42,27 @@ pub fn read_all(fd: i32, buf: &mut [u8]) -> Got
     Got::Bytes(n)
 }
 
+// Reads the file at path as read_all does; if it can't, standard error says why.
+pub fn read_file(path: &[u8], buf: &mut [u8]) -> Got {
+    let fd = os::open_read(path);
+    if fd < 0 {
+        os::fail(path);
+        return Got::Failed;
+    }
+    read_open(fd, path, buf)
+}
+
+// Reads an open file and closes it. A failure is told before the close, which may set errno.
+pub(crate) fn read_open(fd: i32, path: &[u8], buf: &mut [u8]) -> Got {
+    let got = read_all(fd, buf);
+    match got {
+        Got::Failed => os::fail(path),
+        Got::Bytes(_) => {}
+    }
+    libc::close(fd);
+    got
+}
+
 // One read. Only at the end of the input does it come to no bytes, for room isn't empty.
 fn read_some(fd: i32, room: &mut [u8]) -> Got
     ensures within { λ r. ⌜ Within r (now (room .exit)) ⌝ }
@@ -56,6 +82,24 @@ pub fn take_front(bytes: &[u8], n: usize) -> &[u8]
         return bytes;
     }
     &bytes[..n]
+}
+
+// Puts as much of src as fits behind the first n bytes of dst, and answers how many stand there now.
+pub fn put(dst: &mut [u8], n: usize, src: &[u8]) -> usize
+    requires within { ⌜ Counts n (now dst) ⌝ }
+    ensures within { λ r. ⌜ Counts r (now (dst .exit)) ⌝ }
+{
+    let mut end = n;
+    let mut i = 0;
+    while i < src.len() {
+        if dst.len() <= end {
+            return end;
+        }
+        dst[end] = src[i];
+        end += 1;
+        i += 1;
+    }
+    end
 }
 
 // Writes the bytes, and answers whether it could; if not, standard error says why.

@@ -1,6 +1,5 @@
 // One wake of a job that is kept in files: `wake BOOK CHECKPOINT BUDGET [fresh]`.
 mod kept;
-mod save;
 
 use libc::STDERR_FILENO;
 use text::budget;

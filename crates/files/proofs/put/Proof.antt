@@ -5,17 +5,17 @@ use native.Mathlib.Omega.{arith}
 use lib.ListN.{length, length-set}
 use borrow.Author.Needs.{needs}
 use Rattle.io.proofs.Counting.{counts}
-use Rattle.wake.proofs.save.copy.Statement.{statement}
-use Rattle.wake.proofs.save.copy.Tie as tie
+use Rattle.files.proofs.put.Statement.{statement}
+use Rattle.files.proofs.put.Tie as tie
 
 abbrev Inv-loop : tie.InvT-loop
-Inv-loop src dst₀ i₀ dst i = (i ≤ length dst) × (length dst ≡ length dst₀)
+Inv-loop dst₀ n src end₀ i₀ dst end i = (end ≤ length dst) × (length dst ≡ length dst₀)
 
 abbrev μ-loop : tie.MeasureT-loop
-μ-loop src dst₀ i₀ dst i = length src - i
+μ-loop dst₀ n src end₀ i₀ dst end i = length src - i
 
 loop-holds : tie.Need-loop-holds Inv-loop μ-loop
-loop-holds c = (omega arith, refl)
+loop-holds c = (c .pre .0, refl)
 
 same-length : tie.Need-same-length Inv-loop μ-loop
 same-length c = c .before .before .loop .inv .1
@@ -28,6 +28,9 @@ shared-slice-read-dst c = search needs
 
 slice-write-dst : tie.Need-slice-write-dst Inv-loop μ-loop
 slice-write-dst c = search needs
+
+add-end : tie.Need-add-end Inv-loop μ-loop
+add-end c = search needs
 
 add-i : tie.Need-add-i Inv-loop μ-loop
 add-i c = search needs
@@ -46,8 +49,8 @@ same-length-2 c = c .before .loop .inv .1
 returns-2 : tie.Need-returns-2 Inv-loop μ-loop
 returns-2 c = counts _ _ (c .before .loop .inv .0)
 
-pub copy-spec : {M : Type 1} → statement M
-copy-spec =
+pub put-spec : {M : Type 1} → statement M
+put-spec =
     tie.close
     (tie.spec
     Inv-loop
@@ -57,6 +60,7 @@ copy-spec =
     returns
     shared-slice-read-dst
     slice-write-dst
+    add-end
     add-i
     loop-less
     loop-again

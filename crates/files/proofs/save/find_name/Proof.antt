@@ -4,8 +4,8 @@ use native.Mathlib.Omega.{arith}
 use lib.ListN.{length}
 use borrow.Author.Needs.{needs}
 use Rattle.io.proofs.Counting.{counts}
-use Rattle.wake.proofs.save.find_name.Statement.{statement}
-use Rattle.wake.proofs.save.find_name.Tie as tie
+use Rattle.files.proofs.save.find_name.Statement.{statement}
+use Rattle.files.proofs.save.find_name.Tie as tie
 
 abbrev Inv-loop : tie.InvT-loop
 Inv-loop path i₀ i = i ≤ length path

@@ -6,8 +6,9 @@
 // it. A save that is killed may leave its fresh name behind, and nothing reads that.
 ghost use Rattle.io.specs.Counts.{Counts};
 
-// Saves the bytes at path, and answers whether it could; if not, standard error says why.
-pub(crate) fn save(path: &[u8], bytes: &[u8]) -> bool {
+// Saves the bytes, which come in two parts, at path, and answers whether it could; if not, standard
+// error says why.
+pub fn save(path: &[u8], front: &[u8], back: &[u8]) -> bool {
     // The folder is opened first: then only its sync can fail once path has changed.
     let folder = open_folder(path);
     if folder < 0 {
@@ -16,7 +17,7 @@ pub(crate) fn save(path: &[u8], bytes: &[u8]) -> bool {
     }
     let mut room = [0u8; 4095];
     let n = name_beside(path, &mut room);
-    let is_saved = replace(path, &mut room[..n], bytes, folder);
+    let is_saved = replace(path, &mut room[..n], front, back, folder);
     libc::close(folder);
     is_saved
 }
@@ -48,32 +49,17 @@ fn find_name(path: &[u8]) -> usize
 fn name_beside(path: &[u8], room: &mut [u8]) -> usize
     ensures within { λ r. ⌜ Counts r (now (room .exit)) ⌝ }
 {
-    let n = copy(path, room);
-    n + copy(b".XXXXXX", &mut room[n..])
+    let n = crate::put(room, 0, path);
+    crate::put(room, n, b".XXXXXX")
 }
 
-// As much of src as fits at the start of dst, and its length.
-fn copy(src: &[u8], dst: &mut [u8]) -> usize
-    ensures within { λ r. ⌜ Counts r (now (dst .exit)) ⌝ }
-{
-    let mut i = 0;
-    while i < src.len() {
-        if dst.len() <= i {
-            return i;
-        }
-        dst[i] = src[i];
-        i += 1;
-    }
-    i
-}
-
-fn replace(path: &[u8], name: &mut [u8], bytes: &[u8], folder: i32) -> bool {
+fn replace(path: &[u8], name: &mut [u8], front: &[u8], back: &[u8], folder: i32) -> bool {
     let fd = os::create_temp(name);
     if fd < 0 {
         os::fail(path);
         return false;
     }
-    if !write_through(fd, bytes) {
+    if !write_through(fd, front, back) {
         os::fail(path);
         libc::close(fd);
         os::unlink(name);
@@ -97,9 +83,6 @@ fn replace(path: &[u8], name: &mut [u8], bytes: &[u8], folder: i32) -> bool {
 }
 
 // Writes the bytes and waits until they are on the disk.
-fn write_through(fd: i32, bytes: &[u8]) -> bool {
-    if !io::write_all(fd, bytes) {
-        return false;
-    }
-    0 <= libc::fsync(fd)
+fn write_through(fd: i32, front: &[u8], back: &[u8]) -> bool {
+    io::write_all(fd, front) && io::write_all(fd, back) && 0 <= libc::fsync(fd)
 }
