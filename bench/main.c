@@ -5,6 +5,7 @@
 #include "books.h"
 #include "compare.h"
 #include "plain.h"
+#include "stack.h"
 #include "wetherstep.h"
 
 #include <stdbool.h>
@@ -207,6 +208,47 @@ static void time_growth(struct bytes *b)
     }
 }
 
+/* A function that runs on a stack of its own takes no argument. */
+static const struct job *deep;
+
+static void call_fresh(void)
+{
+    uint8_t out[SIZE];
+    wetherstep_fresh(deep->book->book, deep->book->length, out, SIZE);
+}
+
+static void call_wake(void)
+{
+    do_one_wake(&library, deep);
+}
+
+static void call_report(void)
+{
+    do_report(&library, deep);
+}
+
+static void call_nothing(void)
+{
+}
+
+/* The most that a call touches on any of the books, less what the way to it takes. */
+static void tell_stack(struct bytes *b)
+{
+    static void (*const run[])(void) = {call_fresh, call_wake, call_report};
+    size_t most[3] = {0};
+    for (int i = 0; i < BOOKS; i++) {
+        struct job job = begin(b, &books[i], false);
+        job.budget = UINT32_MAX;
+        deep = &job;
+        for (int j = 0; j < 3; j++) {
+            size_t used = stack_of(run[j]) - stack_of(call_nothing);
+            most[j] = used > most[j] ? used : most[j];
+        }
+    }
+    printf("\nstack of the library, bytes: fresh %zu, wake %zu, report %zu\n", most[0], most[1],
+           most[2]);
+}
+
 int main(int count, char **words)
 {
     static struct bytes b;
@@ -221,5 +263,6 @@ int main(int count, char **words)
     time_wakes(&b);
     time_openings(&b);
     time_growth(&b);
+    tell_stack(&b);
     return 0;
 }
