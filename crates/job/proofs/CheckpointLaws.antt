@@ -16,6 +16,7 @@ use Rattle.rules.specs.Bytes.{byte, word}
 use Rattle.rules.specs.Tests.{choose}
 use Rattle.rules.proofs.TestsLaws.{also-t, also-iff, choose-t, choose-f}
 use Rattle.rules.proofs.BytesLaws.{word-drop, word-take}
+use Rattle.job.specs.declared.tally.Tally.{Tally}
 use Rattle.job.specs.State.{State, Light, FitFor}
 use Rattle.job.specs.Checkpoint.{doneIn, asideIn, indexIn, reasonIn, lengthIn, yearIn, tonnesIn, restIn, fossilAt, biomassAt, ch4At, n2oAt}
 use Rattle.job.specs.Checkpoint.{firstSound, ledgerSound, sound, decode, bytesOf, encode}
@@ -230,6 +231,19 @@ tallyIn-sound h c e = let f = soundFor-sound h c e in λ i. record {
     n2o = ledgerOf-unique (ledgerIn c n2oAt) _ (f .n2o-canonical) refl i;
   };
 }
+
+-- What is known of the tally that was read from a sound checkpoint.
+pub record ReadFrom (h : Head) (c : List ℕ) (t : Tally) : Type 0 where
+  pub canonical : t ≡ tallyOf (stateOf t)
+  pub fits : FitFor h (stateOf t)
+
+pub readFrom-sound : (h : Head) (c : List ℕ) {t : Tally} → sound h c ≡ true → t ≡ tallyIn c → ReadFrom h c t
+readFrom-sound h c e r =
+    let says = ap stateOf r ∙ stateOf-tallyIn c in
+    record {
+      canonical = r ∙ tallyIn-sound h c e ∙ ap tallyOf (sym says);
+      fits = subst (FitFor h) (sym says) (fitFor-sound h c e);
+    }
 
 -- ---- a sound checkpoint says all of its bytes
 module _ (h : Head) (c : List ℕ) (bytes : (i : ℕ) → byte c i < 256) (whole : length c ≡ 96) where

@@ -18,7 +18,9 @@ use Rattle.job.specs.declared.reply.Woken.{Woken}
 use Rattle.job.specs.declared.reply.Woken.the-variants.{NotWoken, Moved}
 use Rattle.job.specs.declared.reply.Reported.{Reported}
 use Rattle.job.specs.declared.reply.Reported.the-variants.{NotReported, Unfinished, RecordAside, Given}
-use Rattle.job.specs.Reply.{Reply, reply, refusalNumber, figureValues, started, woken, reported}
+use Rattle.job.specs.declared.reply.Counted.{Counted}
+use Rattle.job.specs.declared.reply.Counted.the-variants.{NotCounted, Left}
+use Rattle.job.specs.Reply.{Reply, reply, refusalNumber, figureValues, started, woken, reported, counted}
 
 -- ---- the reply of each answer
 pub started-notStarted : (x : Refusal) → started (NotStarted x) ≡ reply (refusalNumber x) []
@@ -52,6 +54,14 @@ reported-recordAside i k = refl
 pub reported-given : (f : Figures) → reported (Given f) ≡ reply 0 (figureValues f)
 unfolding reported
 reported-given f = refl
+
+pub counted-notCounted : (x : Refusal) → counted (NotCounted x) ≡ reply (refusalNumber x) []
+unfolding counted
+counted-notCounted x = refl
+
+pub counted-left : (m : ℕ) → counted (Left m) ≡ reply 0 (m ∷ [])
+unfolding counted
+counted-left m = refl
 
 pub figureValues-six : (f : Figures) {m : ℕ} → choose (f .reportable) 1 0 ≡ m
     → figureValues f
@@ -168,3 +178,16 @@ said-reported (Given f) = λ i. Given (record {
 
 pub reported-inj : (r s : Reported) → reported r ≡ reported s → r ≡ s
 reported-inj r s e = sym (said-reported r) ∙ ap said e ∙ said-reported s
+
+-- ---- a count of the records left
+left : Reply → Counted
+left (reply n []) = NotCounted (refusal n)
+left (reply n (m ∷ vs)) = Left m
+
+left-counted : (r : Counted) → left (counted r) ≡ r
+unfolding left counted
+left-counted (NotCounted x) = ap NotCounted (refusal-number x)
+left-counted (Left m) = refl
+
+pub counted-inj : (r s : Counted) → counted r ≡ counted s → r ≡ s
+counted-inj r s e = sym (left-counted r) ∙ ap left e ∙ left-counted s

@@ -1,46 +1,154 @@
--- A report's reply, one case at a time. Assumes nothing.
-use Prim.Native.Nat.{ℕ, _+_, _*_, _<_}
-use mathlib.Core.Bool.{true, false}
+-- The reply to a report and to a count, one case at a time. Assumes nothing.
+use Prim.Native.Nat.{ℕ, _+_, _-_, _*_, _<_}
+use mathlib.Core.Bool.{Bool, true, false}
 use mathlib.Core.List.{List, [], _∷_}
-use mathlib.Core.Path.{_≡_, refl, ap, _∙_}
+use mathlib.Core.Path.{_≡_, refl, sym, ap, _∙_}
 use native.Mathlib.Omega.{arith}
+use lib.Dec.{eqb}
 use lib.ListN.{length}
-use borrow.Author.Tests.{eq-eqb, ne-eqb, lt-ltb, le-ltb}
+use borrow.Author.Tests.{eq-eqb, ne-eqb, eqb-true, lt-ltb, le-ltb}
 use Rattle.mass.specs.declared.figures.Figures.{Figures}
 use Rattle.mass.specs.Figures.{kgOf, mustReport}
 use Rattle.mass.proofs.FiguresLaws.{figuresOf-ledgers}
 use Rattle.rules.specs.declared.book.Head.{Head}
 use Rattle.rules.specs.Tests.{choose}
-use Rattle.rules.specs.Book.{refused, accepted, opened}
+use Rattle.rules.specs.Book.{Answer, refused, accepted, opened}
 use Rattle.rules.proofs.TestsLaws.{choose-t, choose-f}
-use Rattle.job.specs.State.{State}
-use Rattle.job.specs.Checkpoint.{checkpointSize, sound, decode}
-use Rattle.job.specs.Tally.{ledgersOf}
-use Rattle.job.specs.Reply.{reply, figureValues}
-use Rattle.job.specs.Report.{warming, figuresAt, replyAt, reportReply}
-use Rattle.job.proofs.WakeLaws.{ifOpen-refused, ifOpen-accepted}
+use Rattle.rules.proofs.BookLaws.{accepted-facts}
+use Rattle.job.specs.declared.reply.Refusal.{Refusal}
+use Rattle.job.specs.declared.report.Judgement.{Judgement}
+use Rattle.job.specs.declared.report.Judgement.the-variants.{Refused, Sound}
+use Rattle.job.specs.declared.tally.Tally.{Tally}
+use Rattle.job.specs.State.{State, FitFor}
+use Rattle.job.specs.Checkpoint.{checkpointSize, sound, decode, encode}
+use Rattle.job.specs.Tally.{ledgersOf, tallyIn, stateOf}
+use Rattle.job.specs.Reply.{reply, refusalNumber, figureValues}
+use Rattle.job.specs.Report.{warming, figuresAt, replyAt, judgedFor, judged, judgement, reportReply, leftReply}
+use Rattle.job.specs.Wake.{ifOpen}
+use Rattle.job.proofs.CheckpointLaws.{length-encode, decode-encode, sound-encode, stateOf-tallyIn}
+use Rattle.job.proofs.WakeLaws.{ifOpen-refused, ifOpen-accepted, records-le}
+
+-- ---- what turns a book or its checkpoint away
+module _ (h : Head) (c : List ℕ) where
+  pub judgedFor-30 : (length c ≡ checkpointSize → ⊥) → judgedFor h c ≡ refused 30
+  unfolding judgedFor
+  judgedFor-30 l = choose-f _ (ne-eqb _ _ l) refl
+
+  pub judgedFor-31 : length c ≡ checkpointSize → sound h c ≡ false → judgedFor h c ≡ refused 31
+  unfolding judgedFor
+  judgedFor-31 l s = choose-t _ (eq-eqb _ _ l) (choose-f _ s refl)
+
+  pub judgedFor-sound : length c ≡ checkpointSize → sound h c ≡ true → judgedFor h c ≡ accepted h
+  unfolding judgedFor
+  judgedFor-sound l s = choose-t _ (eq-eqb _ _ l) (choose-t _ s refl)
 
 module _ (k c : List ℕ) where
-  pub reportReply-book : {n : ℕ} → opened k ≡ refused n → reportReply k c ≡ reply n []
+  pub judged-book : {n : ℕ} → opened k ≡ refused n → judged k c ≡ refused n
+  unfolding judged
+  judged-book e = ifOpen-refused (opened k) refused _ e
+
+  pub judged-open : {h : Head} → opened k ≡ accepted h → judged k c ≡ judgedFor h c
+  unfolding judged
+  judged-open e = ifOpen-accepted (opened k) refused _ e
+
+-- What is known of a book and a checkpoint that aren't turned away.
+pub record Judged (k c : List ℕ) (h : Head) : Type 0 where
+  pub is-open : opened k ≡ accepted h
+  pub is-whole : length c ≡ checkpointSize
+  pub is-sound : sound h c ≡ true
+
+never : {A : Type 0} {n : ℕ} {h : Head} → refused n ≡ accepted h → A
+never e = let odd : _≡_ {A = ℕ} 0 1 = cc in absurd (omega arith)
+
+-- A test that was passed on the way to acceptance.
+passed : (t : Bool) (x : Answer) (n : ℕ) {h : Head} → choose t x (refused n) ≡ accepted h
+    → (t ≡ true) × (x ≡ accepted h)
+passed true x n e = (refl, sym (choose-t {x = x} (refused n) refl refl) ∙ e)
+passed false x n e = never (sym (choose-f {y = refused n} x refl refl) ∙ e)
+
+pub judged-facts : (k c : List ℕ) (h : Head) → judged k c ≡ accepted h → Judged k c h
+unfolding judged judgedFor ifOpen
+judged-facts k c h = by (opened k) refl
+  where
+    by : (a : Answer) → opened k ≡ a → ifOpen a refused (λ x. judgedFor x c) ≡ accepted h → Judged k c h
+    by (refused n) o e = never e
+    by (accepted x) o e =
+        let whole = passed (eqb (length c) checkpointSize) _ 30 e in
+        let is-so = passed (sound x c) _ 31 (whole .1) in
+        let same : x ≡ h = cc in
+        record {
+          is-open = o ∙ ap accepted same;
+          is-whole = eqb-true _ _ (whole .0);
+          is-sound = ap (λ (y : Head). sound y c) (sym same) ∙ is-so .0;
+        }
+
+-- ---- what the code's judgement says
+pub judged-refused : {j : Judgement} {x : Refusal} (k c : List ℕ) → judgement j ≡ judged k c → j ≡ Refused x
+    → judged k c ≡ refused (refusalNumber x)
+unfolding judgement
+judged-refused k c e q = sym e ∙ ap judgement q
+
+pub judged-sound : {j : Judgement} {h : Head} (k c : List ℕ) → judgement j ≡ judged k c → j ≡ Sound h
+    → judged k c ≡ accepted h
+unfolding judgement
+judged-sound k c e q = sym e ∙ ap judgement q
+
+-- ---- a report and a count
+module _ (k c : List ℕ) where
+  pub reportReply-refused : {n : ℕ} → judged k c ≡ refused n → reportReply k c ≡ reply n []
   unfolding reportReply
-  reportReply-book e = ifOpen-refused k (λ n. reply n []) _ e
+  reportReply-refused e = ifOpen-refused (judged k c) (λ n. reply n []) _ e
+
+  pub reportReply-sound : {h : Head} → judged k c ≡ accepted h → reportReply k c ≡ replyAt h (decode c)
+  unfolding reportReply
+  reportReply-sound e = ifOpen-accepted (judged k c) (λ n. reply n []) _ e
+
+  pub leftReply-refused : {n : ℕ} → judged k c ≡ refused n → leftReply k c ≡ reply n []
+  unfolding leftReply
+  leftReply-refused e = ifOpen-refused (judged k c) (λ n. reply n []) _ e
+
+  pub leftReply-sound : {h : Head} → judged k c ≡ accepted h
+      → leftReply k c ≡ reply 0 ((h .n - decode c .done) ∷ [])
+  unfolding leftReply
+  leftReply-sound e = ifOpen-accepted (judged k c) (λ n. reply n []) _ e
+
+  -- By the tally that was read from the checkpoint.
+  module _ {h : Head} {t : Tally} (e : judged k c ≡ accepted h) (r : t ≡ tallyIn c) where
+    state-is : stateOf t ≡ decode c
+    state-is = ap stateOf r ∙ stateOf-tallyIn c
+
+    pub reportReply-read : replyAt h (stateOf t) ≡ reportReply k c
+    reportReply-read = ap (replyAt h) state-is ∙ sym (reportReply-sound e)
+
+    pub leftReply-read : reply 0 ((h .n - t .done) ∷ []) ≡ leftReply k c
+    unfolding stateOf
+    leftReply-read = ap (λ (s : State). reply 0 ((h .n - s .done) ∷ [])) state-is ∙ sym (leftReply-sound e)
+
+  pub reportReply-book : {n : ℕ} → opened k ≡ refused n → reportReply k c ≡ reply n []
+  reportReply-book e = reportReply-refused (judged-book k c e)
 
   module _ {h : Head} (e : opened k ≡ accepted h) where
     pub reportReply-30 : (length c ≡ checkpointSize → ⊥) → reportReply k c ≡ reply 30 []
-    unfolding reportReply
-    reportReply-30 l = ifOpen-accepted k (λ n. reply n []) _ e ∙ choose-f _ (ne-eqb _ _ l) refl
+    reportReply-30 l = reportReply-refused (judged-open k c e ∙ judgedFor-30 h c l)
 
     pub reportReply-31 : length c ≡ checkpointSize → sound h c ≡ false → reportReply k c ≡ reply 31 []
-    unfolding reportReply
-    reportReply-31 l s =
-        ifOpen-accepted k (λ n. reply n []) _ e
-        ∙ choose-t _ (eq-eqb _ _ l) (choose-f _ s refl)
+    reportReply-31 l s = reportReply-refused (judged-open k c e ∙ judgedFor-31 h c l s)
 
     pub reportReply-at : length c ≡ checkpointSize → sound h c ≡ true → reportReply k c ≡ replyAt h (decode c)
-    unfolding reportReply
-    reportReply-at l s =
-        ifOpen-accepted k (λ n. reply n []) _ e
-        ∙ choose-t _ (eq-eqb _ _ l) (choose-t _ s refl)
+    reportReply-at l s = reportReply-sound (judged-open k c e ∙ judgedFor-sound h c l s)
+
+    pub leftReply-at : length c ≡ checkpointSize → sound h c ≡ true
+        → leftReply k c ≡ reply 0 ((h .n - decode c .done) ∷ [])
+    leftReply-at l s = leftReply-sound (judged-open k c e ∙ judgedFor-sound h c l s)
+
+-- The checkpoint of any state that fits the book.
+pub leftReply-encode : (k : List ℕ) (h : Head) (s : State) → opened k ≡ accepted h → FitFor h s
+    → leftReply k (encode h s) ≡ reply 0 ((h .n - s .done) ∷ [])
+leftReply-encode k h s e fit =
+    let book = accepted-facts k h e in
+    let few = records-le k h e in
+    leftReply-at k (encode h s) e (length-encode h s) (sound-encode h s fit few (omega arith) (omega arith))
+    ∙ ap (λ (x : State). reply 0 ((h .n - x .done) ∷ [])) (decode-encode h s fit few)
 
 -- ---- at a state
 module _ (h : Head) (s : State) where

@@ -23,57 +23,57 @@ use Rattle.job.proofs.TallyLaws.{sound-ledgersOf}
 use Rattle.job.proofs.ReplyLaws.{refused-0}
 
 -- ---- the book
-module _ {A : Type 0} (k : List ℕ) (refuse : ℕ → A) (go : Head → A) where
-  pub ifOpen-refused : {n : ℕ} → opened k ≡ refused n → ifOpen (opened k) refuse go ≡ refuse n
+module _ {A : Type 0} (a : Answer) (refuse : ℕ → A) (go : Head → A) where
+  pub ifOpen-refused : {n : ℕ} → a ≡ refused n → ifOpen a refuse go ≡ refuse n
   unfolding ifOpen
-  ifOpen-refused e = ap (λ (a : Answer). ifOpen a refuse go) e
+  ifOpen-refused e = ap (λ (b : Answer). ifOpen b refuse go) e
 
-  pub ifOpen-accepted : {h : Head} → opened k ≡ accepted h → ifOpen (opened k) refuse go ≡ go h
+  pub ifOpen-accepted : {h : Head} → a ≡ accepted h → ifOpen a refuse go ≡ go h
   unfolding ifOpen
-  ifOpen-accepted e = ap (λ (a : Answer). ifOpen a refuse go) e
+  ifOpen-accepted e = ap (λ (b : Answer). ifOpen b refuse go) e
 
 -- ---- a fresh start
 module _ {A : Type 0} (k out : List ℕ) (refuse : ℕ → A) (go : Head → A) where
   pub freshJudged-book : {n : ℕ} → opened k ≡ refused n → freshJudged k out refuse go ≡ refuse n
   unfolding freshJudged
-  freshJudged-book e = ifOpen-refused k refuse _ e
+  freshJudged-book e = ifOpen-refused (opened k) refuse _ e
 
   module _ {h : Head} (e : opened k ≡ accepted h) where
     pub freshJudged-32 : (length out ≡ checkpointSize → ⊥) → freshJudged k out refuse go ≡ refuse 32
     unfolding freshJudged
-    freshJudged-32 o = ifOpen-accepted k refuse _ e ∙ choose-f _ (ne-eqb _ _ o) refl
+    freshJudged-32 o = ifOpen-accepted (opened k) refuse _ e ∙ choose-f _ (ne-eqb _ _ o) refl
 
     pub freshJudged-go : length out ≡ checkpointSize → freshJudged k out refuse go ≡ go h
     unfolding freshJudged
-    freshJudged-go o = ifOpen-accepted k refuse _ e ∙ choose-t _ (eq-eqb _ _ o) refl
+    freshJudged-go o = ifOpen-accepted (opened k) refuse _ e ∙ choose-t _ (eq-eqb _ _ o) refl
 
 -- ---- a wake
 module _ {A : Type 0} (k c out : List ℕ) (refuse : ℕ → A) (go : Head → A) where
   pub wakeJudged-book : {n : ℕ} → opened k ≡ refused n → wakeJudged k c out refuse go ≡ refuse n
   unfolding wakeJudged
-  wakeJudged-book e = ifOpen-refused k refuse _ e
+  wakeJudged-book e = ifOpen-refused (opened k) refuse _ e
 
   module _ {h : Head} (e : opened k ≡ accepted h) where
     pub wakeJudged-30 : (length c ≡ checkpointSize → ⊥) → wakeJudged k c out refuse go ≡ refuse 30
     unfolding wakeJudged
-    wakeJudged-30 l = ifOpen-accepted k refuse _ e ∙ choose-f _ (ne-eqb _ _ l) refl
+    wakeJudged-30 l = ifOpen-accepted (opened k) refuse _ e ∙ choose-f _ (ne-eqb _ _ l) refl
 
     pub wakeJudged-31 : length c ≡ checkpointSize → sound h c ≡ false → wakeJudged k c out refuse go ≡ refuse 31
     unfolding wakeJudged
-    wakeJudged-31 l s = ifOpen-accepted k refuse _ e ∙ choose-t _ (eq-eqb _ _ l) (choose-f _ s refl)
+    wakeJudged-31 l s = ifOpen-accepted (opened k) refuse _ e ∙ choose-t _ (eq-eqb _ _ l) (choose-f _ s refl)
 
     pub wakeJudged-32 : length c ≡ checkpointSize → sound h c ≡ true → (length out ≡ checkpointSize → ⊥)
         → wakeJudged k c out refuse go ≡ refuse 32
     unfolding wakeJudged
     wakeJudged-32 l s o =
-        ifOpen-accepted k refuse _ e
+        ifOpen-accepted (opened k) refuse _ e
         ∙ choose-t _ (eq-eqb _ _ l) (choose-t _ s (choose-f _ (ne-eqb _ _ o) refl))
 
     pub wakeJudged-go : length c ≡ checkpointSize → sound h c ≡ true → length out ≡ checkpointSize
         → wakeJudged k c out refuse go ≡ go h
     unfolding wakeJudged
     wakeJudged-go l s o =
-        ifOpen-accepted k refuse _ e
+        ifOpen-accepted (opened k) refuse _ e
         ∙ choose-t _ (eq-eqb _ _ l) (choose-t _ s (choose-t _ (eq-eqb _ _ o) refl))
 
 -- ---- what is refused leaves the buffer as it was

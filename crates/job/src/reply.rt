@@ -1,4 +1,4 @@
-// What the three calls answer. specs/Reply.antt gives the number and the values of each case.
+// What the calls answer. specs/Reply.antt gives the number and the values of each case.
 use mass::figures::Figures;
 use rules::book;
 use rules::book::Fault;
@@ -49,4 +49,10 @@ pub enum Reported {
     RecordAside(u32, u8),
     // Every record was counted.
     Given(Figures),
+}
+
+pub enum Counted {
+    NotCounted(Refusal),
+    // So many records are left.
+    Left(u32),
 }

@@ -1,5 +1,7 @@
-// The report: figures once every record was counted, and until then why they are withheld.
+// The report: figures once every record was counted, and until then why they are withheld. Beside it
+// the count of the records left.
 use crate::checkpoint;
+use crate::reply::Counted;
 use crate::reply::Refusal;
 use crate::reply::Reported;
 use crate::tally::Tally;
@@ -10,11 +12,10 @@ use rules::book::Head;
 use rules::book::Opened;
 ghost use mathlib.Core.Path.{_≡_};
 ghost use Prim.Native.Nat.{_≤_};
-ghost use Rattle.rules.specs.Book.{opened, accepted};
 ghost use Rattle.job.specs.State.{FitFor};
 ghost use Rattle.job.specs.Tally.{tallyOf, stateOf};
-ghost use Rattle.job.specs.Reply.{reported};
-ghost use Rattle.job.specs.Report.{replyAt, reportReply};
+ghost use Rattle.job.specs.Reply.{reported, counted};
+ghost use Rattle.job.specs.Report.{replyAt, judgedFor, judged, judgement, reportReply, leftReply};
 
 // How many kilograms of CO2 one of CH4, and one of N2O, stands for.
 const WARMING_CH4: u64 = 21;
@@ -24,23 +25,52 @@ const WARMING_N2O: u64 = 310;
 pub fn report(book: &[u8], from: &[u8]) -> Reported
     ensures reply { λ r. ⌜ reported r ≡ reportReply (now (book .entry)) (now (from .entry)) ⌝ }
 {
-    match book::open(book) {
-        Opened::Wrong(fault) => Reported::NotReported(Refusal::Book(fault)),
-        Opened::Open(h) => report_open(book, h, from),
+    match judge(book, from) {
+        Judgement::Refused(x) => Reported::NotReported(x),
+        Judgement::Sound(h) => report_at(h, checkpoint::read(from)),
     }
 }
 
-fn report_open(book: &[u8], h: Head, from: &[u8]) -> Reported
-    requires opened { ⌜ opened (now book) ≡ accepted h ⌝ }
-    ensures reply { λ r. ⌜ reported r ≡ reportReply (now (book .entry)) (now (from .entry)) ⌝ }
+// How many records of the book are left.
+pub fn count_left(book: &[u8], from: &[u8]) -> Counted
+    ensures reply { λ r. ⌜ counted r ≡ leftReply (now (book .entry)) (now (from .entry)) ⌝ }
+{
+    match judge(book, from) {
+        Judgement::Refused(x) => Counted::NotCounted(x),
+        Judgement::Sound(h) => {
+            let t = checkpoint::read(from);
+            let left = h.n as u32 - t.done;
+            Counted::Left(left)
+        }
+    }
+}
+
+enum Judgement {
+    // The first rule that the book or the checkpoint breaks.
+    Refused(Refusal),
+    // The checkpoint is sound for the book with this head.
+    Sound(Head),
+}
+
+fn judge(book: &[u8], from: &[u8]) -> Judgement
+    ensures judged { λ r. ⌜ judgement r ≡ judged (now (book .entry)) (now (from .entry)) ⌝ }
+{
+    match book::open(book) {
+        Opened::Wrong(fault) => Judgement::Refused(Refusal::Book(fault)),
+        Opened::Open(h) => judge_for(h, from),
+    }
+}
+
+fn judge_for(h: Head, from: &[u8]) -> Judgement
+    ensures judged { λ r. ⌜ judgement r ≡ judgedFor h (now (from .entry)) ⌝ }
 {
     if from.len() != checkpoint::SIZE {
-        return Reported::NotReported(Refusal::CheckpointLength);
+        return Judgement::Refused(Refusal::CheckpointLength);
     }
     if !checkpoint::is_sound(h, from) {
-        return Reported::NotReported(Refusal::CheckpointUnsound);
+        return Judgement::Refused(Refusal::CheckpointUnsound);
     }
-    report_at(h, checkpoint::read(from))
+    Judgement::Sound(h)
 }
 
 // A report of a state that is sound.

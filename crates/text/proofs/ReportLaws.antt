@@ -110,7 +110,7 @@ annualText-whole k {h} e out next o p f w {r} q =
     let few = records-le k h e in
     let saved = w ∙ ap (λ (c : List ℕ). wakeBytes k c 4294967295 next) f in
     ap (replyText h) (q ∙ ap (reportReply k) saved ∙ reportReply-whole k h e 4294967295 out next (omega arith) o p)
-    ∙ sym (ifOpen-accepted k (λ n. refusedText n []) _ e)
+    ∙ sym (ifOpen-accepted (opened k) (λ n. refusedText n []) _ e)
 
 -- ---- the figures
 pub decisionText-must : {b : Bool} → b ≡ true → decisionText (choose b 1 0) ≡ ascii "must-report yes\n"

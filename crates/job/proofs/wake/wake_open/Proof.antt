@@ -4,19 +4,19 @@
 use Prim.Native.Nat.{ℕ, _+_, _-_, _≤_, min}
 use mathlib.Core.Bool.{true}
 use mathlib.Core.List.{[], _∷_}
-use mathlib.Core.Path.{_≡_, ap, ap₂, sym, _∙_, subst}
+use mathlib.Core.Path.{_≡_, ap, ap₂, sym, _∙_}
 use native.Mathlib.Omega.{arith}
 use borrow.Author.Needs.{needs}
 use Rattle.rules.proofs.TestsLaws.{is-not, is-so}
 use Rattle.rules.proofs.BookLaws.{Accepted, accepted-facts}
 use Rattle.job.specs.declared.tally.Tally.{Tally}
-use Rattle.job.specs.State.{State, run, FitFor}
+use Rattle.job.specs.State.{State, run}
 use Rattle.job.specs.Checkpoint.{sound, decode, encode}
-use Rattle.job.specs.Tally.{tallyIn, tallyOf, stateOf}
+use Rattle.job.specs.Tally.{tallyIn, stateOf}
 use Rattle.job.specs.Reply.{reply, woken}
 use Rattle.job.specs.Wake.{moves, wakeReply, wakeBytes}
 use Rattle.job.proofs.StateLaws.{fitFor-run}
-use Rattle.job.proofs.CheckpointLaws.{fitFor-sound, tallyIn-sound, stateOf-tallyIn}
+use Rattle.job.proofs.CheckpointLaws.{stateOf-tallyIn, ReadFrom, readFrom-sound}
 use Rattle.job.proofs.TallyLaws.{stateOf-tallyOf}
 use Rattle.job.proofs.WakeLaws.{wakeJudged-30, wakeJudged-31, wakeJudged-32, wakeJudged-go, records-le, sound-tally}
 use Rattle.job.proofs.wake.wake_open.Statement.{statement}
@@ -35,14 +35,10 @@ book-known c = accepted-facts _ _ (entry c .pre)
 said : (c : tie.After-read) → stateOf (c .read .result) ≡ decode (entry (c .before .before) .args .from .now)
 said c = ap stateOf (c .read .ensures) ∙ stateOf-tallyIn _
 
-fits : (c : tie.After-read) → FitFor (entry (c .before .before) .args .h) (stateOf (c .read .result))
-fits c = subst (FitFor _) (sym (said c)) (fitFor-sound _ _ (is-sound-so (c .before .before)))
-
-canonical : (c : tie.After-read) → c .read .result ≡ tallyOf (stateOf (c .read .result))
-canonical c =
-    c .read .ensures
-    ∙ tallyIn-sound _ _ (is-sound-so (c .before .before))
-    ∙ ap tallyOf (sym (said c))
+tally : (c : tie.After-read) →
+    let a = entry (c .before .before) .args in
+    ReadFrom (a .h) (a .from .now) (c .read .result)
+tally c = readFrom-sound _ _ (is-sound-so (c .before .before)) (c .read .ensures)
 
 -- ---- the refusals
 returns : tie.Need-returns
@@ -80,7 +76,7 @@ cast-left c = let k = book-known (c .before .before .before) in omega arith
 
 sub-left : tie.Need-sub-left
 unfolding stateOf
-sub-left c = let place = fits (c .before .before) .done-le in omega arith
+sub-left c = let place = tally (c .before .before) .fits .done-le in omega arith
 
 take-lesser-requires : tie.Need-take-lesser-requires
 take-lesser-requires c κs = search needs
@@ -90,12 +86,12 @@ few : (c : tie.After-take-lesser) →
     let t = c .before .before .before .read .result in
     t .done + c .take-lesser .result ≤ entry (c .before .before .before .before .before) .args .h .n
 unfolding stateOf
-few c = let place = fits (c .before .before .before) .done-le in omega (arith, c .take-lesser .ensures)
+few c = let place = tally (c .before .before .before) .fits .done-le in omega (arith, c .take-lesser .ensures)
 
 go-through-requires : tie.Need-go-through-requires
 go-through-requires c κs =
     let r = c .before .before .before in
-    (entry (r .before .before) .pre, (canonical r, (fits r, few c)))
+    (entry (r .before .before) .pre, (tally r .canonical, (tally r .fits, few c)))
 
 write-requires : tie.Need-write-requires
 unfolding stateOf
@@ -104,7 +100,7 @@ write-requires c κs =
     let r = l .before .before .before in
     let s = r .before .before in
     let e = entry s .pre in
-    let there = fitFor-run _ _ (stateOf (r .read .result)) (l .take-lesser .result) e (few l) (fits r) in
+    let there = fitFor-run _ _ (stateOf (r .read .result)) (l .take-lesser .result) e (few l) (tally r .fits) in
     (r .before .if3 .left, sound-tally _ _ (records-le _ _ e) (c .before .go-through .ensures) there)
 
 same-length : tie.Need-same-length

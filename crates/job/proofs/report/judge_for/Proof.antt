@@ -1,0 +1,28 @@
+-- The code tests in the order of the definition. Assumes nothing.
+use mathlib.Core.Path.{sym}
+use borrow.Author.Needs.{needs}
+use Rattle.rules.proofs.TestsLaws.{is-not, is-so}
+use Rattle.job.specs.Report.{judgement}
+use Rattle.job.proofs.ReportLaws.{judgedFor-30, judgedFor-31, judgedFor-sound}
+use Rattle.job.proofs.report.judge_for.Statement.{statement}
+use Rattle.job.proofs.report.judge_for.Tie as tie
+
+returns : tie.Need-returns
+unfolding judgement
+returns c = sym (judgedFor-30 _ _ (c .if1 .taken))
+
+is-sound-requires : tie.Need-is-sound-requires
+is-sound-requires c κs = search needs
+
+returns-2 : tie.Need-returns-2
+unfolding judgement
+returns-2 c =
+    sym (judgedFor-31 _ _ (c .before .before .if1 .left) (is-not (c .before .is-sound .ensures) (c .if2 .taken)))
+
+returns-3 : tie.Need-returns-3
+unfolding judgement
+returns-3 c =
+    sym (judgedFor-sound _ _ (c .before .before .if1 .left) (is-so (c .before .is-sound .ensures) (c .if2 .left)))
+
+pub judge-for-spec : {M : Type 1} → statement M
+judge-for-spec = tie.close (tie.spec returns is-sound-requires returns-2 returns-3)
