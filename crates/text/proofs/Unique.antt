@@ -4,6 +4,7 @@ use mathlib.Core.Path.{_≡_, sym, _∙_}
 use Rattle.text.proofs.report.tell_year.Reads as tell-year
 use Rattle.text.proofs.report.refuse.Reads as refuse
 use Rattle.text.proofs.progress.tell_progress.Reads as tell-progress
+use Rattle.text.proofs.progress.tell_turn.Reads as tell-turn
 use Rattle.text.proofs.progress.hint.Reads as hint
 use Rattle.text.proofs.lines.count.Reads as count
 use Rattle.text.proofs.lines.tell_record.Reads as tell-record
@@ -24,6 +25,10 @@ refuse-unique κs a r s x y p q = p ∙ sym q
 pub tell-progress-unique : (κs : _) (a : _) (r s : _) (x y : _)
     → tell-progress.Post κs a r x → tell-progress.Post κs a s y → r ≡ s
 tell-progress-unique κs a r s x y p q = p ∙ sym q
+
+pub tell-turn-unique : (κs : _) (a : _) (r s : _) (x y : _)
+    → tell-turn.Post κs a r x → tell-turn.Post κs a s y → r ≡ s
+tell-turn-unique κs a r s x y p q = p ∙ sym q
 
 pub hint-unique : (κs : _) (a : _) (r s : _) (x y : _) → hint.Post κs a r x → hint.Post κs a s y → r ≡ s
 hint-unique κs a r s x y p q = p ∙ sym q

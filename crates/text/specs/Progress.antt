@@ -1,10 +1,12 @@
--- What `wake` prints once it has saved: how far it went and, when the book is finished, the report.
+-- What is printed of a wake that has saved: how far it went and, when the book is finished, the report.
 -- RULES, "Programs".
 --
---     movedText h m d      m records gone through by this wake, and d done of all
---     progressText k c m   what is printed of a wake of the book k that went through m records and saved c
---     progressBy h m r     the same, of the reply to a report of what was saved
---     hintText n           what an operator is told beside a refusal: what 30 and 31 ask for
+--     movedText gap h m d      m records gone through by this wake, and d done of all, behind a gap
+--     progressBy gap h m r     what is printed, of the reply r to a report of what was saved
+--     progressWith gap k c m   what is printed of a wake of the book k that went through m records and saved c
+--     progressText k c m       the same as `wake` prints it: how far it went in two lines
+--     turnText k c m           the same as `tablet` prints it, behind a plant's name: in one line
+--     hintText n               what an operator is told beside a refusal: what 30 and 31 ask for
 --
 -- Laws: proofs/ProgressLaws.antt. Definitions only.
 use Prim.Native.Nat.{ℕ}
@@ -19,18 +21,24 @@ use Rattle.job.specs.Report.{reportReply}
 use Rattle.text.specs.Words.{ascii, field, line}
 use Rattle.text.specs.Report.{value, refusedText, replyText}
 
-unfoldable pub movedText : Head → ℕ → ℕ → List ℕ
-movedText h m d = line (ascii "moved ") m ++ field (ascii "done ") d ++ line (ascii " of ") (h .n)
+unfoldable pub movedText : List ℕ → Head → ℕ → ℕ → List ℕ
+movedText gap h m d = field (ascii "moved ") m ++ field gap d ++ line (ascii " of ") (h .n)
 
 -- 40 tells how many are done; figures and 41 are given of a finished book alone.
-unfoldable pub progressBy : Head → ℕ → Reply → List ℕ
-progressBy h m (reply n vs) =
-    choose (eqb n 40) (movedText h m (value vs 0))
-    (choose (eqb n 0 either eqb n 41) (movedText h m (h .n) ++ replyText h (reply n vs))
+unfoldable pub progressBy : List ℕ → Head → ℕ → Reply → List ℕ
+progressBy gap h m (reply n vs) =
+    choose (eqb n 40) (movedText gap h m (value vs 0))
+    (choose (eqb n 0 either eqb n 41) (movedText gap h m (h .n) ++ replyText h (reply n vs))
     (refusedText n vs))
 
+unfoldable pub progressWith : List ℕ → List ℕ → List ℕ → ℕ → List ℕ
+progressWith gap k c m = ifOpen (opened k) (λ n. refusedText n []) (λ h. progressBy gap h m (reportReply k c))
+
 unfoldable pub progressText : List ℕ → List ℕ → ℕ → List ℕ
-progressText k c m = ifOpen (opened k) (λ n. refusedText n []) (λ h. progressBy h m (reportReply k c))
+progressText k c m = progressWith (ascii "\ndone ") k c m
+
+unfoldable pub turnText : List ℕ → List ℕ → ℕ → List ℕ
+turnText k c m = progressWith (ascii " done ") k c m
 
 unfoldable pub hintText : ℕ → List ℕ
 hintText n =

@@ -43,22 +43,22 @@ say-reported-requires-2 c κs = search needs
 returns : tie.Need-returns
 returns c =
     c .say-refusal .ensures
-    ∙ ap (extended _) (sym (progressBy-notReported _ _ _ (c .before .before .r .given .1)))
+    ∙ ap (extended _) (sym (progressBy-notReported _ _ _ _ (c .before .before .r .given .1)))
 
 returns-2 : tie.Need-returns-2
 returns-2 c =
     c .say-moved .ensures
-    ∙ ap (extended _) (sym (progressBy-unfinished _ _ _ (c .before .before .r2 .given .1)))
+    ∙ ap (extended _) (sym (progressBy-unfinished _ _ _ _ (c .before .before .r2 .given .1)))
 
 returns-3 : tie.Need-returns-3
 returns-3 c =
     extended-more _ _ _ (c .before .say-moved2 .ensures) (c .say-reported .ensures)
-    ∙ ap (extended _) (sym (progressBy-recordAside _ _ _ _ (c .before .before .before .r3 .given .1)))
+    ∙ ap (extended _) (sym (progressBy-recordAside _ _ _ _ _ (c .before .before .before .r3 .given .1)))
 
 returns-4 : tie.Need-returns-4
 returns-4 c =
     extended-more _ _ _ (c .before .say-moved3 .ensures) (c .say-reported2 .ensures)
-    ∙ ap (extended _) (sym (progressBy-given _ _ _ (c .before .before .before .r4 .given .1)))
+    ∙ ap (extended _) (sym (progressBy-given _ _ _ _ (c .before .before .before .r4 .given .1)))
 
 pub say-progress-spec : {M : Type 1} → statement M
 say-progress-spec =

@@ -6,7 +6,7 @@ use borrow.Author.Needs.{needs}
 use Rattle.job.specs.Reply.{Reply}
 use Rattle.job.proofs.WakeLaws.{ifOpen-accepted}
 use Rattle.text.specs.Page.{pageOf}
-use Rattle.text.specs.Progress.{progressBy, progressText}
+use Rattle.text.specs.Progress.{progressBy, progressWith}
 use Rattle.text.proofs.PageLaws.{extended-blank}
 use Rattle.text.proofs.WordsLaws.{wider}
 use Rattle.text.proofs.ProgressLaws.{progressBy-le}
@@ -23,14 +23,14 @@ say-progress-requires : tie.Need-say-progress-requires
 say-progress-requires c κs = search needs
 
 returns : tie.Need-returns
-unfolding progressText
+unfolding progressWith
 returns c =
-    let start = c .before .before .before .before .before in
+    let start = c .before .before .before .before .before .before in
     let a = start .args in
     extended-blank _ (c .before .take-blank .ensures) (c .say-progress .ensures)
-    (wider (progressBy-le (a .h) (a .moved) _) (omega arith) .le)
-    ∙ ap (λ (x : Reply). pageOf (progressBy (a .h) (a .moved) x)) (c .before .before .report .ensures)
-    ∙ ap pageOf (sym (ifOpen-accepted _ _ _ (start .pre)))
+    (wider (progressBy-le _ (a .h) (a .moved) (start .pre .0) _) (omega arith) .le)
+    ∙ ap (λ (x : Reply). pageOf (progressBy (a .gap .now) (a .h) (a .moved) x)) (c .before .before .report .ensures)
+    ∙ ap pageOf (sym (ifOpen-accepted _ _ _ (start .pre .1)))
 
 pub tell-open-spec : {M : Type 1} → statement M
 tell-open-spec =

@@ -1,46 +1,18 @@
--- What `open` answers decides. Assumes nothing.
-use mathlib.Core.Path.{sym, ap, _∙_}
+-- `tell`, with what stands between the two parts. Assumes nothing.
 use borrow.Author.Needs.{needs}
-use Rattle.rules.proofs.BookLaws.{opened-open, opened-wrong}
-use Rattle.job.proofs.WakeLaws.{ifOpen-refused}
-use Rattle.text.specs.Page.{pageOf}
 use Rattle.text.specs.Progress.{progressText}
 use Rattle.text.proofs.progress.tell_progress.Statement.{statement}
 use Rattle.text.proofs.progress.tell_progress.Tie as tie
 
-open-requires : tie.Need-open-requires
-open-requires c κs = search needs
+slice-aggregate-tell : tie.Need-slice-aggregate-tell
+slice-aggregate-tell c = search needs
 
-enum-known-fault : tie.Need-enum-known-fault
-enum-known-fault c = search needs
-
-refuse-book-requires : tie.Need-refuse-book-requires
-refuse-book-requires c κs = search needs
-
-enum-known-h : tie.Need-enum-known-h
-enum-known-h c = search needs
-
-tell-open-requires : tie.Need-tell-open-requires
-tell-open-requires c κs = opened-open _ (c .before .before .before .«open» .ensures) (c .before .h .given .1)
+tell-requires : tie.Need-tell-requires
+tell-requires c κs = search needs
 
 returns : tie.Need-returns
 unfolding progressText
-returns c =
-    c .refuse-book .ensures
-    ∙ ap pageOf (sym (ifOpen-refused _ _ _
-    (opened-wrong _ (c .before .before .before .before .«open» .ensures) (c .before .before .fault .given .1))))
-
-returns-2 : tie.Need-returns-2
-returns-2 c = search needs
+returns c = c .tell .ensures
 
 pub tell-progress-spec : {M : Type 1} → statement M
-tell-progress-spec =
-    tie.close
-    (tie.spec
-    open-requires
-    enum-known-fault
-    refuse-book-requires
-    enum-known-h
-    tell-open-requires
-    returns
-    returns-2)
+tell-progress-spec = tie.close (tie.spec slice-aggregate-tell tell-requires returns)
