@@ -1,0 +1,10 @@
+-- The argument, from tests to the promise: lines, plants, the place in the round; then uniqueness.
+pub mod TestsLaws
+pub mod BytesLaws
+pub mod LinesLaws
+pub mod PlantsLaws
+pub mod JudgedLaws
+pub mod ToldLaws
+pub mod PlaceLaws
+pub mod Demands
+pub mod Unique

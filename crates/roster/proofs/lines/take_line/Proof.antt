@@ -1,0 +1,55 @@
+-- What is left after i lines begins with line i, if a line is left. Assumes nothing.
+use mathlib.Core.Path.{_∙_}
+use borrow.Author.Needs.{needs}
+use Rattle.roster.proofs.TestsLaws.{is}
+use Rattle.roster.proofs.LinesLaws.{lineAt-ended, lineAt-none}
+use Rattle.roster.proofs.lines.take_line.Statement.{statement}
+use Rattle.roster.proofs.lines.take_line.Tie as tie
+use Rattle.roster.proofs.lines.take_line.Reads as reads
+use Rattle.roster.proofs.lines.take_line.Lts as lts
+
+-- src/lines.rt:53:9
+take-after-requires : tie.Need-take-after-requires
+take-after-requires c κs = search needs
+
+-- src/lines.rt:54:8
+has-byte-requires : tie.Need-has-byte-requires
+has-byte-requires c κs = search needs
+
+-- src/lines.rt:55:9
+take-front-requires : tie.Need-take-front-requires
+take-front-requires c κs = search needs
+
+-- src/lines.rt:55:9
+returns : tie.Need-returns
+returns c =
+    let tested = c .before .before in
+    let left = tested .before in
+    let a = left .before .before .args in
+    c .take-front .ensures
+    ∙ lineAt-ended (a .i) (a .text .now) (left .take-after .ensures)
+    (is (tested .has-byte .ensures) (c .before .if1 .taken))
+
+-- src/lines.rt:57:5
+slice-aggregate-result : tie.Need-slice-aggregate-result
+slice-aggregate-result c = search needs
+
+-- src/lines.rt:50:1
+returns-2 : tie.Need-returns-2
+returns-2 c =
+    let tested = c .before .before in
+    let left = tested .before in
+    let a = left .before .before .args in
+    lineAt-none (a .i) (a .text .now) (left .take-after .ensures)
+    (is (tested .has-byte .ensures) (c .before .if1 .left))
+
+pub take-line-spec : {M : Type 1} → statement M
+take-line-spec =
+    tie.close
+    (tie.spec
+    take-after-requires
+    has-byte-requires
+    take-front-requires
+    returns
+    slice-aggregate-result
+    returns-2)

@@ -1,0 +1,159 @@
+-- The lines passed are right, and what is left says what is told of the whole. Assumes nothing.
+use Prim.Native.Nat.{ℕ, _+_, _≤_, _<_, zero-le}
+use mathlib.Core.Bool.{true}
+use mathlib.Core.List.{List, map}
+use mathlib.Core.Path.{_≡_, refl, ap, sym, _∙_}
+use native.Mathlib.Omega.{arith}
+use lib.ListN.{length}
+use borrow.Author.Needs.{needs}
+use Rattle.roster.specs.Bytes.{front, has}
+use Rattle.roster.specs.Lines.{newline, split, linesOf}
+use Rattle.roster.specs.Plants.{mostPlants, checkpointOf, isPlant, namedBefore, judgedFrom, judged}
+use Rattle.roster.proofs.TestsLaws.{is, is-not, is-so}
+use Rattle.roster.proofs.BytesLaws.{rest-lt}
+use Rattle.roster.proofs.JudgedLaws.{judged-end, judged-unended, judged-many, judged-wrong, judged-again, judged-next}
+use Rattle.roster.proofs.plants.judge.Statement.{statement}
+use Rattle.roster.proofs.plants.judge.Tie as tie
+
+abbrev Inv-loop : tie.InvT-loop
+Inv-loop list left₀ i₀ left i =
+    (i ≤ mostPlants)
+    × (judgedFrom (map checkpointOf (linesOf list)) i (linesOf left) (split left .unended) ≡ judged list)
+
+abbrev μ-loop : tie.MeasureT-loop
+μ-loop list left₀ i₀ left i = length left
+
+-- A line stands at the head of what is left.
+abbrev Head : Type 0
+Head = tie.Else2 Inv-loop μ-loop
+
+abbrev left : Head → List ℕ
+left c = c .before .before .before .before .loop .left .now
+
+abbrev index : Head → ℕ
+index c = c .before .before .before .before .loop .i
+
+ended : (c : Head) → has newline (left c) ≡ true
+ended c = is-so (c .before .has-byte .ensures) (c .if2 .left)
+
+few : (c : Head) → index c < mostPlants
+few c =
+    let most = c .before .before .before .before .loop .inv .0 in
+    omega arith
+
+-- It is a plant's, and its CHECKPOINT has been looked for.
+abbrev Named : Type 0
+Named = tie.After-is-named-before Inv-loop μ-loop
+
+abbrev head : Named → Head
+head c = c .before .before .before .before
+
+abbrev checkpoints : Named → List (List ℕ)
+checkpoints c = map checkpointOf (linesOf (head c .before .before .before .before .before .before .args .list .now))
+
+plant : (c : Named) → isPlant (front newline (left (head c))) ≡ true
+plant c =
+    let tested = c .before in
+    ap isPlant (sym (tested .before .before .take-front .ensures))
+    ∙ is-so (tested .before .is-plant .ensures) (tested .if3 .left)
+
+named : (c : Named)
+    → c .is-named-before .result ≡ namedBefore (checkpoints c) (index (head c)) (front newline (left (head c)))
+named c =
+    c .is-named-before .ensures
+    ∙ ap (namedBefore (checkpoints c) (index (head c))) (c .before .before .before .take-front .ensures)
+
+loop-holds : tie.Need-loop-holds Inv-loop μ-loop
+unfolding judged
+loop-holds c = (zero-le, refl)
+
+returns : tie.Need-returns Inv-loop μ-loop
+returns c =
+    let at = c .before .before .loop in
+    let a = c .before .before .before .before .args in
+    judged-many _ (at .i) (at .left .now) (at .inv .1) (c .before .loop-test .taken) (omega arith)
+
+has-byte-requires : tie.Need-has-byte-requires Inv-loop μ-loop
+has-byte-requires c κs = search needs
+
+returns-2 : tie.Need-returns-2 Inv-loop μ-loop
+returns-2 c =
+    let at = c .before .before .before .before .loop in
+    let most = at .inv .0 in
+    judged-unended _ (at .i) (at .left .now) (at .inv .1)
+    (is-not (c .before .has-byte .ensures) (c .if2 .taken)) (search needs) (omega arith)
+
+take-front-requires : tie.Need-take-front-requires Inv-loop μ-loop
+take-front-requires c κs = search needs
+
+is-plant-requires : tie.Need-is-plant-requires Inv-loop μ-loop
+is-plant-requires c κs = search needs
+
+returns-3 : tie.Need-returns-3 Inv-loop μ-loop
+returns-3 c =
+    let line = c .before .before in
+    let at = line .before .before .before .before .before .loop in
+    judged-wrong _ (at .i) (at .left .now) (at .inv .1) (ended (line .before)) (few (line .before))
+    (ap isPlant (sym (line .take-front .ensures)) ∙ is-not (c .before .is-plant .ensures) (c .if3 .taken))
+
+is-named-before-requires : tie.Need-is-named-before-requires Inv-loop μ-loop
+is-named-before-requires c κs = search needs
+
+returns-4 : tie.Need-returns-4 Inv-loop μ-loop
+returns-4 c =
+    let here = c .before in
+    let at = head here .before .before .before .before .loop in
+    judged-again _ (at .i) (at .left .now) (at .inv .1) (ended (head here)) (few (head here)) (plant here)
+    (is (named here) (c .if4 .taken))
+
+take-rest-requires : tie.Need-take-rest-requires Inv-loop μ-loop
+take-rest-requires c κs = search needs
+
+add-i : tie.Need-add-i Inv-loop μ-loop
+add-i c =
+    let low = few (head (c .before .before)) in
+    search (needs, low)
+
+loop-less : tie.Need-loop-less Inv-loop μ-loop
+loop-less c =
+    let line = head (c .before .before) in
+    rest-lt newline (left line) (c .take-rest .ensures) (ended line)
+
+loop-again : tie.Need-loop-again Inv-loop μ-loop
+loop-again c =
+    let here = c .before .before in
+    let line = head here in
+    let low = few line in
+    let at = line .before .before .before .before .loop in (
+      omega arith,
+      ap (λ (t : List ℕ). judgedFrom (checkpoints here) (at .i + 1) (linesOf t) (split t .unended))
+          (c .take-rest .ensures)
+          ∙ judged-next _ (at .i) (at .left .now) (at .inv .1) (ended line) low (plant here)
+          (is (named here) (c .before .if4 .left)),
+    )
+
+returns-5 : tie.Need-returns-5 Inv-loop μ-loop
+returns-5 c =
+    let at = c .before .loop in
+    judged-end _ (at .i) (at .left .now) (at .inv .1) (c .loop-test .left)
+
+pub judge-spec : {M : Type 1} → statement M
+judge-spec =
+    tie.close
+    (tie.spec
+    Inv-loop
+    μ-loop
+    loop-holds
+    returns
+    has-byte-requires
+    returns-2
+    take-front-requires
+    is-plant-requires
+    returns-3
+    is-named-before-requires
+    returns-4
+    take-rest-requires
+    add-i
+    loop-less
+    loop-again
+    returns-5)

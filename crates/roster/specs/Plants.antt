@@ -1,0 +1,84 @@
+-- What makes a list of plants right, and which fault is told. RULES, "List of plants".
+--
+--     mostPlants                 16
+--     longestBook                4,095
+--     longestCheckpoint          4,088
+--     space                      the byte between BOOK and CHECKPOINT
+--     visible w                  every byte of w is above 32
+--     isWord m w                 w is a word of at most m bytes
+--     bookOf l                   the BOOK that the line l names
+--     checkpointOf l             the CHECKPOINT that the line l names
+--     isPlant l                  l is a plant's line
+--     partOf p l                 the whole line l, or its CHECKPOINT
+--     indexFrom j n w ws         where w first stands in ws, whose first is number j; n, if it doesn't
+--     namedBefore cs i l         a line before line i names the CHECKPOINT of l, cs being those of the whole list
+--     judgedFrom cs i ls u       what is told of the lines ls, the first of them line i of the list, and of the
+--                                unended u after them, cs being the CHECKPOINTs of the whole list
+--     judged t                   what is told of the list t
+--
+-- Laws: proofs/PlantsLaws.antt, proofs/JudgedLaws.antt, proofs/ToldLaws.antt. Definitions only.
+use Prim.Native.Nat.{ℕ, suc}
+use mathlib.Core.Bool.{Bool, true, cond, _&&_}
+use mathlib.Core.List.{List, [], _∷_, map}
+use lib.Dec.{ltb, leb}
+use lib.ListN.{length}
+use Rattle.roster.specs.declared.plants.Part.{Part}
+use Rattle.roster.specs.declared.plants.Part.the-variants.{Line, Checkpoint}
+use Rattle.roster.specs.declared.plants.Listed.{Listed}
+use Rattle.roster.specs.declared.plants.Listed.the-variants.{Plants, Wrong, Again, Many}
+use Rattle.roster.specs.Bytes.{front, rest, same}
+use Rattle.roster.specs.Lines.{split, linesOf}
+
+abbrev pub mostPlants : ℕ
+mostPlants = 16
+
+abbrev pub longestBook : ℕ
+longestBook = 4095
+
+abbrev pub longestCheckpoint : ℕ
+longestCheckpoint = 4088
+
+abbrev pub space : ℕ
+space = 32
+
+unfoldable pub visible : List ℕ → Bool
+visible [] = true
+visible (b ∷ w) = ltb 32 b && visible w
+
+unfoldable pub isWord : ℕ → List ℕ → Bool
+isWord m w = leb 1 (length w) && leb (length w) m && visible w
+
+unfoldable pub bookOf : List ℕ → List ℕ
+bookOf l = front space l
+
+unfoldable pub checkpointOf : List ℕ → List ℕ
+checkpointOf l = rest space l
+
+-- A line with no space names an empty CHECKPOINT, and one with a second space has it in its CHECKPOINT: neither
+-- is a plant's.
+unfoldable pub isPlant : List ℕ → Bool
+isPlant l = isWord longestBook (bookOf l) && isWord longestCheckpoint (checkpointOf l)
+
+abbrev pub partOf : Part → List ℕ → List ℕ
+partOf Line l = l
+partOf Checkpoint l = checkpointOf l
+
+unfoldable pub indexFrom : ℕ → ℕ → List ℕ → List (List ℕ) → ℕ
+indexFrom j n w [] = n
+indexFrom j n w (x ∷ ws) = cond (same x w) j (indexFrom (suc j) n w ws)
+
+unfoldable pub namedBefore : List (List ℕ) → ℕ → List ℕ → Bool
+namedBefore cs i l = ltb (indexFrom 0 i (checkpointOf l) cs) i
+
+unfoldable pub judgedFrom : List (List ℕ) → ℕ → List (List ℕ) → List ℕ → Listed
+judgedFrom cs i [] [] = Plants i
+judgedFrom cs i [] (x ∷ u) = cond (ltb i mostPlants) (Wrong i) Many
+judgedFrom cs i (l ∷ ls) u =
+    cond (ltb i mostPlants)
+    (cond (isPlant l)
+    (cond (namedBefore cs i l) (Again i) (judgedFrom cs (suc i) ls u))
+    (Wrong i))
+    Many
+
+unfoldable pub judged : List ℕ → Listed
+judged t = judgedFrom (map checkpointOf (linesOf t)) 0 (linesOf t) (split t .unended)
