@@ -3,6 +3,7 @@ pub mod PageLaws
 pub mod WordsLaws
 pub mod ReportLaws
 pub mod ProgressLaws
+pub mod PlantsLaws
 pub mod LinesLaws
 pub mod BudgetLaws
 pub mod FrameLaws

@@ -18,6 +18,10 @@ unfolding extended
 extended-append p [] t = refl
 extended-append p (b ∷ s) t = extended-append (withByte p b) s t
 
+pub extended-none : (p : Page) → p ≡ extended p []
+unfolding extended
+extended-none p = refl
+
 pub extended-one : {q : Page} (p : Page) (b : ℕ) → q ≡ withByte p b → q ≡ extended p (b ∷ [])
 unfolding extended
 extended-one p b e = e

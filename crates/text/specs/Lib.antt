@@ -3,6 +3,7 @@ pub mod Words
 pub mod Page
 pub mod Report
 pub mod Progress
+pub mod Plants
 pub mod Lines
 pub mod Budget
 pub mod Frame

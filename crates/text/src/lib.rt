@@ -4,5 +4,6 @@ pub mod frame;
 pub mod lines;
 mod number;
 pub mod page;
+pub mod plants;
 pub mod progress;
 pub mod report;

@@ -1,0 +1,69 @@
+-- Each fault has its words. Assumes nothing.
+use mathlib.Core.Path.{ap, sym, _∙_}
+use borrow.Author.Needs.{needs}
+use Rattle.text.specs.Page.{extended}
+use Rattle.text.proofs.PageLaws.{extended-none}
+use Rattle.text.proofs.PlantsLaws.{faultText-plants, faultText-wrong, faultText-again, faultText-many}
+use Rattle.text.proofs.plants.say_fault.Statement.{statement}
+use Rattle.text.proofs.plants.say_fault.Tie as tie
+
+enum-told : tie.Need-enum-told
+enum-told c = search needs
+
+enum-known-x : tie.Need-enum-known-x
+enum-known-x c = search needs
+
+slice-aggregate-say-of-line : tie.Need-slice-aggregate-say-of-line
+slice-aggregate-say-of-line c = search needs
+
+say-of-line-requires : tie.Need-say-of-line-requires
+say-of-line-requires c κs = search needs
+
+enum-known-x-2 : tie.Need-enum-known-x-2
+enum-known-x-2 c = search needs
+
+slice-aggregate-say-of-line-2 : tie.Need-slice-aggregate-say-of-line-2
+slice-aggregate-say-of-line-2 c = search needs
+
+say-of-line-requires-2 : tie.Need-say-of-line-requires-2
+say-of-line-requires-2 c κs = search needs
+
+enum-told-2 : tie.Need-enum-told-2
+enum-told-2 c = search needs
+
+slice-aggregate-say : tie.Need-slice-aggregate-say
+slice-aggregate-say c = search needs
+
+say-requires : tie.Need-say-requires
+say-requires c κs = search needs
+
+returns : tie.Need-returns
+returns c = extended-none _ ∙ ap (extended _) (sym (faultText-plants (c .enum-told .given .1)))
+
+returns-2 : tie.Need-returns-2
+returns-2 c = c .say-of-line .ensures ∙ ap (extended _) (sym (faultText-wrong (c .before .before .before .x .given .1)))
+
+returns-3 : tie.Need-returns-3
+returns-3 c = c .say-of-line2 .ensures ∙ ap (extended _) (sym (faultText-again (c .before .before .before .x2 .given .1)))
+
+returns-4 : tie.Need-returns-4
+returns-4 c = c .say .ensures ∙ ap (extended _) (sym (faultText-many (c .before .before .enum-told2 .given .1)))
+
+pub say-fault-spec : {M : Type 1} → statement M
+say-fault-spec =
+    tie.close
+    (tie.spec
+    enum-told
+    enum-known-x
+    slice-aggregate-say-of-line
+    say-of-line-requires
+    enum-known-x-2
+    slice-aggregate-say-of-line-2
+    say-of-line-requires-2
+    enum-told-2
+    slice-aggregate-say
+    say-requires
+    returns
+    returns-2
+    returns-3
+    returns-4)
