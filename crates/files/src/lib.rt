@@ -53,7 +53,7 @@ pub fn read_file(path: &[u8], buf: &mut [u8]) -> Got {
 }
 
 // Reads an open file and closes it. A failure is told before the close, which may set errno.
-pub(crate) fn read_open(fd: i32, path: &[u8], buf: &mut [u8]) -> Got {
+pub fn read_open(fd: i32, path: &[u8], buf: &mut [u8]) -> Got {
     let got = read_all(fd, buf);
     match got {
         Got::Failed => os::fail(path),

@@ -1,0 +1,54 @@
+-- Each turn leaves a plant less. Assumes nothing.
+use Prim.Native.Nat.{_-_}
+use borrow.Author.Needs.{needs}
+use Rattle.tablet.proofs.round.fill.Statement.{statement}
+use Rattle.tablet.proofs.round.fill.Tie as tie
+
+abbrev Inv-loop : tie.InvT-loop
+Inv-loop list n q₀ i₀ q i = Unit {0}
+
+abbrev μ-loop : tie.MeasureT-loop
+μ-loop list n q₀ i₀ q i = n - i
+
+begin-requires : tie.Need-begin-requires Inv-loop μ-loop
+begin-requires c κs = search needs
+
+loop-holds : tie.Need-loop-holds Inv-loop μ-loop
+loop-holds c = search needs
+
+take-line-requires : tie.Need-take-line-requires Inv-loop μ-loop
+take-line-requires c κs = search needs
+
+count-requires : tie.Need-count-requires Inv-loop μ-loop
+count-requires c κs = search needs
+
+add-requires : tie.Need-add-requires Inv-loop μ-loop
+add-requires c κs = search needs
+
+add-i : tie.Need-add-i Inv-loop μ-loop
+add-i c = search needs
+
+loop-less : tie.Need-loop-less Inv-loop μ-loop
+loop-less c = search needs
+
+loop-again : tie.Need-loop-again Inv-loop μ-loop
+loop-again c = search needs
+
+returns : tie.Need-returns Inv-loop μ-loop
+returns c = search needs
+
+pub fill-spec : {M : Type 1} → statement M
+fill-spec =
+    tie.close
+    (tie.spec
+    Inv-loop
+    μ-loop
+    begin-requires
+    loop-holds
+    take-line-requires
+    count-requires
+    add-requires
+    add-i
+    loop-less
+    loop-again
+    returns)

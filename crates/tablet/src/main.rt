@@ -1,0 +1,87 @@
+// Several plants in turn, as a tablet starts it in the morning: `tablet LIST BUDGET`.
+mod plant;
+mod round;
+
+use files::Got;
+use libc::STDERR_FILENO;
+use roster::plants;
+use roster::plants::Listed;
+use text::budget;
+use text::budget::Budget;
+
+fn main() {
+    if os::arg_count() != 3 {
+        tell_usage();
+        return;
+    }
+    let mut word = [0u8; 4096];
+    let n = os::arg(2, &mut word);
+    if os::errno() != 0 {
+        tell_usage();
+        return;
+    }
+    match budget::read(&word[..n]) {
+        Budget::Wrong => tell_usage(),
+        Budget::Records(b) => read_path(b),
+    }
+}
+
+fn tell_usage() {
+    io::write_all(STDERR_FILENO, b"usage: tablet LIST BUDGET, of 1 or more\n");
+}
+
+fn read_path(b: u32) {
+    // The longest path has 4,095 bytes, the place beside LIST has 6 more than LIST, and the name
+    // beside that has 7 more.
+    let mut path = [0u8; 4082];
+    let n = os::arg(1, &mut path);
+    // With a budget of 0 no turn would be the last.
+    if os::errno() != 0 || b == 0 {
+        tell_usage();
+        return;
+    }
+    read_list(&path[..n], b);
+}
+
+fn read_list(path: &[u8], b: u32) {
+    // 16 of the longest lines come to 130,960 bytes: what is longer is wrong in what is read of it.
+    let mut list = [0u8; 131072];
+    match files::read_file(path, &mut list) {
+        Got::Failed => {}
+        Got::Bytes(n) => {
+            let end = end_line(&mut list, n);
+            judge(files::take_front(&list, end), path, b);
+        }
+    }
+}
+
+// A last line without its newline is given one, if there is room.
+fn end_line(list: &mut [u8], n: usize) -> usize {
+    if n == 0 {
+        return n;
+    }
+    if list.len() <= n {
+        return n;
+    }
+    if list[n - 1] == b'\n' {
+        return n;
+    }
+    list[n] = b'\n';
+    n + 1
+}
+
+fn judge(list: &[u8], path: &[u8], b: u32) {
+    let listed = plants::judge(list);
+    match listed {
+        Listed::Plants(n) => round::run(list, n as usize, path, b),
+        Listed::Wrong(_) => complain(path, listed),
+        Listed::Again(_) => complain(path, listed),
+        Listed::Many => complain(path, listed),
+    }
+}
+
+fn complain(path: &[u8], listed: Listed) {
+    io::write_all(STDERR_FILENO, path);
+    io::write_all(STDERR_FILENO, b": ");
+    files::write_page(STDERR_FILENO, text::plants::tell_fault(listed));
+}
