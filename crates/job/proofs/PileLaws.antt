@@ -138,7 +138,7 @@ sound-begun h k t o e f p =
     let few : h .n ≤ 131072 = omega arith in
     subst AllSound (sym (ap (λ (x : Tally). x .ledgers) (p ∙ e))) (sound-ledgersOf h (stateOf t) f few)
 
--- ---- the parts of a book, and a turn
+-- ---- the parts of a book
 -- The parts that hints are taken from are within the book.
 pub record Parts (h : Head) (k : List ℕ) : Type 0 where
   pub end : 32 ≤ h .length
@@ -150,15 +150,35 @@ parts h k o =
     let known = accepted-facts k h o in
     record { end = omega arith; units = (omega arith, omega arith); fuels = (omega arith, omega arith) }
 
--- Over plain numbers, since at a need `omega` stops at the bounds of the ledgers.
-pub record Step (i n : ℕ) : Type 0 where
-  pub on : i + 1 ≤ n
-  pub less : n - (i + 1) < n - i
+-- A place in a book fits 32 bits.
+pub place-lt : (h : Head) (k : List ℕ) (m : ℕ) → opened k ≡ accepted h → m ≤ h .n → m < 4294967296
+place-lt h k m o l = let known = accepted-facts k h o in omega arith
 
-pub step : (i n : ℕ) → i < n → Step i n
-step i n l = record { on = omega arith; less = omega arith }
+-- ---- the records of a run from place a on, of which d - a are gone through
+-- Over plain numbers, since at a need `omega` stops at the bounds of the ledgers. A turn leads from d
+-- records done to e, in a run that ends at u.
+pub record Turn (a d e u : ℕ) : Type 0 where
+  pub from : a ≤ e
+  pub on : e ≤ u
+  pub less : u - e < u - d
+  pub next : d - a + 1 ≡ e - a
 
--- ---- the next n records, of which i are done
+pub turn : (a d e u : ℕ) → a ≤ d → d < u → e ≡ d + 1 → Turn a d e u
+turn a d e u h l q = record { from = omega arith; on = omega arith; less = omega arith; next = omega arith }
+
+pub gone-none : (a n : ℕ) → (0 ≡ a - a) × (a ≤ a + n)
+gone-none a n = (omega arith, omega arith)
+
+pub gone-lt : (a d n : ℕ) → a ≤ d → d < a + n → d - a < n
+gone-lt a d n h l = omega arith
+
+pub gone-all : (a d n : ℕ) → d ≤ a + n → a + n ≤ d → d - a ≡ n
+gone-all a d n h l = omega arith
+
+pub done-after : {y : State} (x : State) (o : Outcome) → y ≡ after x o → y .done ≡ x .done + 1
+unfolding after
+done-after x o e = ap (λ (s : State). s .done) e
+
 pub run-suc : {x y : State} {o : Outcome} (h : Head) (k : List ℕ) (s : State) (i : ℕ) → x ≡ run h k s i
     → o ≡ outcomeAt h k (x .done) → y ≡ after x o → y ≡ run h k s (i + 1)
 unfolding run

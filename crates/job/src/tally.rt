@@ -59,13 +59,13 @@ pub(crate) fn go_through(book: &[u8], h: Head, t: Tally, n: u32) -> Tally
     let end = h.length - 32;
     let units = hints::note(book, h.units, h.fuels);
     let fuels = hints::note(book, h.fuels, end);
+    let until = t.done + n;
+    let mut place = t.done;
     let mut p = begin(t);
-    let mut i: u32 = 0;
-    while i < n {
-        let place = p.tally.done as usize;
-        let outcome = record::judge_by_hints(book, h, place, &units, &fuels);
+    while place < until {
+        let outcome = record::judge_by_hints(book, h, place as usize, &units, &fuels);
         p = add(p, outcome);
-        i += 1;
+        place = p.tally.done;
     }
     settle(p)
 }
