@@ -4,6 +4,7 @@ pub mod RoundingLaws
 pub mod NearestLaws
 pub mod ShiftLaws
 pub mod UnitsLaws
+pub mod PatternLaws
 pub mod ReadingLaws
 pub mod ProductLaws
 pub mod MultipleLaws
