@@ -2,7 +2,7 @@
 use Prim.Native.Nat.{ℕ, _+_, _-_, _*_, _<_, _≤_}
 use mathlib.Core.List.{List}
 use mathlib.Core.Path.{_≡_, sym, ap, _∙_, subst}
-use native.Mathlib.Nat.{add-zero}
+use native.Mathlib.Nat.{le-of-eq, lt-of-le-of-lt, add-zero}
 use native.Mathlib.Numerals.{add-one}
 use native.Mathlib.Omega.{arith}
 use lib.ListN.{length}
@@ -14,11 +14,13 @@ use Rattle.rules.specs.declared.record.Outcome.the-variants.{SetAside, Counted}
 use Rattle.rules.specs.Book.{opened, accepted}
 use Rattle.rules.specs.Record.{outcomeAt}
 use Rattle.rules.proofs.BookLaws.{accepted-facts}
+use Rattle.rules.proofs.RecordLaws.{Within}
 use Rattle.job.specs.declared.tally.Masses.{Masses}
 use Rattle.job.specs.declared.tally.Tally.{Tally}
 use Rattle.job.specs.State.{State, after, run, FitFor}
 use Rattle.job.specs.Tally.{ledgersOf, tallyOf, stateOf}
-use Rattle.job.specs.Pile.{stateWith, stepped, Share}
+use Rattle.job.specs.Pile.{stateWith, stepped, Fit, Low, Slight, Share}
+use Rattle.job.proofs.StateLaws.{small}
 use Rattle.job.proofs.TallyLaws.{stateOf-tallyOf, sound-ledgersOf, ledgersOf-after-aside}
 
 -- ---- what is added to a ledger
@@ -128,6 +130,44 @@ pub sound-of-carried : (r t : Tally) (s : State) → t ≡ tallyOf s → r .ledg
     → AllSound (r .ledgers)
 unfolding tallyOf
 sound-of-carried r t s e q h = subst AllSound (sym (q ∙ ap (λ (x : Tally). x .ledgers) e)) h
+
+-- ---- what fits 64 bits
+below : {a b : ℕ} → a < 9223372036854775808 → b < 9223372036854775808 → a + b < 18446744073709551616
+below h l = omega arith
+
+pub fit-low : (a b : Masses) → Low a → Low b → Fit a b
+fit-low a b h l = record {
+  fossil-fits = below (h .fossil-low) (l .fossil-low);
+  biomass-fits = below (h .biomass-low) (l .biomass-low);
+  ch4-fits = below (h .ch4-low) (l .ch4-low);
+  n2o-fits = below (h .n2o-low) (l .n2o-low);
+}
+
+-- A record gives at most 4 × 10^18 of a ledger's unit.
+pub slight-within : (o : Outcome) → Within o → Slight o
+slight-within (SetAside k) w = record {
+  fossil-slight = omega arith;
+  biomass-slight = omega arith;
+  ch4-slight = omega arith;
+  n2o-slight = omega arith;
+}
+slight-within (Counted e) w = record {
+  fossil-slight = let l = small (Counted e) w .fossil-le in omega arith;
+  biomass-slight = let l = small (Counted e) w .biomass-le in omega arith;
+  ch4-slight = let l = w .ch4-le in omega arith;
+  n2o-slight = let l = w .n2o-le in omega arith;
+}
+
+thousandth : {m v : ℕ} → 1000 * m ≡ v → v < 1000 * 9223372036854775808 → m < 9223372036854775808
+thousandth h l = omega arith
+
+pub low-share : (m : Masses) (e : Entry) → Share m e → Slight (Counted e) → Low m
+low-share m e h s = record {
+  fossil-low = thousandth (h .fossil-is) (s .fossil-slight);
+  biomass-low = thousandth (h .biomass-is) (s .biomass-slight);
+  ch4-low = lt-of-le-of-lt (le-of-eq (h .ch4-is)) (s .ch4-slight);
+  n2o-low = lt-of-le-of-lt (le-of-eq (h .n2o-is)) (s .n2o-slight);
+}
 
 -- ---- a run begins with sound ledgers
 pub sound-begun : {q : Tally} (h : Head) (k : List ℕ) (t : Tally) → opened k ≡ accepted h → t ≡ tallyOf (stateOf t)

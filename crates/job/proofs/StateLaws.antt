@@ -76,13 +76,13 @@ toBiomass-le Fossil x l = zero-le
 toBiomass-le Biomass x l = omega arith
 toBiomass-le Nowhere x l = zero-le
 
-record Small (o : Outcome) : Type 0 where
-  fossil-le : fossilOf o ≤ 4000000 * tonne
-  biomass-le : biomassOf o ≤ 4000000 * tonne
-  ch4-le : ch4Of o ≤ 4000000 * tonne
-  n2o-le : n2oOf o ≤ 4000000 * tonne
+pub record Small (o : Outcome) : Type 0 where
+  pub fossil-le : fossilOf o ≤ 4000000 * tonne
+  pub biomass-le : biomassOf o ≤ 4000000 * tonne
+  pub ch4-le : ch4Of o ≤ 4000000 * tonne
+  pub n2o-le : n2oOf o ≤ 4000000 * tonne
 
-small : (o : Outcome) → Within o → Small o
+pub small : (o : Outcome) → Within o → Small o
 small (SetAside r) w = record {
   fossil-le = omega arith;
   biomass-le = omega arith;

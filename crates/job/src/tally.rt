@@ -16,7 +16,7 @@ ghost use Rattle.mass.specs.Figures.{AllSound};
 ghost use Rattle.rules.specs.Book.{opened, accepted};
 ghost use Rattle.job.specs.State.{toFossil, toBiomass, after, run, FitFor};
 ghost use Rattle.job.specs.Tally.{ledgersOf, tallyOf, stateOf, ledgersAfter};
-ghost use Rattle.job.specs.Pile.{stateWith, stateIn, stepped, Fit, Share};
+ghost use Rattle.job.specs.Pile.{stateWith, stateIn, stepped, Fit, Low, Slight, Share};
 
 pub struct Tally {
     pub done: u32,
@@ -36,13 +36,14 @@ pub struct Masses {
 }
 
 // A tally and what its ledgers are still to get. A carry into a ledger takes two divisions, and the
-// masses of many records fit 64 bits: so they are summed, and carried when the next doesn't fit.
+// masses of many records fit 64 bits: so they are summed, and carried when the next may not fit.
 pub struct Pile {
     pub tally: Tally,
     pub more: Masses,
 }
 
-const MOST: u64 = 0xffff_ffff_ffff_ffff;
+// Below this are the masses of any record, and two such numbers fit 64 bits together.
+const HALF: u64 = 0x8000_0000_0000_0000;
 
 // The tally after the next n records.
 pub(crate) fn go_through(book: &[u8], h: Head, t: Tally, n: u32) -> Tally
@@ -121,6 +122,7 @@ fn give(g: Ledgers, m: Masses) -> Ledgers
 fn add(p: Pile, o: Outcome) -> Pile
     requires sound { ⌜ AllSound (p .tally .ledgers) × AllSound (ledgersOf (stateIn p)) ⌝ }
     requires room { ⌜ (p .tally .done < 4294967295) × (p .tally .aside < 4294967295) ⌝ }
+    requires slight { ⌜ Slight o ⌝ }
     ensures after { λ r. ⌜ (stateIn r ≡ after (stateIn p) o) × AllSound (r .tally .ledgers) ⌝ }
 {
     match o {
@@ -171,9 +173,10 @@ fn set_aside(t: Tally, reason: u8) -> Tally
 fn count(p: Pile, x: Masses) -> Pile
     requires sound { ⌜ AllSound (p .tally .ledgers) × AllSound (ledgersOf (stateIn p)) ⌝ }
     requires room { ⌜ p .tally .done < 4294967295 ⌝ }
+    requires low { ⌜ Low x ⌝ }
     ensures after { λ r. ⌜ (stateIn r ≡ stateWith (stepped (stateIn p)) x) × AllSound (r .tally .ledgers) ⌝ }
 {
-    if do_fit(p.more, x) {
+    if are_low(p.more) {
         return heap(p, x);
     }
     let t = settle(p);
@@ -201,20 +204,20 @@ fn heap(p: Pile, x: Masses) -> Pile
     }
 }
 
-// Whether each sum fits 64 bits.
-fn do_fit(a: Masses, b: Masses) -> bool
-    ensures fit { λ r. ⌜ (r ≡ true → Fit a b) ⌝ }
+// Whether those of any record can be added.
+fn are_low(m: Masses) -> bool
+    ensures low { λ r. ⌜ (r ≡ true → Low m) ⌝ }
 {
-    if MOST - a.fossil.0 < b.fossil.0 {
+    if HALF <= m.fossil.0 {
         return false;
     }
-    if MOST - a.biomass.0 < b.biomass.0 {
+    if HALF <= m.biomass.0 {
         return false;
     }
-    if MOST - a.ch4.0 < b.ch4.0 {
+    if HALF <= m.ch4.0 {
         return false;
     }
-    if MOST - a.n2o.0 < b.n2o.0 {
+    if HALF <= m.n2o.0 {
         return false;
     }
     true

@@ -1,8 +1,8 @@
 -- Each arm's callee does what the definition does with that outcome. Assumes nothing.
-use mathlib.Core.Path.{_∙_}
+use mathlib.Core.Path.{_∙_, subst}
 use borrow.Author.Needs.{needs}
-use Rattle.job.specs.Pile.{stateIn}
-use Rattle.job.proofs.PileLaws.{stateWith-share}
+use Rattle.job.specs.Pile.{stateIn, Slight}
+use Rattle.job.proofs.PileLaws.{stateWith-share, low-share}
 use Rattle.job.proofs.tally.add.Statement.{statement}
 use Rattle.job.proofs.tally.add.Tie as tie
 
@@ -19,7 +19,10 @@ share-requires : tie.Need-share-requires
 share-requires c κs = search needs
 
 count-requires : tie.Need-count-requires
-count-requires c κs = search needs
+count-requires c κs =
+    let start = c .before .before .before .before in
+    let slight = subst Slight (c .before .before .o2 .given .1) (start .pre .1 .1) in
+    (start .pre .0, (start .pre .1 .0 .0, low-share (c .share .result) _ (c .share .ensures) slight))
 
 returns : tie.Need-returns
 returns c = rw (c .before .before .o .given .1) (c .pass .ensures)

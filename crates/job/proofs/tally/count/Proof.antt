@@ -1,5 +1,5 @@
--- Where the masses fit they are summed; where they don't, the pile is carried first and they begin
--- a new one. Assumes nothing.
+-- Where the pile is low the masses are summed; where it isn't, it is carried first and they begin a
+-- new one. Assumes nothing.
 use Prim.Native.Nat.{_<_}
 use mathlib.Core.Path.{sym, subst}
 use borrow.Author.Needs.{needs}
@@ -7,15 +7,18 @@ use Rattle.mass.specs.Figures.{AllSound}
 use Rattle.job.specs.declared.tally.Tally.{Tally}
 use Rattle.job.specs.Tally.{tallyOf, stateOf}
 use Rattle.job.specs.Pile.{stateWith, stateIn}
-use Rattle.job.proofs.PileLaws.{stateWith-of-carried, sound-of-carried}
+use Rattle.job.proofs.PileLaws.{stateWith-of-carried, sound-of-carried, fit-low}
 use Rattle.job.proofs.tally.count.Statement.{statement}
 use Rattle.job.proofs.tally.count.Tie as tie
 
-do-fit-requires : tie.Need-do-fit-requires
-do-fit-requires c κs = search needs
+are-low-requires : tie.Need-are-low-requires
+are-low-requires c κs = search needs
 
 heap-requires : tie.Need-heap-requires
-heap-requires c κs = (c .before .do-fit .ensures (c .if1 .taken), c .before .before .pre .1)
+heap-requires c κs =
+    let start = c .before .before in
+    let a = start .args in
+    (fit-low (a .p .more) (a .x) (c .before .are-low .ensures (c .if1 .taken)) (start .pre .1 .1), start .pre .1 .0)
 
 returns : tie.Need-returns
 returns c =
@@ -27,7 +30,7 @@ settle-requires c κs = search needs
 
 step-requires : tie.Need-step-requires
 unfolding tallyOf stateIn stateWith stateOf
-step-requires c κs = subst (λ (t : Tally). t .done < 4294967295) (sym (c .settle .ensures)) (c .before .before .before .pre .1)
+step-requires c κs = subst (λ (t : Tally). t .done < 4294967295) (sym (c .settle .ensures)) (c .before .before .before .pre .1 .0)
 
 returns-2 : tie.Need-returns-2
 unfolding stateIn
@@ -44,4 +47,4 @@ returns-2 c =
 pub count-spec : {M : Type 1} → statement M
 count-spec =
     tie.close
-    (tie.spec do-fit-requires heap-requires returns settle-requires step-requires returns-2)
+    (tie.spec are-low-requires heap-requires returns settle-requires step-requires returns-2)

@@ -6,12 +6,13 @@ use native.Mathlib.Nat.{le-refl}
 use borrow.Author.Needs.{needs}
 use Rattle.mass.specs.Figures.{AllSound}
 use Rattle.rules.specs.Record.{outcomeAt}
+use Rattle.rules.proofs.RecordLaws.{within-outcomeAt}
 use Rattle.job.specs.declared.tally.Tally.{Tally}
 use Rattle.job.specs.State.{State, run}
 use Rattle.job.specs.Tally.{tallyOf, stateOf}
-use Rattle.job.specs.Pile.{stateWith, stateIn}
+use Rattle.job.specs.Pile.{stateWith, stateIn, Slight}
 use Rattle.job.proofs.TallyLaws.{Ready, ready-run}
-use Rattle.job.proofs.PileLaws.{parts, place-lt, Turn, turn, gone-none, gone-lt, gone-all, sound-begun, done-after, run-suc}
+use Rattle.job.proofs.PileLaws.{slight-within, parts, place-lt, Turn, turn, gone-none, gone-lt, gone-all, sound-begun, done-after, run-suc}
 use Rattle.job.proofs.tally.go_through.Statement.{statement}
 use Rattle.job.proofs.tally.go_through.Tie as tie
 
@@ -107,7 +108,9 @@ unfolding tallyOf stateIn stateWith stateOf
 add-requires c κs =
     let turn = c .before .before .before in
     let r = ready turn in
-    ((turn .before .loop .inv .4, r .sound), r .room)
+    let judged = within-outcomeAt _ _ _ (start (turn .before) .pre .0) in
+    let slight = subst Slight (sym (c .judge-by-hints .ensures)) (slight-within _ judged) in
+    ((turn .before .loop .inv .4, r .sound), (r .room, slight))
 
 -- A turn leads one place on.
 go-on : (c : tie.After-add Inv-loop μ-loop) →
