@@ -119,17 +119,10 @@ pub stateWith-of-summed : (r t : Tally) (m x : Masses) → stateOf r ≡ stepped
 stateWith-of-summed r t m x e =
     ap (λ (s : State). stateWith s (summed m x)) e ∙ stateWith-summed (stateOf t) m x
 
--- Carried: the tally t of the state s steps, and the masses of the record begin a pile.
-pub stateWith-of-carried : (r t : Tally) (s : State) (x : Masses) → t ≡ tallyOf s → stateOf r ≡ stepped (stateOf t)
-    → stateWith (stateOf r) x ≡ stateWith (stepped s) x
-stateWith-of-carried r t s x e q =
-    let now : stateOf t ≡ s = ap stateOf e ∙ stateOf-tallyOf s in
-    ap (λ (y : State). stateWith y x) (q ∙ ap stepped now)
-
-pub sound-of-carried : (r t : Tally) (s : State) → t ≡ tallyOf s → r .ledgers ≡ t .ledgers → AllSound (ledgersOf s)
-    → AllSound (r .ledgers)
+-- Carried: a tally of the pile's state has its ledgers.
+pub sound-carried : {t : Tally} (s : State) → t ≡ tallyOf s → AllSound (ledgersOf s) → AllSound (t .ledgers)
 unfolding tallyOf
-sound-of-carried r t s e q h = subst AllSound (sym (q ∙ ap (λ (x : Tally). x .ledgers) e)) h
+sound-carried s e h = subst AllSound (sym (ap (λ (x : Tally). x .ledgers) e)) h
 
 -- ---- what fits 64 bits
 below : {a b : ℕ} → a < 9223372036854775808 → b < 9223372036854775808 → a + b < 18446744073709551616
@@ -172,11 +165,10 @@ low-share m e h s = record {
 -- ---- a run begins with sound ledgers
 pub sound-begun : {q : Tally} (h : Head) (k : List ℕ) (t : Tally) → opened k ≡ accepted h → t ≡ tallyOf (stateOf t)
     → FitFor h (stateOf t) → q ≡ t → AllSound (q .ledgers)
-unfolding tallyOf
 sound-begun h k t o e f p =
     let book = accepted-facts k h o in
     let few : h .n ≤ 131072 = omega arith in
-    subst AllSound (sym (ap (λ (x : Tally). x .ledgers) (p ∙ e))) (sound-ledgersOf h (stateOf t) f few)
+    sound-carried (stateOf t) (p ∙ e) (sound-ledgersOf h (stateOf t) f few)
 
 -- ---- the parts of a book
 -- The parts that hints are taken from are within the book.
@@ -195,17 +187,7 @@ pub place-lt : (h : Head) (k : List ℕ) (m : ℕ) → opened k ≡ accepted h �
 place-lt h k m o l = let known = accepted-facts k h o in omega arith
 
 -- ---- the records of a run from place a on, of which d - a are gone through
--- Over plain numbers, since at a need `omega` stops at the bounds of the ledgers. A turn leads from d
--- records done to e, in a run that ends at u.
-pub record Turn (a d e u : ℕ) : Type 0 where
-  pub from : a ≤ e
-  pub on : e ≤ u
-  pub less : u - e < u - d
-  pub next : d - a + 1 ≡ e - a
-
-pub turn : (a d e u : ℕ) → a ≤ d → d < u → e ≡ d + 1 → Turn a d e u
-turn a d e u h l q = record { from = omega arith; on = omega arith; less = omega arith; next = omega arith }
-
+-- Over plain numbers, since at a need `omega` stops at the bounds of the ledgers.
 pub gone-none : (a n : ℕ) → (0 ≡ a - a) × (a ≤ a + n)
 gone-none a n = (omega arith, omega arith)
 
@@ -215,12 +197,22 @@ gone-lt a d n h l = omega arith
 pub gone-all : (a d n : ℕ) → d ≤ a + n → a + n ≤ d → d - a ≡ n
 gone-all a d n h l = omega arith
 
-pub done-after : {y : State} (x : State) (o : Outcome) → y ≡ after x o → y .done ≡ x .done + 1
-unfolding after
-done-after x o e = ap (λ (s : State). s .done) e
+-- A turn leads from d records done to e, in a run that ends at u.
+pub record Turn (a d e u : ℕ) : Type 0 where
+  pub from : a ≤ e
+  pub on : e ≤ u
+  pub less : u - e < u - d
+  pub next : d - a + 1 ≡ e - a
 
-pub run-suc : {x y : State} {o : Outcome} (h : Head) (k : List ℕ) (s : State) (i : ℕ) → x ≡ run h k s i
-    → o ≡ outcomeAt h k (x .done) → y ≡ after x o → y ≡ run h k s (i + 1)
+pub turn : (a d u : ℕ) {y : State} (x : State) (o : Outcome) → a ≤ d → d < u → d ≡ x .done → y ≡ after x o
+    → Turn a d (y .done) u
+unfolding after
+turn a d u {y} x o h l p q =
+    let one : y .done ≡ d + 1 = ap (λ (s : State). s .done) q ∙ ap (λ (n : ℕ). n + 1) (sym p) in
+    record { from = omega arith; on = omega arith; less = omega arith; next = omega arith }
+
+pub run-suc : {x y : State} (h : Head) (k : List ℕ) (s : State) (i : ℕ) → x ≡ run h k s i
+    → y ≡ after x (outcomeAt h k (x .done)) → y ≡ run h k s (i + 1)
 unfolding run
-run-suc {x} h k s i e p q =
-    rw add-one (q ∙ ap (after x) p ∙ ap (λ (z : State). after z (outcomeAt h k (z .done))) e)
+run-suc h k s i e q =
+    rw add-one (q ∙ ap (λ (z : State). after z (outcomeAt h k (z .done))) e)

@@ -2,7 +2,7 @@
 -- allows has sound ledgers; and what one record does to a tally. Assumes nothing.
 use Prim.Native.Nat.{ℕ, _+_, _*_, _/_, _<_, _≤_}
 use mathlib.Core.List.{List}
-use mathlib.Core.Path.{_≡_, sym, ap, _∙_}
+use mathlib.Core.Path.{_≡_, sym, ap, _∙_, subst}
 use native.Mathlib.Nat.{add-zero}
 use native.Mathlib.Omega.{arith}
 use Rattle.mass.specs.declared.ledger.Ledger.{Ledger}
@@ -10,13 +10,15 @@ use Rattle.mass.specs.Ledger.{tonne, total, Sound, ledgerOf, added}
 use Rattle.mass.specs.Figures.{AllSound}
 use Rattle.mass.proofs.LedgerLaws.{total-ledgerOf, ledgerOf-total, sound-ledgerOf, added-ledgerOf}
 use Rattle.rules.specs.declared.book.Head.{Head}
+use Rattle.rules.specs.declared.record.Outcome.{Outcome}
 use Rattle.rules.specs.declared.record.Outcome.the-variants.{SetAside}
 use Rattle.rules.specs.Book.{opened, accepted}
 use Rattle.rules.proofs.BookLaws.{accepted-facts}
+use Rattle.rules.proofs.RecordLaws.{Within}
 use Rattle.job.specs.declared.tally.Tally.{Tally}
 use Rattle.job.specs.State.{State, after, run, FitFor}
 use Rattle.job.specs.Tally.{ledgersOf, tallyOf, stateOf}
-use Rattle.job.proofs.StateLaws.{run-done, fitFor-run}
+use Rattle.job.proofs.StateLaws.{run-done, fitFor-after, fitFor-run}
 
 -- ---- tallies and states
 pub stateOf-tallyOf : (s : State) → stateOf (tallyOf s) ≡ s
@@ -62,26 +64,27 @@ ledgersOf-after-aside t r h = λ i. record {
   n2o = kept (t .ledgers .n2o) (h .n2o-sound) i;
 }
 
--- ---- the next n records of an accepted book, of which i are done
--- A book has a record more, and a tally room for it.
-pub record Ready (h : Head) (t : Tally) : Type 0 where
-  pub sound : AllSound (t .ledgers)
-  pub done-lt : t .done < h .n
-  pub room : (t .done < 4294967295) × (t .aside < 4294967295)
+-- ---- the next record of an accepted book
+-- What it gives leaves the ledgers sound, and a tally has room for it.
+pub record Ready (h : Head) (s : State) : Type 0 where
+  pub room : (s .done < 4294967295) × (s .aside < 4294967295)
+  pub next-sound : (o : Outcome) → Within o → AllSound (ledgersOf (after s o))
 
 far : {a d n : ℕ} → a ≤ d → d < n → n ≤ 131072 → (d < 4294967295) × (a < 4294967295)
 far h l m = (omega arith, omega arith)
 
-pub ready-run : (h : Head) (k : List ℕ) (s : State) (n i : ℕ) → opened k ≡ accepted h → FitFor h s
-    → s .done + n ≤ h .n → i < n → Ready h (tallyOf (run h k s i))
-unfolding tallyOf
-ready-run h k s n i e f l m =
+pub ready : (h : Head) (k : List ℕ) (s : State) → opened k ≡ accepted h → FitFor h s → s .done < h .n → Ready h s
+ready h k s e f l =
     let book = accepted-facts k h e in
     let few : h .n ≤ 131072 = omega arith in
-    let fit = fitFor-run h k s i e (omega arith) f in
-    let more : run h k s i .done < h .n = omega (arith, run-done h k s i) in
     record {
-      sound = sound-ledgersOf h (run h k s i) fit few;
-      done-lt = more;
-      room = far (fit .aside-le) more few;
+      room = far (f .aside-le) l few;
+      next-sound = λ o w. sound-ledgersOf h (after s o) (fitFor-after h s o l w f) few;
     }
+
+-- There is one while i of n records are done.
+pub next-run : {x : State} (h : Head) (k : List ℕ) (s : State) (n i : ℕ) → opened k ≡ accepted h → FitFor h s
+    → s .done + n ≤ h .n → i < n → x ≡ run h k s i → FitFor h x × (x .done < h .n)
+next-run h k s n i e f l m q =
+    subst (λ (x : State). FitFor h x × (x .done < h .n)) (sym q)
+    (fitFor-run h k s i e (omega arith) f, omega (arith, run-done h k s i))

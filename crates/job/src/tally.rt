@@ -14,6 +14,7 @@ ghost use mathlib.Core.Path.{_≡_};
 ghost use Prim.Native.Nat.{_+_, _*_, _<_, _≤_};
 ghost use Rattle.mass.specs.Figures.{AllSound};
 ghost use Rattle.rules.specs.Book.{opened, accepted};
+ghost use Rattle.rules.specs.Record.{outcomeAt};
 ghost use Rattle.job.specs.State.{toFossil, toBiomass, after, run, FitFor};
 ghost use Rattle.job.specs.Tally.{ledgersOf, tallyOf, stateOf, ledgersAfter};
 ghost use Rattle.job.specs.Pile.{stateWith, stateIn, stepped, Fit, Low, Slight, Share};
@@ -64,15 +65,27 @@ pub(crate) fn go_through(book: &[u8], h: Head, t: Tally, n: u32) -> Tally
     let mut place = t.done;
     let mut p = begin(t);
     while place < until {
-        let outcome = record::judge_by_hints(book, h, place as usize, &units, &fuels);
-        p = add(p, outcome);
+        p = take_next(book, h, p, &units, &fuels);
         place = p.tally.done;
     }
     settle(p)
 }
 
+// The pile after the next record, with room for one more.
+fn take_next(book: &[u8], h: Head, p: Pile, units: &[u8], fuels: &[u8]) -> Pile
+    requires opened { ⌜ opened (now book) ≡ accepted h ⌝ }
+    requires fit { ⌜ FitFor h (stateIn p) × (p .tally .done < h .n) ⌝ }
+    requires sound { ⌜ AllSound (p .tally .ledgers) × Low (p .more) ⌝ }
+    ensures after { λ r. ⌜ stateIn r ≡ after (stateIn p) (outcomeAt h (now (book .entry)) (p .tally .done)) ⌝ }
+    ensures sound { λ r. ⌜ AllSound (r .tally .ledgers) × Low (r .more) ⌝ }
+{
+    let place = p.tally.done as usize;
+    let outcome = record::judge_by_hints(book, h, place, units, fuels);
+    make_room(add(p, outcome))
+}
+
 fn begin(t: Tally) -> Pile
-    ensures nothing { λ r. ⌜ (r .tally ≡ t) × (stateIn r ≡ stateOf t) ⌝ }
+    ensures nothing { λ r. ⌜ (r .tally ≡ t) × (stateIn r ≡ stateOf t) × Low (r .more) ⌝ }
 {
     Pile {
         tally: t,
@@ -118,16 +131,45 @@ fn give(g: Ledgers, m: Masses) -> Ledgers
     }
 }
 
+// A pile of the same state, with masses to which those of any record can be added.
+fn make_room(p: Pile) -> Pile
+    requires sound { ⌜ AllSound (p .tally .ledgers) × AllSound (ledgersOf (stateIn p)) ⌝ }
+    ensures room { λ r. ⌜ (stateIn r ≡ stateIn p) × AllSound (r .tally .ledgers) × Low (r .more) ⌝ }
+{
+    if are_low(p.more) {
+        return p;
+    }
+    begin(settle(p))
+}
+
+fn are_low(m: Masses) -> bool
+    ensures low { λ r. ⌜ (r ≡ true → Low m) ⌝ }
+{
+    if HALF <= m.fossil.0 {
+        return false;
+    }
+    if HALF <= m.biomass.0 {
+        return false;
+    }
+    if HALF <= m.ch4.0 {
+        return false;
+    }
+    if HALF <= m.n2o.0 {
+        return false;
+    }
+    true
+}
+
 // The pile after one record more.
 fn add(p: Pile, o: Outcome) -> Pile
-    requires sound { ⌜ AllSound (p .tally .ledgers) × AllSound (ledgersOf (stateIn p)) ⌝ }
+    requires sound { ⌜ AllSound (p .tally .ledgers) ⌝ }
     requires room { ⌜ (p .tally .done < 4294967295) × (p .tally .aside < 4294967295) ⌝ }
-    requires slight { ⌜ Slight o ⌝ }
+    requires low { ⌜ Low (p .more) × Slight o ⌝ }
     ensures after { λ r. ⌜ (stateIn r ≡ after (stateIn p) o) × AllSound (r .tally .ledgers) ⌝ }
 {
     match o {
         Outcome::SetAside(reason) => pass(p, reason),
-        Outcome::Counted(e) => count(p, share(e)),
+        Outcome::Counted(e) => heap(p, share(e)),
     }
 }
 
@@ -170,22 +212,6 @@ fn set_aside(t: Tally, reason: u8) -> Tally
 }
 
 // The pile after a record that gives x.
-fn count(p: Pile, x: Masses) -> Pile
-    requires sound { ⌜ AllSound (p .tally .ledgers) × AllSound (ledgersOf (stateIn p)) ⌝ }
-    requires room { ⌜ p .tally .done < 4294967295 ⌝ }
-    requires low { ⌜ Low x ⌝ }
-    ensures after { λ r. ⌜ (stateIn r ≡ stateWith (stepped (stateIn p)) x) × AllSound (r .tally .ledgers) ⌝ }
-{
-    if are_low(p.more) {
-        return heap(p, x);
-    }
-    let t = settle(p);
-    Pile {
-        tally: step(t),
-        more: x,
-    }
-}
-
 fn heap(p: Pile, x: Masses) -> Pile
     requires fit { ⌜ Fit (p .more) x ⌝ }
     requires room { ⌜ p .tally .done < 4294967295 ⌝ }
@@ -202,25 +228,6 @@ fn heap(p: Pile, x: Masses) -> Pile
             n2o: Ng(m.n2o.0 + x.n2o.0),
         },
     }
-}
-
-// Whether those of any record can be added.
-fn are_low(m: Masses) -> bool
-    ensures low { λ r. ⌜ (r ≡ true → Low m) ⌝ }
-{
-    if HALF <= m.fossil.0 {
-        return false;
-    }
-    if HALF <= m.biomass.0 {
-        return false;
-    }
-    if HALF <= m.ch4.0 {
-        return false;
-    }
-    if HALF <= m.n2o.0 {
-        return false;
-    }
-    true
 }
 
 fn step(t: Tally) -> Tally

@@ -1,8 +1,9 @@
 -- Each arm's callee does what the definition does with that outcome. Assumes nothing.
-use mathlib.Core.Path.{_∙_, subst}
+use mathlib.Core.Path.{sym, _∙_, subst}
 use borrow.Author.Needs.{needs}
+use Rattle.mass.specs.Figures.{AllSound}
 use Rattle.job.specs.Pile.{stateIn, Slight}
-use Rattle.job.proofs.PileLaws.{stateWith-share, low-share}
+use Rattle.job.proofs.PileLaws.{stateWith-share, fit-low, low-share}
 use Rattle.job.proofs.tally.add.Statement.{statement}
 use Rattle.job.proofs.tally.add.Tie as tie
 
@@ -18,22 +19,26 @@ enum-known-o-2 c = search needs
 share-requires : tie.Need-share-requires
 share-requires c κs = search needs
 
-count-requires : tie.Need-count-requires
-count-requires c κs =
+heap-requires : tie.Need-heap-requires
+heap-requires c κs =
     let start = c .before .before .before .before in
-    let slight = subst Slight (c .before .before .o2 .given .1) (start .pre .1 .1) in
-    (start .pre .0, (start .pre .1 .0 .0, low-share (c .share .result) _ (c .share .ensures) slight))
+    let low = start .pre .1 .1 in
+    let slight = subst Slight (c .before .before .o2 .given .1) (low .1) in
+    let given = low-share (c .share .result) _ (c .share .ensures) slight in
+    (fit-low (start .args .p .more) (c .share .result) (low .0) given, start .pre .1 .0 .0)
 
 returns : tie.Need-returns
 returns c = rw (c .before .before .o .given .1) (c .pass .ensures)
 
 returns-2 : tie.Need-returns-2
 returns-2 c =
-    let a = c .before .before .before .before .before .args in
-    let gone = c .count .ensures in
+    let start = c .before .before .before .before .before in
+    let gone = c .heap .ensures in
     let shared = c .before .share .ensures in
-    rw (c .before .before .before .o2 .given .1)
-    (gone .0 ∙ stateWith-share (stateIn (a .p)) (c .before .share .result) _ shared, gone .1)
+    rw (c .before .before .before .o2 .given .1) (
+      gone .0 ∙ stateWith-share (stateIn (start .args .p)) (c .before .share .result) _ shared,
+      subst AllSound (sym (gone .1)) (start .pre .0),
+    )
 
 pub add-spec : {M : Type 1} → statement M
 add-spec =
@@ -43,6 +48,6 @@ add-spec =
     pass-requires
     enum-known-o-2
     share-requires
-    count-requires
+    heap-requires
     returns
     returns-2)
