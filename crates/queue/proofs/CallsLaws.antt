@@ -1,5 +1,5 @@
--- A book with records left that isn't removed is served within 16 successful turns: each turn that
--- passes it by brings the round nearer to its slot. Assumes nothing.
+-- The turn of a book with records left that isn't removed comes within 16: each turn that passes it by, cut
+-- or not, brings the round nearer to its slot. Assumes nothing.
 use Prim.Native.Nat.{ℕ, zero, suc, _+_, _-_, _<_, _≤_}
 use mathlib.Core.Bool.{false, true≢false}
 use mathlib.Core.List.{List, [], _∷_, _++_}
@@ -19,7 +19,7 @@ use Rattle.queue.specs.declared.reply.AfterTurn.{AfterTurn}
 use Rattle.queue.specs.Slots.{slotCount, slotAt, isFree, leftIn, freeAt, stored}
 use Rattle.queue.specs.Books.{lowestFree}
 use Rattle.queue.specs.Round.{onward, passedOver, nextUp, movedAt, served, turned}
-use Rattle.queue.specs.Calls.{Call, add, remove, turn, after, slotServed, servedBy, servings, afterAll}
+use Rattle.queue.specs.Calls.{Call, add, remove, turn, cut, cutShort, after, slotServed, servedBy, servings, afterAll}
 use Rattle.queue.proofs.SlotsLaws.{isFree-left, slotAt-lt, length-stored, slotAt-stored-other}
 use Rattle.queue.proofs.BooksLaws.{lowestFree-free, added-at, added-full, removed-empty, removed-gone}
 use Rattle.queue.proofs.RoundLaws.{awayOf, onward-awayOf, nextUp-onward, passedOver-le}
@@ -80,10 +80,24 @@ step-turn q s b =
         (ap (λ (r : AfterTurn). r .queue .last) e)
         (ap (λ (r : AfterTurn). slotAt (r .queue) s) e)
 
+-- A turn that is cut passes the round on as the turn does, and leaves every slot.
+pub slotAt-cutShort : (q : Queue) (s b : ℕ) → slotAt (cutShort q b) s ≡ slotAt q s
+unfolding slotAt cutShort
+slotAt-cutShort q s b = refl
+
+pub last-cutShort : (q : Queue) (b : ℕ) → cutShort q b .last ≡ turned q b .queue .last
+unfolding cutShort
+last-cutShort q b = refl
+
+step-cut : (q : Queue) (s b : ℕ) → Step q s (turn b) → Step q s (cut b)
+step-cut q s b (still none last slot) = still none (last-cutShort q b ∙ last) (slotAt-cutShort q s b)
+step-cut q s b (serves one last slot) = serves one (last-cutShort q b ∙ last) (λ apart. slotAt-cutShort q s b)
+
 step : (q : Queue) (s : ℕ) (x : Call) → isFree (slotAt q s) ≡ false → (x ≡ remove s → ⊥) → Step q s x
 step q s (add n) taken apart = step-add q s n taken
 step q s (remove i) taken apart = step-remove q s i apart
 step q s (turn b) taken apart = step-turn q s b
+step q s (cut b) taken apart = step-cut q s b (step-turn q s b)
 
 -- ---- the round comes nearer
 onward-same : (q p : Queue) (d : ℕ) → p .last ≡ q .last → onward p d ≡ onward q d
@@ -173,6 +187,10 @@ length-served : (q : Queue) (i b : ℕ) → length (served q i b .queue .slots) 
 unfolding served
 length-served q i b = length-stored q i (Book (leftIn (slotAt q i) - movedAt q i b))
 
+length-cutShort : (q : Queue) (b : ℕ) → length (cutShort q b .slots) ≡ length (q .slots)
+unfolding cutShort
+length-cutShort q b = refl
+
 length-after : (q : Queue) (x : Call) → length (after q x .slots) ≡ length (q .slots)
 length-after q (add n) =
     if-lt (lowestFree q) slotCount
@@ -189,6 +207,7 @@ length-after q (turn b) =
     if-lt (passedOver q) slotCount
     (λ l. ap (λ (r : AfterTurn). length (r .queue .slots)) (turned-served q b some l) ∙ length-served q (nextUp q) b)
     (λ l. ap (λ (r : AfterTurn). length (r .queue .slots)) (turned-nothingLeft q b some l)))
+length-after q (cut b) = length-cutShort q b
 
 pub length-afterAll : (q : Queue) (xs : List Call) → length (afterAll q xs .slots) ≡ length (q .slots)
 unfolding afterAll

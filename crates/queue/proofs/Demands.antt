@@ -27,13 +27,13 @@ use Rattle.queue.specs.Slots.{emptyQueue, slotAt, isFree, leftIn}
 use Rattle.queue.specs.Reply.{addReply, removeReply, turnReply}
 use Rattle.queue.specs.Books.{added, removed}
 use Rattle.queue.specs.Round.{turned}
-use Rattle.queue.specs.Calls.{Call, remove, servings, afterAll}
+use Rattle.queue.specs.Calls.{Call, remove, turn, cut, after, servings, afterAll}
 use Rattle.queue.specs.Stay.{Stay}
 use Rattle.queue.proofs.SlotsLaws.{length-emptyQueue}
 use Rattle.queue.proofs.BooksLaws.{added-lowest, addReply-50, added-kept}
 use Rattle.queue.proofs.BooksLaws.{removed-from, removeReply-51, removed-kept}
 use Rattle.queue.proofs.RoundLaws.{turned-next, turned-before, turnReply-52, turnReply-53, turned-kept}
-use Rattle.queue.proofs.CallsLaws.{servings-sixteen, slotAt-afterAll, length-afterAll}
+use Rattle.queue.proofs.CallsLaws.{last-cutShort, slotAt-cutShort, servings-sixteen, slotAt-afterAll, length-afterAll}
 use Rattle.queue.proofs.StayLaws.{inTurn-stay, slotAt-doneIn, moved-wakes}
 -- The code meets its contracts.
 pub use Rattle.queue.proofs.slots.begin.Met.{met as begin-meets-its-contract}
@@ -111,18 +111,24 @@ acceptances q = record {
 pub sixteen-slots : (xs : List Call) → length (afterAll emptyQueue xs .slots) ≡ 16
 sixteen-slots xs = length-afterAll emptyQueue xs ∙ length-emptyQueue
 
--- ---- 3. Whatever calls xs come after q, the book in slot s not being removed among them.
+-- ---- 3. Whatever calls xs come after q, the book in slot s not being removed among them. `cut b` is a turn whose
+-- wake is cut after the place in the round was kept.
 pub record Fairness (q : Queue) (s : ℕ) (xs : List Call) : Type 0 where
-  -- If it has records left, it is served within 16 successful turns.
+  -- If it has records left, its turn comes within 16, those that are cut included.
   pub served : 0 < leftIn (slotAt q s) → 16 ≤ length (servings q xs) → List·Memᴰ s (take 16 (servings q xs))
   -- Until it is served it keeps its slot and its count, also with 0 left.
   pub kept : isFree (slotAt q s) ≡ false → (List·Memᴰ s (servings q xs) → ⊥)
       → slotAt (afterAll q xs) s ≡ slotAt q s
+  -- A cut costs the book whose turn it was that turn alone: the round goes on, and no count changes.
+  pub cut-goes-on : (b : ℕ) → after q (cut b) .last ≡ after q (turn b) .last
+  pub cut-keeps : (b : ℕ) → slotAt (after q (cut b)) s ≡ slotAt q s
 
 pub fairness : (q : Queue) (s : ℕ) (xs : List Call) → (List·Memᴰ (remove s) xs → ⊥) → Fairness q s xs
 fairness q s xs stays = record {
   served = λ some. servings-sixteen q s xs some stays;
   kept = λ taken. slotAt-afterAll q s xs taken stays;
+  cut-goes-on = last-cutShort q;
+  cut-keeps = slotAt-cutShort q s;
 }
 
 -- ---- 4. An accepted book k with the head h, added with its n after a fresh start: it stands in slot s of

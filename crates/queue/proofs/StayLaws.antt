@@ -17,7 +17,7 @@ use Rattle.queue.specs.Round.{turned}
 use Rattle.queue.specs.Stay.{Stay}
 use Rattle.queue.proofs.BooksLaws.{added-lowest}
 use Rattle.queue.proofs.RoundLaws.{TurnedAt, turned-next}
-use Rattle.queue.proofs.CallsLaws.{slotAt-after}
+use Rattle.queue.proofs.CallsLaws.{slotAt-cutShort, slotAt-after}
 
 module _ (k : List ℕ) (n s : ℕ) where
   -- The wakes that match its turns each used the latest checkpoint.
@@ -25,6 +25,7 @@ module _ (k : List ℕ) (n s : ℕ) where
   inTurn-stay q t c (Stay.begun start q₀ long a) = InTurn.begun start
   inTurn-stay q t c (Stay.woken {q = q₀} {t = t₀} {c = from} stay a w) = InTurn.woken (inTurn-stay q₀ t₀ from stay) w
   inTurn-stay q t c (Stay.cut {q = q₀} stay b) = inTurn-stay q₀ t c stay
+  inTurn-stay q t c (Stay.lost {q = q₀} stay b) = inTurn-stay q₀ t c stay
   inTurn-stay q t c (Stay.passed {q = q₀} stay x kept missed) = inTurn-stay q₀ t c stay
 
   -- A turn moves what a wake from place p goes through.
@@ -48,6 +49,7 @@ module _ (k : List ℕ) (n s : ℕ) where
       slotAt-turn q₀ (min t₀ n) b m (omega arith) (slotAt-stay q₀ t₀ from stay) (turned-next q₀ b s m a) .1
       ∙ ap (λ (d : ℕ). Book (n - d)) more
   slotAt-stay q t c (Stay.cut {q = q₀} stay b) = slotAt-stay q₀ t c stay
+  slotAt-stay q t c (Stay.lost {q = q₀} stay b) = slotAt-cutShort q₀ s b ∙ slotAt-stay q₀ t c stay
   slotAt-stay q t c (Stay.passed {q = q₀} stay x kept missed) =
       let before = slotAt-stay q₀ t c stay in
       slotAt-after q₀ s x (ap isFree before) kept missed ∙ before

@@ -15,7 +15,7 @@ use Rattle.queue.specs.declared.reply.Turned.the-variants.{Served}
 use Rattle.queue.specs.Slots.{slotCount}
 use Rattle.queue.specs.Books.{added}
 use Rattle.queue.specs.Round.{turned}
-use Rattle.queue.specs.Calls.{Call, remove, after, servedBy}
+use Rattle.queue.specs.Calls.{Call, remove, cutShort, after, servedBy}
 
 pub data Stay (k : List ℕ) (n s : ℕ) : Queue → ℕ → List ℕ → Type 0 where
   -- After a fresh start the book is added with its n, to a queue of 16 slots, as all of the code's are.
@@ -27,6 +27,8 @@ pub data Stay (k : List ℕ) (n s : ℕ) : Queue → ℕ → List ℕ → Type 0
       → Stay k n s (turned q b .queue) (t + b) d
   -- A turn whose wake is cut, its own or another book's: the caller goes on from the queue before it.
   cut : {q : Queue} {t : ℕ} {c : List ℕ} → Stay k n s q t c → (b : ℕ) → Stay k n s q t c
+  -- The same where the place in the round was kept before the wake: the round goes on.
+  lost : {q : Queue} {t : ℕ} {c : List ℕ} → Stay k n s q t c → (b : ℕ) → Stay k n s (cutShort q b) t c
   -- Any other call: it doesn't remove the book, and doesn't serve it.
   passed : {q : Queue} {t : ℕ} {c : List ℕ} → Stay k n s q t c
       → (x : Call) → (x ≡ remove s → ⊥) → (List·Memᴰ s (servedBy q x) → ⊥)
