@@ -1,6 +1,7 @@
 """Runs of `tablet` to the end, and what it makes of wrong lists and of plants that are refused."""
 import os
 
+from kill_saves import limit_files
 from program_annual import REFUSED
 from program_books import checkpoint
 from program_jobs import ALL
@@ -116,11 +117,18 @@ def try_refused(programs, cases, plans):
 
 
 def try_failures(programs, cases, plans):
-    with cases.case("the place can't be kept: nobody is served"), tablet_on(
+    with cases.case("the place can't be read: nobody is served"), tablet_on(
             programs, plans) as tablet:
         (tablet.folder / KEPT).mkdir()
+        before = tablet.files()
         expect_failure(tablet.run(5), b"list.place: ")
-        expect(set(tablet.places().values()), {0}, "the places")
+        expect(tablet.files(), before, "the folder")
+    with cases.case("the place can't be kept: nobody is served"), tablet_on(
+            programs, plans) as tablet:
+        before = tablet.files()
+        too_few = limit_files(10, is_told=True)
+        expect_failure(tablet.run(5, preexec_fn=too_few), b"list.place: ")
+        expect(tablet.files(), before, "the folder")
     with cases.case("standard output is full: all are served"), tablet_on(
             programs, plans) as tablet:
         with open("/dev/full", "wb") as full:
