@@ -14,7 +14,8 @@ from program_runs import PATIENCE, Wrong, expect, kill
 from tablet_model import KEPT, ends_of, kept_text, tablet_on
 
 BUDGET = 3
-SHORT, LONGER = 0.02, 1.05  # seconds that a killed run is given at most, and by what they grow
+SHORT, LONGER = 0.005, 1.05  # seconds that a killed run is given at most, and by what they grow
+MOST_JOBS = 200  # until a kill falls within a turn, where turns are short
 CUT_AT = 70  # bytes: less than a checkpoint, and more than the kept place of three plants
 
 
@@ -145,14 +146,15 @@ class Killed:
 
 def try_kills(programs, cases, plans, chance, jobs):
     """Kills at random instants, on a disk if there is one, so that many fall within a turn."""
-    starts = cut = 0
-    for job in range(jobs):
+    starts = cut = job = 0
+    while job < jobs or (cut == 0 and job < MOST_JOBS):
         with cases.case(f"job {job} is killed at random until it is done"), tablet_on(
                 programs, plans, tempfile.TemporaryDirectory) as tablet:
             killed = Killed(tablet, chance)
             killed.finish()
             starts, cut = starts + killed.starts, cut + killed.cut
-    cases.note(f"{jobs} jobs of {len(plans)} plants in {starts} runs: {cut} kills within a turn")
+        job += 1
+    cases.note(f"{job} jobs of {len(plans)} plants in {starts} runs: {cut} kills within a turn")
     with cases.case("some kill fell within a turn"):
         expect(cut > 0, True, "that one did")
 
