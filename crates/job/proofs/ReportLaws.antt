@@ -6,7 +6,7 @@ use mathlib.Core.Path.{_≡_, refl, sym, ap, _∙_}
 use native.Mathlib.Omega.{arith}
 use lib.Dec.{eqb}
 use lib.ListN.{length}
-use borrow.Author.Tests.{eq-eqb, ne-eqb, eqb-true, lt-ltb, le-ltb}
+use borrow.Author.Tests.{eqb-true, lt-ltb, le-ltb}
 use Rattle.mass.specs.declared.figures.Figures.{Figures}
 use Rattle.mass.specs.Figures.{kgOf, mustReport}
 use Rattle.mass.proofs.FiguresLaws.{figuresOf-ledgers}
@@ -23,35 +23,13 @@ use Rattle.job.specs.State.{State, FitFor}
 use Rattle.job.specs.Checkpoint.{checkpointSize, sound, decode, encode}
 use Rattle.job.specs.Tally.{ledgersOf, tallyIn, stateOf}
 use Rattle.job.specs.Reply.{reply, refusalNumber, figureValues}
-use Rattle.job.specs.Report.{warming, figuresAt, replyAt, judgedFor, judged, judgement, reportReply, leftReply}
-use Rattle.job.specs.Wake.{ifOpen}
+use Rattle.job.specs.Report.{warming, figuresAt, replyAt, judgement, reportReply, leftReply}
+use Rattle.job.specs.Wake.{ifOpen, judgedFor, judged}
 use Rattle.job.proofs.CheckpointLaws.{length-encode, decode-encode, sound-encode, stateOf-tallyIn}
 use Rattle.job.proofs.WakeLaws.{ifOpen-refused, ifOpen-accepted, records-le}
+use Rattle.job.proofs.WakeLaws.{judgedFor-30, judgedFor-31, judgedFor-sound, judged-book, judged-open}
 
--- ---- what turns a book or its checkpoint away
-module _ (h : Head) (c : List ℕ) where
-  pub judgedFor-30 : (length c ≡ checkpointSize → ⊥) → judgedFor h c ≡ refused 30
-  unfolding judgedFor
-  judgedFor-30 l = choose-f _ (ne-eqb _ _ l) refl
-
-  pub judgedFor-31 : length c ≡ checkpointSize → sound h c ≡ false → judgedFor h c ≡ refused 31
-  unfolding judgedFor
-  judgedFor-31 l s = choose-t _ (eq-eqb _ _ l) (choose-f _ s refl)
-
-  pub judgedFor-sound : length c ≡ checkpointSize → sound h c ≡ true → judgedFor h c ≡ accepted h
-  unfolding judgedFor
-  judgedFor-sound l s = choose-t _ (eq-eqb _ _ l) (choose-t _ s refl)
-
-module _ (k c : List ℕ) where
-  pub judged-book : {n : ℕ} → opened k ≡ refused n → judged k c ≡ refused n
-  unfolding judged
-  judged-book e = ifOpen-refused (opened k) refused _ e
-
-  pub judged-open : {h : Head} → opened k ≡ accepted h → judged k c ≡ judgedFor h c
-  unfolding judged
-  judged-open e = ifOpen-accepted (opened k) refused _ e
-
--- What is known of a book and a checkpoint that aren't turned away.
+-- ---- a book and a checkpoint that pass
 pub record Judged (k c : List ℕ) (h : Head) : Type 0 where
   pub is-open : opened k ≡ accepted h
   pub is-whole : length c ≡ checkpointSize

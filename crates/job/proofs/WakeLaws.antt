@@ -17,8 +17,8 @@ use Rattle.job.specs.declared.tally.Tally.{Tally}
 use Rattle.job.specs.State.{State, FitFor}
 use Rattle.job.specs.Checkpoint.{checkpointSize, sound}
 use Rattle.job.specs.Tally.{tallyOf}
-use Rattle.job.specs.Reply.{Reply, reply}
-use Rattle.job.specs.Wake.{ifOpen, freshJudged, freshReply, freshBytes, wakeJudged, wakeReply, wakeBytes}
+use Rattle.job.specs.Reply.{reply}
+use Rattle.job.specs.Wake.{ifOpen, freshJudged, freshReply, freshBytes, judgedFor, judged, wakeJudged, wakeReply, wakeBytes}
 use Rattle.job.proofs.TallyLaws.{sound-ledgersOf}
 use Rattle.job.proofs.ReplyLaws.{refused-0}
 
@@ -47,64 +47,80 @@ module _ {A : Type 0} (k out : List ℕ) (refuse : ℕ → A) (go : Head → A) 
     unfolding freshJudged
     freshJudged-go o = ifOpen-accepted (opened k) refuse _ e ∙ choose-t _ (eq-eqb _ _ o) refl
 
+-- ---- what turns a book or its checkpoint away
+module _ (h : Head) (c : List ℕ) where
+  pub judgedFor-30 : (length c ≡ checkpointSize → ⊥) → judgedFor h c ≡ refused 30
+  unfolding judgedFor
+  judgedFor-30 l = choose-f _ (ne-eqb _ _ l) refl
+
+  pub judgedFor-31 : length c ≡ checkpointSize → sound h c ≡ false → judgedFor h c ≡ refused 31
+  unfolding judgedFor
+  judgedFor-31 l s = choose-t _ (eq-eqb _ _ l) (choose-f _ s refl)
+
+  pub judgedFor-sound : length c ≡ checkpointSize → sound h c ≡ true → judgedFor h c ≡ accepted h
+  unfolding judgedFor
+  judgedFor-sound l s = choose-t _ (eq-eqb _ _ l) (choose-t _ s refl)
+
+module _ (k c : List ℕ) where
+  pub judged-book : {n : ℕ} → opened k ≡ refused n → judged k c ≡ refused n
+  unfolding judged
+  judged-book e = ifOpen-refused (opened k) refused _ e
+
+  pub judged-open : {h : Head} → opened k ≡ accepted h → judged k c ≡ judgedFor h c
+  unfolding judged
+  judged-open e = ifOpen-accepted (opened k) refused _ e
+
 -- ---- a wake
 module _ {A : Type 0} (k c out : List ℕ) (refuse : ℕ → A) (go : Head → A) where
   pub wakeJudged-book : {n : ℕ} → opened k ≡ refused n → wakeJudged k c out refuse go ≡ refuse n
   unfolding wakeJudged
-  wakeJudged-book e = ifOpen-refused (opened k) refuse _ e
+  wakeJudged-book e = ifOpen-refused (judged k c) _ _ (judged-book k c e)
 
   module _ {h : Head} (e : opened k ≡ accepted h) where
     pub wakeJudged-30 : (length c ≡ checkpointSize → ⊥) → wakeJudged k c out refuse go ≡ refuse 30
     unfolding wakeJudged
-    wakeJudged-30 l = ifOpen-accepted (opened k) refuse _ e ∙ choose-f _ (ne-eqb _ _ l) refl
+    wakeJudged-30 l = ifOpen-refused (judged k c) _ _ (judged-open k c e ∙ judgedFor-30 h c l)
 
     pub wakeJudged-31 : length c ≡ checkpointSize → sound h c ≡ false → wakeJudged k c out refuse go ≡ refuse 31
     unfolding wakeJudged
-    wakeJudged-31 l s = ifOpen-accepted (opened k) refuse _ e ∙ choose-t _ (eq-eqb _ _ l) (choose-f _ s refl)
+    wakeJudged-31 l s = ifOpen-refused (judged k c) _ _ (judged-open k c e ∙ judgedFor-31 h c l s)
 
     pub wakeJudged-32 : length c ≡ checkpointSize → sound h c ≡ true → (length out ≡ checkpointSize → ⊥)
         → wakeJudged k c out refuse go ≡ refuse 32
     unfolding wakeJudged
     wakeJudged-32 l s o =
-        ifOpen-accepted (opened k) refuse _ e
-        ∙ choose-t _ (eq-eqb _ _ l) (choose-t _ s (choose-f _ (ne-eqb _ _ o) refl))
+        ifOpen-accepted (judged k c) _ _ (judged-open k c e ∙ judgedFor-sound h c l s)
+        ∙ choose-f _ (ne-eqb _ _ o) refl
 
     pub wakeJudged-go : length c ≡ checkpointSize → sound h c ≡ true → length out ≡ checkpointSize
         → wakeJudged k c out refuse go ≡ go h
     unfolding wakeJudged
     wakeJudged-go l s o =
-        ifOpen-accepted (opened k) refuse _ e
-        ∙ choose-t _ (eq-eqb _ _ l) (choose-t _ s (choose-t _ (eq-eqb _ _ o) refl))
+        ifOpen-accepted (judged k c) _ _ (judged-open k c e ∙ judgedFor-sound h c l s)
+        ∙ choose-t _ (eq-eqb _ _ o) refl
 
 -- ---- what is refused leaves the buffer as it was
 module _ {n : ℕ} {vs out : List ℕ} where
-  ifOpen-kept : (a : Answer) (says : Head → Reply) (leaves : Head → List ℕ)
-      → ((h : Head) → says h ≡ reply (suc n) vs → leaves h ≡ out)
-      → ifOpen a (λ m. reply m []) says ≡ reply (suc n) vs → ifOpen a (λ m. out) leaves ≡ out
-  unfolding ifOpen
-  ifOpen-kept (refused m) says leaves f e = refl
-  ifOpen-kept (accepted h) says leaves f e = f h e
+  choose-kept : (t : Bool) (ws x : List ℕ) → choose t (reply 0 ws) (reply 32 []) ≡ reply (suc n) vs
+      → choose t x out ≡ out
+  choose-kept true ws x e = absurd (refused-0 refl (sym (choose-t (reply 32 []) refl refl) ∙ e) (omega arith))
+  choose-kept false ws x e = choose-f x refl refl
 
-  choose-kept : (m : ℕ) (t : Bool) {r : Reply} {x : List ℕ} → (r ≡ reply (suc n) vs → x ≡ out)
-      → choose t r (reply m []) ≡ reply (suc n) vs → choose t x out ≡ out
-  choose-kept m true f e = choose-t out refl (f (sym (choose-t (reply m []) refl refl) ∙ e))
-  choose-kept m false {x = x} f e = choose-f x refl refl
+  ifOpen-kept : (a : Answer) (says leaves : Head → List ℕ) →
+      let fits = eqb (length out) checkpointSize in
+      ifOpen a (λ m. reply m []) (λ h. choose fits (reply 0 (says h)) (reply 32 [])) ≡ reply (suc n) vs
+      → ifOpen a (λ m. out) (λ h. choose fits (leaves h) out) ≡ out
+  unfolding ifOpen
+  ifOpen-kept (refused m) says leaves e = refl
+  ifOpen-kept (accepted h) says leaves e = choose-kept (eqb (length out) checkpointSize) _ _ e
 
   pub freshBytes-kept : (k : List ℕ) → freshReply k out ≡ reply (suc n) vs → freshBytes k out ≡ out
   unfolding freshReply freshBytes freshJudged
-  freshBytes-kept k =
-      ifOpen-kept (opened k) _ _
-      (λ h. choose-kept 32 (eqb (length out) checkpointSize)
-      (λ e. absurd (refused-0 refl e (omega arith))))
+  freshBytes-kept k = ifOpen-kept (opened k) _ _
 
   pub wakeBytes-kept : (k c : List ℕ) (b : ℕ) → wakeReply k c b out ≡ reply (suc n) vs → wakeBytes k c b out ≡ out
   unfolding wakeReply wakeBytes wakeJudged
-  wakeBytes-kept k c b =
-      ifOpen-kept (opened k) _ _
-      (λ h. choose-kept 30 (eqb (length c) checkpointSize)
-      (choose-kept 31 (sound h c)
-      (choose-kept 32 (eqb (length out) checkpointSize)
-      (λ e. absurd (refused-0 refl e (omega arith))))))
+  wakeBytes-kept k c b = ifOpen-kept (judged k c) _ _
 
 -- ---- a book that is accepted
 pub records-le : (k : List ℕ) (h : Head) → opened k ≡ accepted h → h .n ≤ 131072

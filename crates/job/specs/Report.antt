@@ -4,8 +4,6 @@
 --     figuresAt s         the five figures and the decision of a state
 --     replyAt h s         the reply to a report at a state: 40 unless the book is finished, 41 if a record
 --                         was set aside, else the figures
---     judgedFor h c       the head h of a book, or the number that refuses c as its checkpoint
---     judged k c          the head of the book k, or the first number that refuses k or c
 --     judgement r         the number, or the head, that the code's judgement stands for
 --     reportReply k c     the reply to a report
 --     leftReply k c       the reply to a count: the records of the book, less those done
@@ -13,21 +11,20 @@
 -- Laws: proofs/ReportLaws.antt. Definitions only.
 use Prim.Native.Nat.{ℕ, _-_}
 use mathlib.Core.List.{List, [], _∷_}
-use lib.Dec.{eqb, ltb}
-use lib.ListN.{length}
+use lib.Dec.{ltb}
 use Rattle.mass.specs.declared.figures.Figures.{Figures}
 use Rattle.mass.specs.declared.figures.Warming.{Warming}
 use Rattle.mass.specs.Figures.{figuresOf}
 use Rattle.rules.specs.declared.book.Head.{Head}
 use Rattle.rules.specs.Tests.{choose}
-use Rattle.rules.specs.Book.{Answer, refused, accepted, opened}
+use Rattle.rules.specs.Book.{Answer, refused, accepted}
 use Rattle.job.specs.declared.report.Judgement.{Judgement}
 use Rattle.job.specs.declared.report.Judgement.the-variants.{Refused, Sound}
 use Rattle.job.specs.State.{State}
-use Rattle.job.specs.Checkpoint.{checkpointSize, sound, decode}
+use Rattle.job.specs.Checkpoint.{decode}
 use Rattle.job.specs.Tally.{ledgersOf}
 use Rattle.job.specs.Reply.{Reply, reply, refusalNumber, figureValues}
-use Rattle.job.specs.Wake.{ifOpen}
+use Rattle.job.specs.Wake.{ifOpen, judged}
 
 -- 21 for CH4 and 310 for N2O.
 abbrev pub warming : Warming
@@ -41,16 +38,6 @@ replyAt h s =
     choose (ltb (s .done) (h .n)) (reply 40 (s .done ∷ []))
     (choose (ltb 0 (s .aside)) (reply 41 (s .index ∷ s .reason ∷ []))
     (reply 0 (figureValues (figuresAt s))))
-
-unfoldable pub judgedFor : Head → List ℕ → Answer
-judgedFor h c =
-    choose (eqb (length c) checkpointSize)
-    (choose (sound h c) (accepted h)
-    (refused 31))
-    (refused 30)
-
-unfoldable pub judged : List ℕ → List ℕ → Answer
-judged k c = ifOpen (opened k) refused (λ h. judgedFor h c)
 
 unfoldable pub judgement : Judgement → Answer
 judgement (Refused x) = refused (refusalNumber x)

@@ -1,6 +1,8 @@
 -- What a fresh start and a wake reply and write. RULES, "Calls" and "Numbers".
 --
 --     ifOpen a refuse go          refuse with the number that refused a book, or go with its head
+--     judgedFor h c               the head h of a book, or the number that refuses c as its checkpoint
+--     judged k c                  the head of the book k, or the first number that refuses k or c
 --     freshJudged k out refuse go the first number that refuses a fresh start, or what it does otherwise
 --     wakeJudged k c out refuse go    the same of a wake
 --     freshReply k out, freshBytes k out       the reply, and the output buffer afterwards
@@ -36,16 +38,23 @@ freshReply k out = freshJudged k out (λ n. reply n []) (λ h. reply 0 [])
 unfoldable pub freshBytes : List ℕ → List ℕ → List ℕ
 freshBytes k out = freshJudged k out (λ n. out) (λ h. encode h fresh)
 
+-- ---- a checkpoint
+unfoldable pub judgedFor : Head → List ℕ → Answer
+judgedFor h c =
+    choose (eqb (length c) checkpointSize)
+    (choose (sound h c) (accepted h)
+    (refused 31))
+    (refused 30)
+
+unfoldable pub judged : List ℕ → List ℕ → Answer
+judged k c = ifOpen (opened k) refused (λ h. judgedFor h c)
+
 -- ---- a wake
 unfoldable pub wakeJudged : {A : Type 0} → List ℕ → List ℕ → List ℕ → (ℕ → A) → (Head → A) → A
 wakeJudged k c out refuse go =
-    ifOpen (opened k) refuse (λ h.
-    choose (eqb (length c) checkpointSize)
-    (choose (sound h c)
-    (choose (eqb (length out) checkpointSize) (go h)
+    ifOpen (judged k c) refuse (λ h.
+    choose (eqb (length out) checkpointSize) (go h)
     (refuse 32))
-    (refuse 31))
-    (refuse 30))
 
 unfoldable pub moves : Head → List ℕ → ℕ → ℕ
 moves h c b = min b (h .n - doneIn c)

@@ -15,7 +15,8 @@ ghost use Prim.Native.Nat.{_≤_};
 ghost use Rattle.job.specs.State.{FitFor};
 ghost use Rattle.job.specs.Tally.{tallyOf, stateOf};
 ghost use Rattle.job.specs.Reply.{reported, counted};
-ghost use Rattle.job.specs.Report.{replyAt, judgedFor, judged, judgement, reportReply, leftReply};
+ghost use Rattle.job.specs.Wake.{judgedFor, judged};
+ghost use Rattle.job.specs.Report.{replyAt, judgement, reportReply, leftReply};
 
 // How many kilograms of CO2 one of CH4, and one of N2O, stands for.
 const WARMING_CH4: u64 = 21;

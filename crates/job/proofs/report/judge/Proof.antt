@@ -3,7 +3,7 @@ use mathlib.Core.Path.{sym, _∙_}
 use borrow.Author.Needs.{needs}
 use Rattle.rules.proofs.BookLaws.{opened-open, opened-wrong}
 use Rattle.job.specs.Report.{judgement}
-use Rattle.job.proofs.ReportLaws.{judged-book, judged-open}
+use Rattle.job.proofs.WakeLaws.{judged-book, judged-open}
 use Rattle.job.proofs.report.judge.Statement.{statement}
 use Rattle.job.proofs.report.judge.Tie as tie
 
