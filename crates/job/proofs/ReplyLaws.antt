@@ -55,14 +55,6 @@ pub reported-given : (f : Figures) → reported (Given f) ≡ reply 0 (figureVal
 unfolding reported
 reported-given f = refl
 
-pub counted-notCounted : (x : Refusal) → counted (NotCounted x) ≡ reply (refusalNumber x) []
-unfolding counted
-counted-notCounted x = refl
-
-pub counted-left : (m : ℕ) → counted (Left m) ≡ reply 0 (m ∷ [])
-unfolding counted
-counted-left m = refl
-
 pub figureValues-six : (f : Figures) {m : ℕ} → choose (f .reportable) 1 0 ≡ m
     → figureValues f
     ≡ (f .fossil .0 ∷ f .biomass .0 ∷ f .ch4 .0 ∷ f .n2o .0 ∷ f .co2e .0 ∷ m ∷ [])

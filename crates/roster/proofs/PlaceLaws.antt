@@ -5,7 +5,7 @@ use mathlib.Core.Bool.{true, false}
 use mathlib.Core.List.{List, [], _∷_, _++_, map, append-assoc, List·Memᴰ, List·Memᴰ·head, List·Memᴰ·tail, List·Memᴰ·not-nil}
 use mathlib.Core.Path.{_≡_, refl, sym, ap, ap₂, _∙_}
 use native.Mathlib.Omega.{arith}
-use lib.ListN.{length, length-append, getD, take, drop}
+use lib.ListN.{length, getD, take, drop}
 use lib.Seq.{take-suc}
 use Rattle.roster.specs.declared.plants.Part.the-variants.{Line}
 use Rattle.roster.specs.declared.plants.Listed.the-variants.{Plants}
@@ -15,7 +15,7 @@ use Rattle.roster.specs.Plants.{mostPlants, checkpointOf, partOf, indexF
 use Rattle.roster.specs.Place.{kept, none, placeFrom, placed}
 use Rattle.roster.proofs.TestsLaws.{cond-f, if-test, if-lt}
 use Rattle.roster.proofs.BytesLaws.{has→lt, has→le, same→eq}
-use Rattle.roster.proofs.LinesLaws.{split-ended, split-unended, lines-after, lines-through, lines-append, length-after, unended-after}
+use Rattle.roster.proofs.LinesLaws.{split-ended, split-unended, lines-after, lines-through, lines-append, unended-after}
 use Rattle.roster.proofs.PlantsLaws.{first, if-among}
 use Rattle.roster.proofs.ToldLaws.{judged-upTo, judged-count, judged-whole}
 
@@ -138,7 +138,3 @@ unfolding placed
 placed-lt t n e k =
     placeFrom-lt mostPlants none (linesOf t) (linesOf k)
     (omega (arith, judged-count t n e, judged-upTo t n e .few)) (omega arith)
-
-pub length-kept : (i : ℕ) (t : List ℕ) → length (kept i t) ≡ length t
-unfolding kept
-length-kept i t = omega (arith, length-append (after (suc i) t) (through (suc i) t), length-after (suc i) t)

@@ -4,14 +4,14 @@ use mathlib.Core.Bool.{Bool, true, false, _&&_}
 use mathlib.Core.List.{List, [], _∷_, map}
 use mathlib.Core.Path.{_≡_, refl, sym, ap, _∙_}
 use native.Mathlib.Omega.{arith}
-use lib.Dec.{ltb, leb}
+use lib.Dec.{ltb}
 use lib.ListN.{length, getD, drop, drop-of-length-le, List·getD-map}
 use lib.Seq.{drop-nil}
-use borrow.Author.Tests.{lt-ltb, le-ltb, ltb-true, leb-true}
+use borrow.Author.Tests.{lt-ltb, le-ltb}
 use Rattle.roster.specs.Bytes.{span, front, rest, has, same}
 use Rattle.roster.specs.Lines.{newline, Split, linesOf}
-use Rattle.roster.specs.Plants.{longestBook, longestCheckpoint, space, visible, isWord, bookOf, checkpointOf, isPlant, indexFrom}
-use Rattle.roster.proofs.TestsLaws.{cond-t, cond-f, and-t, and-f, and-l, and-r, if-test}
+use Rattle.roster.specs.Plants.{space, visible, isWord, bookOf, checkpointOf, isPlant, indexFrom}
+use Rattle.roster.proofs.TestsLaws.{cond-t, cond-f, and-t, and-f, if-test}
 use Rattle.roster.proofs.BytesLaws.{drop-next, has→lt, has→le, same→eq, same-refl}
 use Rattle.roster.proofs.LinesLaws.{split-ended, split-unended}
 
@@ -32,31 +32,7 @@ module _ {r : Bool} (w : List ℕ) (i : ℕ) (whole : visible (drop i w) ≡ r) 
   unfolding visible
   visible-end l = sym (ap visible (drop-of-length-le w {i = i} l)) ∙ whole
 
-pub isWord→within : (m : ℕ) (w : List ℕ) → isWord m w ≡ true → (1 ≤ length w) × (length w ≤ m) × (visible w ≡ true)
-unfolding isWord
-isWord→within m w h =
-    let long = and-l (leb 1 (length w) && leb (length w) m) (visible w) h in (
-      leb-true 1 (length w) (and-l (leb 1 (length w)) (leb (length w) m) long),
-      leb-true (length w) m (and-r (leb 1 (length w)) (leb (length w) m) long),
-      and-r (leb 1 (length w) && leb (length w) m) (visible w) h,
-    )
-
--- No byte of a word is a space, a newline or 0.
-pub visible→above : (w : List ℕ) → visible w ≡ true → (k : ℕ) → k < length w → 32 < getD w k 0
-unfolding visible
-visible→above [] h k l = absurd (omega arith)
-visible→above (b ∷ w) h zero l = ltb-true 32 b (and-l (ltb 32 b) (visible w) h)
-visible→above (b ∷ w) h (suc k) l = visible→above w (and-r (ltb 32 b) (visible w) h) k (omega arith)
-
 -- ---- a plant's line
-pub isPlant→words : (l : List ℕ) → isPlant l ≡ true
-    → (isWord longestBook (bookOf l) ≡ true) × (isWord longestCheckpoint (checkpointOf l) ≡ true)
-unfolding isPlant
-isPlant→words l h =
-    let book = isWord longestBook (bookOf l) in
-    let checkpoint = isWord longestCheckpoint (checkpointOf l) in
-    (and-l book checkpoint h, and-r book checkpoint h)
-
 pub isPlant-nil : isPlant [] ≡ false
 unfolding isPlant isWord bookOf front span
 isPlant-nil = refl

@@ -1,6 +1,6 @@
 -- Tests, and what hangs on them. Assumes nothing.
 use Prim.Native.Nat.{ℕ, _<_, _≤_}
-use mathlib.Core.Bool.{Bool, true, false, false≢true, not, cond, _&&_}
+use mathlib.Core.Bool.{Bool, true, false, not, cond, _&&_}
 use mathlib.Core.Path.{_≡_, refl, sym, _∙_}
 use lib.Dec.{ltb, eqb}
 use borrow.Author.Tests.{ltb-true, ltb-false, eqb-true, eqb-false, not-true, not-false}
@@ -16,14 +16,6 @@ and-t p q = rw p q
 
 pub and-f : {a : Bool} (b : Bool) → a ≡ false → (a && b) ≡ false
 and-f b p = rw p
-
-pub and-l : (a b : Bool) → (a && b) ≡ true → a ≡ true
-and-l true b h = refl
-and-l false b h = h
-
-pub and-r : (a b : Bool) → (a && b) ≡ true → b ≡ true
-and-r true b h = h
-and-r false b h = absurd (false≢true h)
 
 -- ---- a call r that ensures r ≡ t, tested as r or as not r
 pub is : {r t x : Bool} → r ≡ t → r ≡ x → t ≡ x

@@ -1,6 +1,6 @@
 -- What is told of a judged list, and how long it is at most. Assumes nothing.
 use Prim.Native.Nat.{ℕ, _+_}
-use mathlib.Core.List.{List, [], _++_}
+use mathlib.Core.List.{[], _++_}
 use mathlib.Core.Path.{_≡_, ap}
 use native.Mathlib.Omega.{arith}
 use Rattle.roster.specs.declared.plants.Listed.{Listed}
