@@ -8,13 +8,13 @@ use lib.Dec.{eqb, lit≤}
 use lib.ListN.{length, take, drop}
 use lib.Seq.{take-add, take-all}
 use borrow.Author.Tests.{ltb-true, leb-true, eqb-true, lt-ltb, le-leb, eq-eqb, ne-eqb}
+use Rattle.choice.specs.Tests.{choose}
+use Rattle.choice.proofs.Splitting.{if-eq}
+use Rattle.choice.proofs.TestsLaws.{also-t, also-iff, choose-t, choose-f}
 use Rattle.mass.specs.Ledger.{tonne}
 use Rattle.mass.proofs.LedgerLaws.{total-parts, ledgerOf-unique}
-use Rattle.mass.proofs.Splitting.{if-eq}
 use Rattle.rules.specs.declared.book.Head.{Head}
 use Rattle.rules.specs.Bytes.{byte, word}
-use Rattle.rules.specs.Tests.{choose}
-use Rattle.rules.proofs.TestsLaws.{also-t, also-iff, choose-t, choose-f}
 use Rattle.rules.proofs.BytesLaws.{word-drop, word-take}
 use Rattle.job.specs.declared.tally.Tally.{Tally}
 use Rattle.job.specs.State.{State, Light, FitFor}

@@ -13,10 +13,10 @@ use mathlib.Core.List.{List, [], _∷_, List·Memᴰ}
 use mathlib.Core.Logic.{_↔_}
 use mathlib.Core.Path.{_≡_, ap, _∙_}
 use lib.ListN.{length}
+use Rattle.choice.specs.Tests.{choose}
 use Rattle.mass.specs.Figures.{kgOf, mustReport}
 use Rattle.rules.specs.declared.book.Head.{Head}
 use Rattle.rules.specs.declared.record.Outcome.the-variants.{SetAside}
-use Rattle.rules.specs.Tests.{choose}
 use Rattle.rules.specs.Book.{refused, accepted, opened}
 use Rattle.rules.specs.Record.{outcomeAt}
 use Rattle.rules.proofs.BookLaws.{opened-number}

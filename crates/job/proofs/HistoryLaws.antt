@@ -7,7 +7,7 @@ use mathlib.Core.Path.{_≡_, refl, sym, ap, _∙_, subst}
 use native.Mathlib.Nat.{zero-min}
 use native.Mathlib.Omega.{arith}
 use lib.ListN.{length}
-use Rattle.mass.proofs.Splitting.{if-eq}
+use Rattle.choice.proofs.Splitting.{if-eq}
 use Rattle.rules.specs.declared.book.Head.{Head}
 use Rattle.rules.specs.Book.{accepted, opened}
 use Rattle.rules.proofs.BookLaws.{accepted-facts}

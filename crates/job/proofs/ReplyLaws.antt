@@ -6,10 +6,10 @@ use mathlib.Core.List.{List, [], _∷_}
 use mathlib.Core.Path.{_≡_, refl, sym, ap, _∙_}
 use native.Mathlib.Omega.{arith}
 use lib.Dec.{eqb}
+use Rattle.choice.specs.Tests.{choose}
+use Rattle.choice.proofs.TestsLaws.{choose-t, choose-f}
 use Rattle.mass.specs.declared.figures.Figures.{Figures}
 use Rattle.rules.specs.declared.book.Fault.the-variants.{Length, Trailer, Units, Fuels}
-use Rattle.rules.specs.Tests.{choose}
-use Rattle.rules.proofs.TestsLaws.{choose-t, choose-f}
 use Rattle.job.specs.declared.reply.Refusal.{Refusal}
 use Rattle.job.specs.declared.reply.Refusal.the-variants.{Book, CheckpointLength, CheckpointUnsound, BufferLength}
 use Rattle.job.specs.declared.reply.Started.{Started}

@@ -7,13 +7,13 @@ use native.Mathlib.Omega.{arith}
 use lib.Dec.{eqb}
 use lib.ListN.{length}
 use borrow.Author.Tests.{eqb-true, lt-ltb, le-ltb}
+use Rattle.choice.specs.Tests.{choose}
+use Rattle.choice.proofs.TestsLaws.{choose-t, choose-f}
 use Rattle.mass.specs.declared.figures.Figures.{Figures}
 use Rattle.mass.specs.Figures.{kgOf, mustReport}
 use Rattle.mass.proofs.FiguresLaws.{figuresOf-ledgers}
 use Rattle.rules.specs.declared.book.Head.{Head}
-use Rattle.rules.specs.Tests.{choose}
 use Rattle.rules.specs.Book.{Answer, refused, accepted, opened}
-use Rattle.rules.proofs.TestsLaws.{choose-t, choose-f}
 use Rattle.rules.proofs.BookLaws.{accepted-facts}
 use Rattle.job.specs.declared.reply.Refusal.{Refusal}
 use Rattle.job.specs.declared.report.Judgement.{Judgement}

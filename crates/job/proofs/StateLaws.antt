@@ -6,9 +6,10 @@ use mathlib.Core.Path.{_≡_, refl, sym, ap, _∙_, subst}
 use native.Mathlib.Nat.{add-zero, add-suc, not-suc-le-zero}
 use native.Mathlib.Omega.{arith}
 use borrow.Author.Tests.{eq-eqb, ne-eqb}
+use Rattle.choice.proofs.Splitting.{if-lt, if-eq}
+use Rattle.choice.proofs.TestsLaws.{choose-t, choose-f}
 use Rattle.mass.specs.declared.Ug.{Ug}
 use Rattle.mass.specs.Ledger.{tonne}
-use Rattle.mass.proofs.Splitting.{if-lt, if-eq}
 use Rattle.rules.specs.declared.book.Head.{Head}
 use Rattle.rules.specs.declared.entry.Destination.{Destination}
 use Rattle.rules.specs.declared.entry.Destination.the-variants.{Fossil, Biomass, Nowhere}
@@ -16,7 +17,6 @@ use Rattle.rules.specs.declared.record.Outcome.{Outcome}
 use Rattle.rules.specs.declared.record.Outcome.the-variants.{SetAside, Counted}
 use Rattle.rules.specs.Book.{opened, accepted}
 use Rattle.rules.specs.Record.{lastReason, outcomeAt}
-use Rattle.rules.proofs.TestsLaws.{choose-t, choose-f}
 use Rattle.rules.proofs.RecordLaws.{Within, within-outcomeAt}
 use Rattle.job.specs.State.{State, toFossil, toBiomass, fossilOf, biomassOf, ch4Of, n2oOf, asideOf, fresh, after, run, first, sumTo, FitFor}
 

@@ -7,11 +7,11 @@ use native.Mathlib.Omega.{arith}
 use lib.Dec.{eqb}
 use lib.ListN.{length}
 use borrow.Author.Tests.{eq-eqb, ne-eqb}
+use Rattle.choice.specs.Tests.{choose}
+use Rattle.choice.proofs.TestsLaws.{choose-t, choose-f}
 use Rattle.mass.specs.Figures.{AllSound}
 use Rattle.rules.specs.declared.book.Head.{Head}
-use Rattle.rules.specs.Tests.{choose}
 use Rattle.rules.specs.Book.{Answer, refused, accepted, opened}
-use Rattle.rules.proofs.TestsLaws.{choose-t, choose-f}
 use Rattle.rules.proofs.BookLaws.{accepted-facts}
 use Rattle.job.specs.declared.tally.Tally.{Tally}
 use Rattle.job.specs.State.{State, FitFor}

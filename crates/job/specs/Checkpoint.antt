@@ -17,9 +17,9 @@ use Prim.Native.Nat.{ℕ, zero, suc, _+_, _*_, _/_, _%_}
 use mathlib.Core.Bool.{Bool}
 use mathlib.Core.List.{List, [], _∷_, _++_}
 use lib.Dec.{leb, ltb, eqb}
+use Rattle.choice.specs.Tests.{_also_, choose}
 use Rattle.mass.specs.Ledger.{tonne}
 use Rattle.rules.specs.declared.book.Head.{Head}
-use Rattle.rules.specs.Tests.{_also_, choose}
 use Rattle.rules.specs.Bytes.{word, zeros}
 use Rattle.rules.specs.Record.{lastReason}
 use Rattle.job.specs.State.{State}

@@ -11,8 +11,8 @@
 -- Each is one-to-one: proofs/ReplyLaws.antt. Definitions only.
 use Prim.Native.Nat.{ℕ}
 use mathlib.Core.List.{List, [], _∷_}
+use Rattle.choice.specs.Tests.{choose}
 use Rattle.mass.specs.declared.figures.Figures.{Figures}
-use Rattle.rules.specs.Tests.{choose}
 use Rattle.rules.specs.Book.{faultNumber}
 use Rattle.job.specs.declared.reply.Refusal.{Refusal}
 use Rattle.job.specs.declared.reply.Refusal.the-variants.{Book, CheckpointLength, CheckpointUnsound, BufferLength}

@@ -12,11 +12,11 @@
 use Prim.Native.Nat.{ℕ, _-_}
 use mathlib.Core.List.{List, [], _∷_}
 use lib.Dec.{ltb}
+use Rattle.choice.specs.Tests.{choose}
 use Rattle.mass.specs.declared.figures.Figures.{Figures}
 use Rattle.mass.specs.declared.figures.Warming.{Warming}
 use Rattle.mass.specs.Figures.{figuresOf}
 use Rattle.rules.specs.declared.book.Head.{Head}
-use Rattle.rules.specs.Tests.{choose}
 use Rattle.rules.specs.Book.{Answer, refused, accepted}
 use Rattle.job.specs.declared.report.Judgement.{Judgement}
 use Rattle.job.specs.declared.report.Judgement.the-variants.{Refused, Sound}

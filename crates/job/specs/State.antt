@@ -17,6 +17,7 @@ use Prim.Native.Nat.{ℕ, zero, suc, _+_, _*_, _/_, _<_, _≤_}
 use mathlib.Core.List.{List}
 use mathlib.Core.Path.{_≡_}
 use lib.Dec.{eqb}
+use Rattle.choice.specs.Tests.{choose}
 use Rattle.mass.specs.declared.Ug.{Ug}
 use Rattle.mass.specs.Ledger.{tonne}
 use Rattle.rules.specs.declared.book.Head.{Head}
@@ -24,7 +25,6 @@ use Rattle.rules.specs.declared.entry.Destination.{Destination}
 use Rattle.rules.specs.declared.entry.Destination.the-variants.{Fossil, Biomass, Nowhere}
 use Rattle.rules.specs.declared.record.Outcome.{Outcome}
 use Rattle.rules.specs.declared.record.Outcome.the-variants.{SetAside, Counted}
-use Rattle.rules.specs.Tests.{choose}
 use Rattle.rules.specs.Record.{lastReason, outcomeAt}
 
 pub record State : Type 0 where

@@ -14,8 +14,8 @@ use Prim.Native.Nat.{ℕ, _-_, min}
 use mathlib.Core.List.{List, [], _∷_}
 use lib.Dec.{eqb}
 use lib.ListN.{length}
+use Rattle.choice.specs.Tests.{choose}
 use Rattle.rules.specs.declared.book.Head.{Head}
-use Rattle.rules.specs.Tests.{choose}
 use Rattle.rules.specs.Book.{Answer, refused, accepted, opened}
 use Rattle.job.specs.State.{fresh, run}
 use Rattle.job.specs.Checkpoint.{checkpointSize, doneIn, sound, decode, encode}

@@ -5,6 +5,7 @@ use native.Mathlib.Nat.{mul-add, mul-assoc, mul-le-mul}
 use native.Mathlib.Omega.{arith}
 use lib.Dec.{leb}
 use borrow.Author.Tests.{lt-ltb, le-ltb, lt-leb, le-leb}
+use Rattle.choice.proofs.Splitting.{if-lt}
 use Rattle.mass.specs.declared.Kg.{Kg}
 use Rattle.mass.specs.declared.ledger.Ledger.{Ledger}
 use Rattle.mass.specs.declared.ledger.Ledgers.{Ledgers}
@@ -12,7 +13,6 @@ use Rattle.mass.specs.declared.figures.Warming.{Warming}
 use Rattle.mass.specs.Rounding.{halfUp}
 use Rattle.mass.specs.Ledger.{tonne, mostTonnes, total, Sound, ledgerOf}
 use Rattle.mass.specs.Figures.{kgOf, AllSound, Mild, co2eOf, decisive, mustReport, figuresOf}
-use Rattle.mass.proofs.Splitting.{if-lt}
 use Rattle.mass.proofs.LedgerLaws.{total-ledgerOf}
 
 -- Half a kilogram more, and what is left of one falls away: whole tonnes are whole kilograms.

@@ -1,5 +1,4 @@
 -- The argument, from arithmetic to the promises: laws on plain values, worked cases, uniqueness.
-pub mod Splitting
 pub mod RoundingLaws
 pub mod NearestLaws
 pub mod ShiftLaws

@@ -4,8 +4,8 @@ use Prim.Native.Nat.{ℕ, _+_, _*_, _/_, _%_, _<_, _≤_}
 use mathlib.Core.Path.{_≡_, sym, ap, _∙_, subst}
 use native.Mathlib.Nat.{one-mul, add-mul, mod-lt, div-add-mod', mul-le-mul-right, eq-of-mul-eq-mul-right, le-antisymm}
 use native.Mathlib.Omega.{arith}
+use Rattle.choice.proofs.Splitting.{if-lt, if-eq}
 use Rattle.mass.specs.Rounding.{nearestTo, Nearest}
-use Rattle.mass.proofs.Splitting.{if-lt, if-eq}
 use Rattle.mass.proofs.RoundingLaws.{nearestTo-below, nearestTo-above, nearestTo-half, nearestTo-cases}
 
 next : (q d : ℕ) → (q + 1) * d ≡ q * d + d

@@ -10,8 +10,8 @@ use lib.Dec.{T, isLe, isEq, eqb, eqb-refl, eqb→eq, leb→le, nleb→lt}
 use lib.Ieee.{nearest}
 use lib.Ieee.Nearest.{closest, closest-same, closest-mono}
 use borrow.Author.Tests.{lt-ltb, le-ltb}
+use Rattle.choice.proofs.Splitting.{if-lt, if-eq}
 use Rattle.mass.specs.Rounding.{nearestTo}
-use Rattle.mass.proofs.Splitting.{if-lt, if-eq}
 
 -- ---- the three cases
 module _ (n d : ℕ) where

@@ -7,8 +7,8 @@ use mathlib.Core.Path.{_≡_, refl, ap, sym, _∙_}
 use native.Mathlib.Omega.{arith}
 use lib.ListN.{length}
 use borrow.Author.Tests.{lt-ltb, le-ltb}
-use Rattle.mass.proofs.Splitting.{if-test, if-lt}
-use Rattle.rules.proofs.TestsLaws.{choose-t, choose-f}
+use Rattle.choice.proofs.Splitting.{if-test, if-lt}
+use Rattle.choice.proofs.TestsLaws.{choose-t, choose-f}
 use Rattle.job.specs.Reply.{reply}
 use Rattle.queue.specs.declared.slots.Slot.the-variants.{Free, Book}
 use Rattle.queue.specs.declared.slots.Queue.{Queue}

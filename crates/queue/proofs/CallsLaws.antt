@@ -7,7 +7,7 @@ use mathlib.Core.List.{List·Memᴰ, List·Memᴰ·head, List·Memᴰ·tail, Mem
 use mathlib.Core.Path.{_≡_, refl, ap, sym, _∙_}
 use native.Mathlib.Omega.{arith}
 use lib.ListN.{length, take}
-use Rattle.mass.proofs.Splitting.{if-test, if-lt, if-eq}
+use Rattle.choice.proofs.Splitting.{if-test, if-lt, if-eq}
 use Rattle.queue.specs.declared.slots.Slot.the-variants.{Free, Book}
 use Rattle.queue.specs.declared.slots.Queue.{Queue}
 use Rattle.queue.specs.declared.reply.Refusal.{Refusal}

@@ -3,8 +3,8 @@ use Prim.Native.Nat.{ℕ, zero, suc, _<_, _≤_}
 use mathlib.Core.Bool.{Bool, true, false}
 use mathlib.Core.Path.{_≡_, refl, ap, _∙_}
 use native.Mathlib.Omega.{arith}
-use Rattle.mass.proofs.Splitting.{if-test}
-use Rattle.rules.proofs.TestsLaws.{choose-t, choose-f}
+use Rattle.choice.proofs.Splitting.{if-test}
+use Rattle.choice.proofs.TestsLaws.{choose-t, choose-f}
 use Rattle.queue.specs.Slots.{lowest}
 
 lowest-here : (p : ℕ → Bool) (n : ℕ) → p 0 ≡ true → lowest p (suc n) ≡ 0

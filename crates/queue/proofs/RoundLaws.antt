@@ -6,8 +6,8 @@ use mathlib.Core.Logic.{_↔_}
 use mathlib.Core.Path.{_≡_, refl, ap, sym, _∙_}
 use native.Mathlib.Omega.{arith}
 use borrow.Author.Tests.{lt-ltb, le-ltb, eq-eqb, ne-eqb, ltb-true, ltb-false}
-use Rattle.mass.proofs.Splitting.{if-lt, if-eq}
-use Rattle.rules.proofs.TestsLaws.{choose-t, choose-f}
+use Rattle.choice.proofs.Splitting.{if-lt, if-eq}
+use Rattle.choice.proofs.TestsLaws.{choose-t, choose-f}
 use Rattle.job.specs.Reply.{reply}
 use Rattle.queue.specs.declared.slots.Slot.the-variants.{Book}
 use Rattle.queue.specs.declared.slots.Queue.{Queue}

@@ -7,9 +7,9 @@ use lib.Dec.{ltb}
 use lib.ListN.{length, getD, length-set, length-replicate, List·getD-eq-default}
 use lib.Seq.{getD-set-same, getD-set-other}
 use borrow.Author.Tests.{lt-ltb, le-ltb}
-use Rattle.mass.proofs.Splitting.{if-lt}
-use Rattle.rules.specs.Tests.{choose}
-use Rattle.rules.proofs.TestsLaws.{choose-t, choose-f}
+use Rattle.choice.specs.Tests.{choose}
+use Rattle.choice.proofs.Splitting.{if-lt}
+use Rattle.choice.proofs.TestsLaws.{choose-t, choose-f}
 use Rattle.queue.specs.declared.slots.Slot.{Slot}
 use Rattle.queue.specs.declared.slots.Slot.the-variants.{Free, Book}
 use Rattle.queue.specs.declared.slots.Held.{Held}

@@ -7,7 +7,7 @@
 -- Laws: proofs/BooksLaws.antt. Definitions only.
 use Prim.Native.Nat.{ℕ}
 use lib.Dec.{ltb}
-use Rattle.rules.specs.Tests.{choose}
+use Rattle.choice.specs.Tests.{choose}
 use Rattle.queue.specs.declared.slots.Slot.the-variants.{Free, Book}
 use Rattle.queue.specs.declared.slots.Queue.{Queue}
 use Rattle.queue.specs.declared.reply.Refusal.the-variants.{Full, Empty}

@@ -12,7 +12,7 @@
 use Prim.Native.Nat.{ℕ, _+_, _-_, _%_, min}
 use mathlib.Core.Bool.{Bool}
 use lib.Dec.{ltb, eqb}
-use Rattle.rules.specs.Tests.{choose}
+use Rattle.choice.specs.Tests.{choose}
 use Rattle.queue.specs.declared.slots.Slot.the-variants.{Book}
 use Rattle.queue.specs.declared.slots.Queue.{Queue}
 use Rattle.queue.specs.declared.reply.Refusal.the-variants.{NoBudget, NothingLeft}

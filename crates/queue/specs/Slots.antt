@@ -14,7 +14,7 @@ use Prim.Native.Nat.{ℕ, zero, suc}
 use mathlib.Core.Bool.{Bool, true, false}
 use lib.Dec.{ltb}
 use lib.ListN.{getD, set, replicate}
-use Rattle.rules.specs.Tests.{choose}
+use Rattle.choice.specs.Tests.{choose}
 use Rattle.queue.specs.declared.slots.Slot.{Slot}
 use Rattle.queue.specs.declared.slots.Slot.the-variants.{Free, Book}
 use Rattle.queue.specs.declared.slots.Queue.{Queue}

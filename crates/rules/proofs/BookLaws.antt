@@ -9,17 +9,17 @@ use native.Mathlib.Omega.{arith}
 use lib.Dec.{eqb, ltb, lit≤}
 use lib.ListN.{length, take, drop}
 use borrow.Author.Tests.{lt-ltb, le-ltb, ltb-true, leb-true, eqb-true}
+use Rattle.choice.specs.Tests.{_also_, choose}
+use Rattle.choice.proofs.TestsLaws.{also-t, also-f, also-l, also-r, choose-true, choose-false, worked-out}
 use Rattle.rules.specs.declared.book.Head.{Head}
 use Rattle.rules.specs.declared.book.Opened.{Opened}
 use Rattle.rules.specs.declared.book.Opened.the-variants.{Wrong, Open}
 use Rattle.rules.specs.declared.book.Fault.{Fault}
 use Rattle.rules.specs.declared.book.Fault.the-variants.{Length, Trailer, Units, Fuels}
-use Rattle.rules.specs.Tests.{_also_, choose}
 use Rattle.rules.specs.Bytes.{line, lines, linesIn}
 use Rattle.rules.specs.Fields.{unitStart, fuelStart, year, number}
 use Rattle.rules.specs.Book.{longestBook, lengthOk, startsOk, trailerOk, unitOk, fuelOk, linesOk, linesSound, trailer, headOf, unitLines, fuelLines, Answer, refused, accepted, opened, answer, faultNumber}
 use Rattle.rules.specs.Listing.{numberAt, Rising}
-use Rattle.rules.proofs.TestsLaws.{also-t, also-f, also-l, also-r}
 use Rattle.rules.proofs.BytesLaws.{line-suc, lines-next, lines-end}
 
 -- ---- a scan that stands at line i of n, `before` being the number before it
@@ -143,11 +143,11 @@ gave (refused n) =
 gave (accepted h) = Open h
 
 gave-answer : (o : Opened) → gave (answer o) ≡ o
-unfolding gave answer choose
-gave-answer (Wrong Length) = refl
-gave-answer (Wrong Trailer) = refl
-gave-answer (Wrong Units) = refl
-gave-answer (Wrong Fuels) = refl
+unfolding gave answer
+gave-answer (Wrong Length) = simp worked-out
+gave-answer (Wrong Trailer) = simp worked-out
+gave-answer (Wrong Units) = simp worked-out
+gave-answer (Wrong Fuels) = simp worked-out
 gave-answer (Open h) = refl
 
 pub answer-inj : (o p : Opened) → answer o ≡ answer p → o ≡ p
@@ -166,9 +166,11 @@ opened-wrong s e q = sym e ∙ ap answer q
 -- Where a test turns a book away with the number m, its number is m; else the rest decides.
 refused-by : {x : Answer} {m n : ℕ} (t : Bool) → (20 ≤ m) × (m ≤ 23) → (x ≡ refused n → (20 ≤ n) × (n ≤ 23))
     → choose t x (refused m) ≡ refused n → (20 ≤ n) × (n ≤ 23)
-unfolding choose
-refused-by true g rest e = rest e
-refused-by {m = m} {n = n} false g rest e = let same : m ≡ n = cc in (omega arith, omega arith)
+refused-by true g rest e = rest (sym (choose-true _ _) ∙ e)
+refused-by {m = m} {n = n} false g rest e =
+    let number : refused m ≡ refused n = sym (choose-false _ _) ∙ e in
+    let same : m ≡ n = cc in
+    (omega arith, omega arith)
 
 -- A book is refused with 20 to 23.
 pub opened-number : (s : List ℕ) (n : ℕ) → opened s ≡ refused n → (20 ≤ n) × (n ≤ 23)
@@ -196,9 +198,11 @@ pub record Accepted (s : List ℕ) (h : Head) : Type 0 where
 -- A test that was passed on the way to acceptance.
 passed : (t : Bool) (rest : Answer) (n : ℕ) (h : Head) → choose t rest (refused n) ≡ accepted h
     → (t ≡ true) × (rest ≡ accepted h)
-unfolding choose
-passed true rest n h e = (refl, e)
-passed false rest n h e = let never : _≡_ {A = ℕ} 0 1 = cc in absurd (omega arith)
+passed true rest n h e = (refl, sym (choose-true _ _) ∙ e)
+passed false rest n h e =
+    let number : refused n ≡ accepted h = sym (choose-false _ _) ∙ e in
+    let never : _≡_ {A = ℕ} 0 1 = cc in
+    absurd (omega arith)
 
 pub accepted-facts : (s : List ℕ) (h : Head) → opened s ≡ accepted h → Accepted s h
 unfolding opened headOf

@@ -10,10 +10,10 @@ use lib.ListN.{length, take, drop}
 use lib.Pow.{pow-add}
 use lib.Seq.{drop-drop}
 use borrow.Author.Tests.{eq-eqb, ne-eqb}
-use Rattle.mass.proofs.Splitting.{if-eq}
-use Rattle.rules.specs.Tests.{_also_}
+use Rattle.choice.specs.Tests.{_also_}
+use Rattle.choice.proofs.Splitting.{if-eq}
+use Rattle.choice.proofs.TestsLaws.{also-t, also-f}
 use Rattle.rules.specs.Bytes.{byte, word, zeros, line, lines}
-use Rattle.rules.proofs.TestsLaws.{also-t, also-f}
 
 -- ---- reading a word from its last byte down
 module _ (s : List ℕ) (at n : ℕ) where

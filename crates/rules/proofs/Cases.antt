@@ -5,6 +5,7 @@ use mathlib.Core.Bool.{true, false}
 use mathlib.Core.List.{List, [], _∷_, _++_}
 use mathlib.Core.Path.{_≡_, refl, ap, _∙_}
 use lib.ListN.{replicate}
+use Rattle.choice.proofs.TestsLaws.{choose-true, worked-out}
 use Rattle.mass.specs.declared.Ug.{Ug}
 use Rattle.mass.specs.declared.Ng.{Ng}
 use Rattle.mass.specs.declared.hour.Readings.{Readings}
@@ -17,7 +18,6 @@ use Rattle.mass.proofs.Cases as mass
 use Rattle.rules.specs.declared.entry.Destination.the-variants.{Fossil}
 use Rattle.rules.specs.declared.record.Outcome.{Outcome}
 use Rattle.rules.specs.declared.record.Outcome.the-variants.{SetAside, Counted}
-use Rattle.rules.specs.Tests.{_also_, _either_, choose}
 use Rattle.rules.specs.Bytes.{word}
 use Rattle.rules.specs.Method.{methodOf}
 use Rattle.rules.specs.Entry.{heatInUse, co2By, destinationBy, fuelEntry, hourEntry}
@@ -97,25 +97,26 @@ fuelled {m} p q r = λ i. Counted (record { method = m; destination = Fossil; co
 
 metered : {x : Hour} {r : Readings} {co2 : ℕ} → x ≡ Usable r → hourMass r ≡ record { 0 = co2 }
     → hourRead (unit 1 2500) x ≡ counted 0 co2 0 0
-unfolding hourRead hourEntry check choose
-metered usable weighed = ap (hourRead (unit 1 2500)) usable ∙ fuelled weighed refl refl
+unfolding hourRead hourEntry check
+metered usable weighed =
+    ap (hourRead (unit 1 2500)) usable ∙ choose-true _ _ ∙ fuelled weighed refl refl
 
 pub worked-sums : WorkedSums
 unfolding
-    outcomeOf check listed choose _also_ _either_ word
+    outcomeOf check listed word
     fuelOutcome fuelForm fuelRanges heatRange carbonLimit fuelJudged methodOf fuelEntry destinationBy co2By heatInUse
     hourOutcome hourForm hourRange hourJudged
 worked-sums = record {
-  p1 = fuelled mass.p1-co2 mass.p1-ch4 mass.p1-n2o;
-  p2 = fuelled mass.p2-co2 mass.p2-ch4 mass.p2-n2o;
-  p3 = fuelled mass.p3-co2 mass.p1-ch4 mass.p1-n2o;
-  p4 = refl;
-  p5 = fuelled mass.p2-co2 mass.p2-ch4 mass.p2-n2o;
-  p6 = refl;
-  p7 = metered mass.p7-usable mass.p7-mass;
-  p8 = metered mass.p8-usable mass.p8-mass;
+  p1 = simp worked-out (fuelled mass.p1-co2 mass.p1-ch4 mass.p1-n2o);
+  p2 = simp worked-out (fuelled mass.p2-co2 mass.p2-ch4 mass.p2-n2o);
+  p3 = simp worked-out (fuelled mass.p3-co2 mass.p1-ch4 mass.p1-n2o);
+  p4 = simp worked-out;
+  p5 = simp worked-out (fuelled mass.p2-co2 mass.p2-ch4 mass.p2-n2o);
+  p6 = simp worked-out;
+  p7 = simp worked-out (metered mass.p7-usable mass.p7-mass);
+  p8 = simp worked-out (metered mass.p8-usable mass.p8-mass);
   p8-R = mass.p8-rounded;
-  p9 = metered mass.p9-usable mass.p9-mass;
+  p9 = simp worked-out (metered mass.p9-usable mass.p9-mass);
   p9-R = mass.p9-rounded;
   p10 = mass.p10-reports;
   p11 = mass.p11-reports;

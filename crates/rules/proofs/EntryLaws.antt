@@ -1,44 +1,37 @@
 -- What the tests of a record and of its fuel line say of the numbers that masses are made of, and how
 -- large an entry gets. Assumes nothing.
 use Prim.Native.Nat.{ℕ, _≤_, zero-le}
-use mathlib.Core.Bool.{Bool, true, false}
+use mathlib.Core.Bool.{true}
 use mathlib.Core.List.{List}
-use mathlib.Core.Path.{_≡_}
+use mathlib.Core.Path.{_≡_, refl, sym, _∙_}
 use native.Mathlib.Nat.{le-trans}
-use lib.Dec.{leb, eqb, lit≤}
+use lib.Dec.{eqb, lit≤}
 use borrow.Author.Tests.{leb-true}
+use Rattle.choice.proofs.TestsLaws.{also-l, also-r, choose-t, if-choose}
 use Rattle.mass.specs.declared.Ug.{Ug}
 use Rattle.mass.specs.declared.hour.Readings.{Readings}
-use Rattle.mass.specs.Fuel.{HeatInReach, CarbonInReach, co2OfHeat, co2OfCarbon}
+use Rattle.mass.specs.Fuel.{HeatInReach, CarbonInReach}
 use Rattle.mass.specs.Hour.{InRange}
 use Rattle.mass.proofs.FuelLaws.{co2OfHeat-le, co2OfCarbon-le, traceOfHeat-le}
 use Rattle.mass.proofs.HourLaws.{hourMass-le}
 use Rattle.rules.specs.declared.entry.Entry.{Entry}
-use Rattle.rules.specs.Tests.{_also_, choose}
-use Rattle.rules.specs.Fields.{fuelKind, defaultHeat, co2Factor, ch4Factor, n2oFactor, heatMeasured, amount, heat, carbon}
+use Rattle.rules.specs.Fields.{fuelKind, defaultHeat, co2Factor, ch4Factor, n2oFactor, heatMeasured, amount, carbon}
 use Rattle.rules.specs.Book.{fuelHeadOk, fuelOk}
 use Rattle.rules.specs.Method.{methodOf}
-use Rattle.rules.specs.Entry.{heatInUse, amountOf, heatOf, co2By, fuelEntry, hourEntry}
+use Rattle.rules.specs.Entry.{heatInUse, co2By, fuelEntry, hourEntry}
 use Rattle.rules.specs.Record.{heatRange, carbonLimit, fuelRanges}
-use Rattle.rules.proofs.TestsLaws.{also-l, also-r}
 
 -- ---- ranges
 carbonLimit-le : (f : List ℕ) → carbonLimit f ≤ 4000000
-unfolding carbonLimit choose
-carbonLimit-le f = go (eqb (fuelKind f) 3)
-  where
-    go : (t : Bool) → choose t 4000000 1000000 ≤ 4000000
-    go true = lit≤ tt
-    go false = lit≤ tt
+unfolding carbonLimit
+carbonLimit-le f = if-choose (λ (x : ℕ). x ≤ 4000000) (eqb (fuelKind f) 3) (λ gas. lit≤ tt) (λ other. lit≤ tt)
 
 heatInUse-le : (l f : List ℕ) → heatRange l ≡ true → defaultHeat f ≤ 200000 → heatInUse l f ≤ 200000
-unfolding heatRange heatInUse choose
-heatInUse-le l f h d = go (heatMeasured l) h
-  where
-    go : (t : Bool) → choose t (leb 1 (heat l) also leb (heat l) 200000) true ≡ true
-        → choose t (heat l) (defaultHeat f) ≤ 200000
-    go true q = leb-true _ _ (also-r _ _ q)
-    go false q = d
+unfolding heatRange heatInUse
+heatInUse-le l f h d =
+    if-choose (λ (x : ℕ). x ≤ 200000) (heatMeasured l)
+    (λ measured. leb-true _ _ (also-r _ _ (sym (choose-t true measured refl) ∙ h)))
+    (λ not-measured. d)
 
 -- A fuel record in its ranges, of a fuel line that breaks no rule.
 pub record Reach (l f : List ℕ) : Type 0 where
@@ -74,17 +67,14 @@ pub record Bounded (e : Entry) : Type 0 where
   pub n2o-le : e .n2o .0 ≤ 4000000000000000000
 
 co2By-le : (m : ℕ) (l f : List ℕ) → Reach l f → co2By m l f .0 ≤ 4000000000000000000
-unfolding co2By choose
-co2By-le m l f r = go (eqb m 4) (eqb m 3)
+unfolding co2By
+co2By-le m l f r =
+    if-choose Few (eqb m 4) (λ monitored. zero-le) (λ not-4.
+    if-choose Few (eqb m 3) (λ by-carbon. co2OfCarbon-le _ _ (r .by-carbon)) (λ by-heat.
+    co2OfHeat-le _ _ _ (r .by-co2)))
   where
-    go : (a b : Bool) →
-        choose {A = Ug} a (record { 0 = 0 })
-        (choose b (co2OfCarbon (amountOf l) (record { 0 = carbon l }))
-        (co2OfHeat (amountOf l) (heatOf l f) (record { 0 = co2Factor f }))) .0
-        ≤ 4000000000000000000
-    go true b = zero-le
-    go false true = co2OfCarbon-le _ _ (r .by-carbon)
-    go false false = co2OfHeat-le _ _ _ (r .by-co2)
+    Few : Ug → Type 0
+    Few x = x .0 ≤ 4000000000000000000
 
 pub bounded-fuelEntry : (l u f : List ℕ) → fuelRanges l f ≡ true → fuelOk f ≡ true → Bounded (fuelEntry l u f)
 unfolding fuelEntry

@@ -1,6 +1,5 @@
 -- The argument, from rows of tests to records: laws on plain values, what a reader owns, worked sums,
 -- uniqueness.
-pub mod TestsLaws
 pub mod BytesLaws
 pub mod BookLaws
 pub mod ListingLaws

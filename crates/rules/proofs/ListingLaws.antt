@@ -8,20 +8,20 @@ use native.Mathlib.Nat.{not-suc-le-zero}
 use native.Mathlib.Omega.{arith}
 use lib.ListN.{length, take, drop}
 use borrow.Author.Tests.{eq-eqb, ne-eqb}
-use Rattle.mass.proofs.Splitting.{if-lt, if-eq}
+use Rattle.choice.specs.Tests.{_also_}
+use Rattle.choice.proofs.Splitting.{if-lt, if-eq}
+use Rattle.choice.proofs.TestsLaws.{also-t, also-f, choose-t, choose-f}
 use Rattle.rules.specs.declared.listing.Found.{Found}
 use Rattle.rules.specs.declared.listing.Found.the-variants.{At, Nothing}
 use Rattle.rules.specs.declared.listing.Sort.{Sort}
 use Rattle.rules.specs.declared.listing.Sort.the-variants.{Unit, Fuel}
 use Rattle.rules.specs.declared.record.Outcome.{Outcome}
 use Rattle.rules.specs.declared.record.Outcome.the-variants.{SetAside}
-use Rattle.rules.specs.Tests.{_also_}
 use Rattle.rules.specs.Bytes.{zeros, line, lines, linesIn}
 use Rattle.rules.specs.Fields.{number}
 use Rattle.rules.specs.Book.{unitOk, fuelOk, lineOk}
 use Rattle.rules.specs.Record.{listed}
 use Rattle.rules.specs.Listing.{headOk, blankFrom, numberAt, place, Rising}
-use Rattle.rules.proofs.TestsLaws.{also-t, also-f, choose-t, choose-f}
 use Rattle.rules.proofs.BytesLaws.{line-suc}
 
 -- ---- a line by its named bytes and its blank

@@ -4,10 +4,10 @@ use mathlib.Core.Bool.{true, false}
 use mathlib.Core.List.{List}
 use mathlib.Core.Path.{_≡_, refl}
 use lib.Dec.{eqb, ltb}
-use Rattle.rules.specs.Tests.{_either_, choose}
+use Rattle.choice.specs.Tests.{_either_, choose}
+use Rattle.choice.proofs.TestsLaws.{choose-t, choose-f}
 use Rattle.rules.specs.Fields.{monitored, fuelClass, defaultHeat, heatMeasured, carbonMeasured}
 use Rattle.rules.specs.Method.{small, methodOf}
-use Rattle.rules.proofs.TestsLaws.{choose-t, choose-f}
 
 module _ (l u f : List ℕ) where
   pub methodOf-monitored : monitored u ≡ true → methodOf l u f ≡ 4

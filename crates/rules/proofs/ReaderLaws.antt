@@ -1,12 +1,13 @@
 -- The sight of each answer, and that it is of one answer only. Assumes nothing.
 use mathlib.Core.Path.{_≡_, refl, sym, ap, _∙_}
 use lib.Dec.{eqb}
+use Rattle.choice.specs.Tests.{choose}
+use Rattle.choice.proofs.TestsLaws.{worked-out}
 use Rattle.rules.specs.declared.book.Fault.{Fault}
 use Rattle.rules.specs.declared.book.Fault.the-variants.{Length, Trailer, Units, Fuels}
 use Rattle.rules.specs.declared.reader.Seen.{Seen}
 use Rattle.rules.specs.declared.reader.Seen.the-variants.{Refused, Missing, Record}
 use Rattle.rules.specs.declared.record.Outcome.{Outcome}
-use Rattle.rules.specs.Tests.{choose}
 use Rattle.rules.specs.Book.{faultNumber}
 use Rattle.rules.specs.Reader.{Sight, turnedAway, missing, shown, sight}
 
@@ -35,11 +36,11 @@ gave missing = Missing
 gave (shown o) = Record o
 
 gave-sight : (r : Seen) → gave (sight r) ≡ r
-unfolding gave sight choose
-gave-sight (Refused Length) = refl
-gave-sight (Refused Trailer) = refl
-gave-sight (Refused Units) = refl
-gave-sight (Refused Fuels) = refl
+unfolding gave sight
+gave-sight (Refused Length) = simp worked-out
+gave-sight (Refused Trailer) = simp worked-out
+gave-sight (Refused Units) = simp worked-out
+gave-sight (Refused Fuels) = simp worked-out
 gave-sight Missing = refl
 gave-sight (Record o) = refl
 

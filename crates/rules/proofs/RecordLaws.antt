@@ -4,6 +4,8 @@ use mathlib.Core.Bool.{Bool, true, false}
 use mathlib.Core.List.{List, [], _∷_}
 use mathlib.Core.Path.{_≡_, refl}
 use lib.Dec.{eqb, ltb, lit≤}
+use Rattle.choice.specs.Tests.{choose}
+use Rattle.choice.proofs.TestsLaws.{also-l, also-r, choose-t, choose-f, if-choose}
 use Rattle.mass.specs.declared.hour.Hour.{Hour}
 use Rattle.mass.specs.declared.hour.Hour.the-variants.{Usable, Unusable}
 use Rattle.mass.specs.Hour.{hourOf}
@@ -11,14 +13,12 @@ use Rattle.mass.proofs.HourLaws.{inRange-of-hourOf}
 use Rattle.rules.specs.declared.book.Head.{Head}
 use Rattle.rules.specs.declared.record.Outcome.{Outcome}
 use Rattle.rules.specs.declared.record.Outcome.the-variants.{SetAside, Counted}
-use Rattle.rules.specs.Tests.{choose}
 use Rattle.rules.specs.Bytes.{line, linesIn}
 use Rattle.rules.specs.Fields.{number, monitored, kind, unitNumber, fuelNumber, percentBits, flowBits}
 use Rattle.rules.specs.Book.{unitOk, fuelOk, linesOk, linesSound, unitLines, fuelLines, opened, accepted}
 use Rattle.rules.specs.Method.{methodOf}
 use Rattle.rules.specs.Entry.{heatInUse}
 use Rattle.rules.specs.Record.{lastReason, check, listed, fuelForm, hourForm, fuelRanges, hourRange, fuelJudged, fuelOutcome, hourRead, hourJudged, hourOutcome, outcomeOf, outcomeAt}
-use Rattle.rules.proofs.TestsLaws.{also-l, also-r, choose-t, choose-f}
 use Rattle.rules.proofs.BookLaws.{accepted-facts}
 use Rattle.rules.proofs.EntryLaws.{Bounded, bounded-fuelEntry, bounded-hourEntry}
 
@@ -38,14 +38,11 @@ Within (Counted e) = Bounded e
 
 within-check : (t : Bool) (k : ℕ) (x : Outcome) → 1 ≤ k → k ≤ lastReason → (t ≡ true → Within x)
     → Within (check t k x)
-unfolding check choose
-within-check true k x l m w = w refl
-within-check false k x l m w = (l, m)
+unfolding check
+within-check t k x l m w = if-choose Within t w (λ failed. (l, m))
 
 chosen : (a b : Outcome) (t : Bool) → Within a → Within b → Within (choose t a b)
-unfolding choose
-chosen a b true p q = p
-chosen a b false p q = q
+chosen a b t p q = if-choose Within t (λ yes. p) (λ no. q)
 
 -- Whatever the line found, it is one that breaks no rule.
 within-listed : (ok : List ℕ → Bool) (x k before : ℕ) (ls : List (List ℕ)) (rest : List ℕ → Outcome) → 1 ≤ k

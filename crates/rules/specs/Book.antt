@@ -23,6 +23,7 @@ use mathlib.Core.Bool.{Bool, true}
 use mathlib.Core.List.{List, [], _∷_}
 use lib.Dec.{leb, ltb, eqb}
 use lib.ListN.{length}
+use Rattle.choice.specs.Tests.{_also_, _either_, choose}
 use Rattle.rules.specs.declared.book.Head.{Head}
 use Rattle.rules.specs.declared.book.Opened.{Opened}
 use Rattle.rules.specs.declared.book.Opened.the-variants.{Wrong, Open}
@@ -30,7 +31,6 @@ use Rattle.rules.specs.declared.book.Fault.{Fault}
 use Rattle.rules.specs.declared.book.Fault.the-variants.{Length, Trailer, Units, Fuels}
 use Rattle.rules.specs.declared.listing.Sort.{Sort}
 use Rattle.rules.specs.declared.listing.Sort.the-variants.{Unit, Fuel}
-use Rattle.rules.specs.Tests.{_also_, _either_, choose}
 use Rattle.rules.specs.Bytes.{part, linesIn}
 use Rattle.rules.specs.Fields.{signed, version, trailerGap, unitStart, fuelStart, year, trailerBlank, number, unitFlags, unitGap, rating, unitBlank, fuelKind, fuelClass, defaultHeat, co2Factor, ch4Factor, n2oFactor, fuelBlank}
 

@@ -10,6 +10,7 @@
 use Prim.Native.Nat.{ℕ}
 use mathlib.Core.List.{List}
 use lib.Dec.{eqb}
+use Rattle.choice.specs.Tests.{choose}
 use Rattle.mass.specs.declared.Ug.{Ug}
 use Rattle.mass.specs.declared.fuel.Amount.{Amount}
 use Rattle.mass.specs.declared.fuel.Heat.{Heat}
@@ -19,7 +20,6 @@ use Rattle.mass.specs.Hour.{hourMass}
 use Rattle.rules.specs.declared.entry.Destination.{Destination}
 use Rattle.rules.specs.declared.entry.Destination.the-variants.{Fossil, Biomass, Nowhere}
 use Rattle.rules.specs.declared.entry.Entry.{Entry}
-use Rattle.rules.specs.Tests.{choose}
 use Rattle.rules.specs.Fields.{fuelClass, defaultHeat, co2Factor, ch4Factor, n2oFactor, heatMeasured, amount, heat, carbon}
 use Rattle.rules.specs.Method.{methodOf}
 

@@ -1,5 +1,4 @@
 -- What a reader must believe of a book and its records, in the order of RULES.
-pub mod Tests
 pub mod Bytes
 pub mod Fields
 pub mod Book

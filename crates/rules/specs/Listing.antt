@@ -13,11 +13,11 @@ use mathlib.Core.Bool.{Bool}
 use mathlib.Core.List.{List, [], _∷_}
 use lib.Dec.{eqb}
 use lib.ListN.{length}
+use Rattle.choice.specs.Tests.{choose}
 use Rattle.rules.specs.declared.listing.Found.{Found}
 use Rattle.rules.specs.declared.listing.Found.the-variants.{At, Nothing}
 use Rattle.rules.specs.declared.listing.Sort.{Sort}
 use Rattle.rules.specs.declared.listing.Sort.the-variants.{Unit, Fuel}
-use Rattle.rules.specs.Tests.{choose}
 use Rattle.rules.specs.Bytes.{line}
 use Rattle.rules.specs.Fields.{number}
 use Rattle.rules.specs.Book.{mostLines, unitHeadOk, fuelHeadOk}

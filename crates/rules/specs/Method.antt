@@ -8,7 +8,7 @@ use Prim.Native.Nat.{ℕ}
 use mathlib.Core.Bool.{Bool}
 use mathlib.Core.List.{List}
 use lib.Dec.{eqb, leb, ltb}
-use Rattle.rules.specs.Tests.{_either_, choose}
+use Rattle.choice.specs.Tests.{_either_, choose}
 use Rattle.rules.specs.Fields.{monitored, rating, fuelClass, defaultHeat, heatMeasured, carbonMeasured}
 
 -- The rating is in tenths.

@@ -14,11 +14,11 @@ use mathlib.Core.List.{List}
 use lib.Dec.{ltb}
 use lib.ListN.{length}
 use denote.Ref.{now}
+use Rattle.choice.specs.Tests.{choose}
 use Rattle.rules.specs.declared.reader.Reader.{Reader}
 use Rattle.rules.specs.declared.reader.Seen.{Seen}
 use Rattle.rules.specs.declared.reader.Seen.the-variants.{Refused, Missing, Record}
 use Rattle.rules.specs.declared.record.Outcome.{Outcome}
-use Rattle.rules.specs.Tests.{choose}
 use Rattle.rules.specs.Book.{Answer, refused, accepted, opened, faultNumber}
 use Rattle.rules.specs.Record.{outcomeAt}
 

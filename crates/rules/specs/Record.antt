@@ -19,13 +19,13 @@ use Prim.Native.Nat.{ℕ}
 use mathlib.Core.Bool.{Bool, true}
 use mathlib.Core.List.{List, [], _∷_}
 use lib.Dec.{eqb, leb, ltb}
+use Rattle.choice.specs.Tests.{_also_, _either_, choose}
 use Rattle.mass.specs.declared.hour.Hour.{Hour}
 use Rattle.mass.specs.declared.hour.Hour.the-variants.{Usable, Unusable}
 use Rattle.mass.specs.Hour.{hourOf}
 use Rattle.rules.specs.declared.book.Head.{Head}
 use Rattle.rules.specs.declared.record.Outcome.{Outcome}
 use Rattle.rules.specs.declared.record.Outcome.the-variants.{SetAside, Counted}
-use Rattle.rules.specs.Tests.{_also_, _either_, choose}
 use Rattle.rules.specs.Bytes.{line, linesIn}
 use Rattle.rules.specs.Fields.{number, monitored, fuelKind, kind, flags, unitNumber, fuelNumber, heatMeasured, carbonMeasured, month, amount, heat, carbon, fuelRecordBlank, hour, percentBits, flowBits, hourBlank}
 use Rattle.rules.specs.Book.{unitLines, fuelLines}

@@ -10,9 +10,9 @@ use lib.Dec.{leb}
 use lib.ListN.{length, getD, drop, length-append, drop-of-length-le}
 use lib.Seq.{drop-cons}
 use borrow.Author.Tests.{le-leb, lt-leb, leb-true}
-use Rattle.mass.proofs.Splitting.{if-lt}
-use Rattle.rules.specs.Tests.{choose, _also_}
-use Rattle.rules.proofs.TestsLaws.{also-t, also-f, also-l, also-r, choose-t, choose-f}
+use Rattle.choice.specs.Tests.{choose, _also_}
+use Rattle.choice.proofs.Splitting.{if-lt}
+use Rattle.choice.proofs.TestsLaws.{also-t, also-f, also-l, also-r, choose-t, choose-f}
 use Rattle.text.specs.declared.budget.Budget.{Budget}
 use Rattle.text.specs.declared.budget.Budget.the-variants.{Records, Wrong}
 use Rattle.text.specs.Words.{digit, decimal}

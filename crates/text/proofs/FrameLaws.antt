@@ -8,14 +8,14 @@ use lib.Dec.{eqb}
 use lib.ListN.{length, getD, drop, length-append, drop-of-length-le}
 use lib.Seq.{drop-cons}
 use borrow.Author.Tests.{eq-eqb, ne-eqb}
-use Rattle.mass.proofs.Splitting.{if-eq}
+use Rattle.choice.specs.Tests.{choose, _also_}
+use Rattle.choice.proofs.Splitting.{if-eq}
+use Rattle.choice.proofs.TestsLaws.{also-t, also-f, choose-t, choose-f}
 use Rattle.rules.specs.declared.book.Fault.{Fault}
 use Rattle.rules.specs.declared.reader.Seen.the-variants.{Refused, Missing, Record}
 use Rattle.rules.specs.declared.record.Outcome.{Outcome}
-use Rattle.rules.specs.Tests.{choose, _also_}
 use Rattle.rules.specs.Book.{faultNumber}
 use Rattle.rules.specs.Reader.{Sight, shown, sight}
-use Rattle.rules.proofs.TestsLaws.{also-t, also-f, choose-t, choose-f}
 use Rattle.rules.proofs.ReaderLaws.{sight-refused, sight-missing, sight-record}
 use Rattle.job.specs.Checkpoint.{bytesOf}
 use Rattle.job.proofs.PutLaws.{length-bytesOf}

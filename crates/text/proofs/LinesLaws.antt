@@ -5,6 +5,7 @@ use mathlib.Core.Path.{_≡_, refl, ap, _∙_}
 use native.Mathlib.Omega.{arith}
 use lib.Dec.{eqb}
 use borrow.Author.Tests.{eq-eqb, ne-eqb}
+use Rattle.choice.proofs.TestsLaws.{choose-t, choose-f}
 use Rattle.rules.specs.declared.book.Fault.{Fault}
 use Rattle.rules.specs.declared.entry.Destination.{Destination}
 use Rattle.rules.specs.declared.entry.Destination.the-variants.{Fossil, Biomass, Nowhere}
@@ -15,7 +16,6 @@ use Rattle.rules.specs.declared.record.Outcome.{Outcome}
 use Rattle.rules.specs.declared.record.Outcome.the-variants.{SetAside, Counted}
 use Rattle.rules.specs.Book.{faultNumber}
 use Rattle.rules.specs.Reader.{Sight, turnedAway, missing, shown, sight}
-use Rattle.rules.proofs.TestsLaws.{choose-t, choose-f}
 use Rattle.rules.proofs.ReaderLaws.{sight-refused, sight-missing, sight-record}
 use Rattle.text.specs.Words.{ascii, newline, field}
 use Rattle.text.specs.Report.{refusedText}

@@ -6,7 +6,7 @@ use native.Mathlib.Omega.{arith}
 use lib.ListN.{length, getD, take, set, replicate, length-append}
 use lib.Seq.{take-suc, append-snoc, set-append-seam}
 use borrow.Author.Tests.{lt-ltb}
-use Rattle.rules.proofs.TestsLaws.{choose-t}
+use Rattle.choice.proofs.TestsLaws.{choose-t}
 use Rattle.job.specs.Checkpoint.{bytesOf}
 use Rattle.job.proofs.PutLaws.{bytesOf-zero, bytesOf-suc}
 use Rattle.text.specs.declared.page.Page.{Page}

@@ -6,11 +6,11 @@ use native.Mathlib.Omega.{arith}
 use lib.Dec.{eqb}
 use lib.ListN.{length}
 use borrow.Author.Tests.{ne-eqb}
+use Rattle.choice.specs.Tests.{_either_}
+use Rattle.choice.proofs.TestsLaws.{either-t, either-f, choose-t, choose-f}
 use Rattle.mass.specs.declared.figures.Figures.{Figures}
 use Rattle.rules.specs.declared.book.Fault.{Fault}
 use Rattle.rules.specs.declared.book.Head.{Head}
-use Rattle.rules.specs.Tests.{_either_}
-use Rattle.rules.proofs.TestsLaws.{either-t, either-f, choose-t, choose-f}
 use Rattle.job.specs.declared.reply.Refusal.{Refusal}
 use Rattle.job.specs.declared.reply.Refusal.the-variants.{Book, CheckpointLength, CheckpointUnsound, BufferLength}
 use Rattle.job.specs.declared.reply.Reported.{Reported}

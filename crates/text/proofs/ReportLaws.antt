@@ -7,13 +7,13 @@ use native.Mathlib.Omega.{arith}
 use lib.Dec.{eqb}
 use lib.ListN.{length}
 use borrow.Author.Tests.{ne-eqb}
+use Rattle.choice.specs.Tests.{choose}
+use Rattle.choice.proofs.TestsLaws.{choose-t, choose-f}
 use Rattle.mass.specs.declared.figures.Figures.{Figures}
 use Rattle.rules.specs.declared.book.Fault.{Fault}
 use Rattle.rules.specs.declared.book.Fault.the-variants.{Length, Trailer, Units, Fuels}
 use Rattle.rules.specs.declared.book.Head.{Head}
-use Rattle.rules.specs.Tests.{choose}
 use Rattle.rules.specs.Book.{refused, accepted, opened, faultNumber}
-use Rattle.rules.proofs.TestsLaws.{choose-t, choose-f}
 use Rattle.job.specs.declared.reply.Refusal.{Refusal}
 use Rattle.job.specs.declared.reply.Refusal.the-variants.{Book, CheckpointLength, CheckpointUnsound, BufferLength}
 use Rattle.job.specs.declared.reply.Reported.{Reported}

@@ -7,9 +7,9 @@ use native.Mathlib.Nat.{pow-suc, le-refl, le-trans}
 use native.Mathlib.Omega.{arith}
 use lib.ListN.{length, length-append}
 use borrow.Author.Tests.{lt-ltb, le-ltb}
-use Rattle.mass.proofs.Splitting.{if-test, if-lt}
-use Rattle.rules.specs.Tests.{choose}
-use Rattle.rules.proofs.TestsLaws.{choose-t, choose-f}
+use Rattle.choice.specs.Tests.{choose}
+use Rattle.choice.proofs.Splitting.{if-test, if-lt}
+use Rattle.choice.proofs.TestsLaws.{choose-t, choose-f}
 use Rattle.text.specs.Words.{newline, digit, digits, decimal, field, line}
 
 -- ---- one digit more

@@ -13,7 +13,7 @@ use mathlib.Core.Bool.{Bool, true}
 use mathlib.Core.List.{List, [], _∷_}
 use lib.Dec.{leb}
 use lib.ListN.{length}
-use Rattle.rules.specs.Tests.{choose, _also_}
+use Rattle.choice.specs.Tests.{choose, _also_}
 use Rattle.text.specs.declared.budget.Budget.{Budget}
 use Rattle.text.specs.declared.budget.Budget.the-variants.{Records, Wrong}
 

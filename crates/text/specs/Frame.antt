@@ -28,10 +28,10 @@ use mathlib.Core.Bool.{Bool, true, false}
 use mathlib.Core.List.{List, [], _∷_, _++_}
 use lib.Dec.{leb, eqb}
 use lib.ListN.{length, getD}
+use Rattle.choice.specs.Tests.{choose, _also_, _either_}
 use Rattle.rules.specs.declared.entry.Destination.{Destination}
 use Rattle.rules.specs.declared.entry.Destination.the-variants.{Fossil, Biomass, Nowhere}
 use Rattle.rules.specs.declared.record.Outcome.the-variants.{SetAside, Counted}
-use Rattle.rules.specs.Tests.{choose, _also_, _either_}
 use Rattle.rules.specs.Bytes.{word, zeros}
 use Rattle.rules.specs.Reader.{Sight, turnedAway, missing, shown}
 use Rattle.job.specs.Checkpoint.{bytesOf}

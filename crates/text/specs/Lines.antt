@@ -12,12 +12,12 @@
 use Prim.Native.Nat.{ℕ}
 use mathlib.Core.List.{List, [], _++_}
 use lib.Dec.{eqb}
+use Rattle.choice.specs.Tests.{choose}
 use Rattle.rules.specs.declared.entry.Destination.{Destination}
 use Rattle.rules.specs.declared.entry.Destination.the-variants.{Fossil, Biomass, Nowhere}
 use Rattle.rules.specs.declared.entry.Entry.{Entry}
 use Rattle.rules.specs.declared.record.Outcome.{Outcome}
 use Rattle.rules.specs.declared.record.Outcome.the-variants.{SetAside, Counted}
-use Rattle.rules.specs.Tests.{choose}
 use Rattle.rules.specs.Book.{opened}
 use Rattle.rules.specs.Reader.{Sight, turnedAway, missing, shown, sightAt}
 use Rattle.job.specs.Wake.{ifOpen}

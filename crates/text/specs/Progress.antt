@@ -12,8 +12,8 @@
 use Prim.Native.Nat.{ℕ}
 use mathlib.Core.List.{List, [], _++_}
 use lib.Dec.{eqb}
+use Rattle.choice.specs.Tests.{choose, _either_}
 use Rattle.rules.specs.declared.book.Head.{Head}
-use Rattle.rules.specs.Tests.{choose, _either_}
 use Rattle.rules.specs.Book.{opened}
 use Rattle.job.specs.Reply.{Reply, reply}
 use Rattle.job.specs.Wake.{ifOpen}

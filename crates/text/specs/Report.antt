@@ -13,8 +13,8 @@ use Prim.Native.Nat.{ℕ}
 use mathlib.Core.List.{List, [], _++_}
 use lib.Dec.{eqb}
 use lib.ListN.{getD}
+use Rattle.choice.specs.Tests.{choose}
 use Rattle.rules.specs.declared.book.Head.{Head}
-use Rattle.rules.specs.Tests.{choose}
 use Rattle.rules.specs.Book.{opened}
 use Rattle.job.specs.State.{first}
 use Rattle.job.specs.Reply.{Reply, reply}

@@ -15,7 +15,7 @@ use Prim.Native.Char.{code}
 use Prim.Native.String.{String, len, charAt}
 use mathlib.Core.List.{List, [], _∷_, _++_}
 use lib.Dec.{ltb}
-use Rattle.rules.specs.Tests.{choose}
+use Rattle.choice.specs.Tests.{choose}
 
 abbrev pub codes : ℕ → String → ℕ → List ℕ
 codes zero s i = []

@@ -13,7 +13,7 @@ use rules::book::Opened;
 ghost use mathlib.Core.List.{[], _∷_};
 ghost use mathlib.Core.Path.{_≡_};
 ghost use Prim.Native.Nat.{_≤_};
-ghost use Rattle.rules.specs.Tests.{choose};
+ghost use Rattle.choice.specs.Tests.{choose};
 ghost use Rattle.rules.specs.Book.{faultNumber, opened, accepted};
 ghost use Rattle.job.specs.Reply.{refusalNumber, figureValues, reported};
 ghost use Rattle.text.specs.Page.{extended, pageOf};

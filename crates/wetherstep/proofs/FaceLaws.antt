@@ -5,8 +5,8 @@ use mathlib.Core.List.{List, [], _∷_}
 use mathlib.Core.Path.{_≡_, refl, sym, ap, _∙_}
 use lib.Dec.{eqb}
 use lib.ListN.{length}
+use Rattle.choice.proofs.TestsLaws.{also-t, also-f, choose-t, choose-f}
 use Rattle.mass.specs.declared.figures.Figures.{Figures}
-use Rattle.rules.proofs.TestsLaws.{also-t, also-f, choose-t, choose-f}
 use Rattle.job.specs.Reply.{Reply, reply, figureValues}
 use Rattle.job.proofs.ReplyLaws.{figureValues-six}
 use Rattle.wetherstep.specs.Face.{packed, wordOf, figuresAfter}

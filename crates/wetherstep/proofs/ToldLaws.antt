@@ -8,10 +8,10 @@ use native.Mathlib.Omega.{arith}
 use lib.Dec.{eqb, lit<, lit≤}
 use lib.ListN.{length}
 use borrow.Author.Tests.{ne-eqb}
-use Rattle.mass.proofs.Splitting.{if-test, if-lt, if-eq}
+use Rattle.choice.proofs.Splitting.{if-test, if-lt, if-eq}
+use Rattle.choice.proofs.TestsLaws.{choose-t, choose-f}
 use Rattle.rules.specs.declared.book.Head.{Head}
 use Rattle.rules.specs.Book.{Answer, refused, accepted, opened}
-use Rattle.rules.proofs.TestsLaws.{choose-t, choose-f}
 use Rattle.job.specs.Checkpoint.{sound, decode}
 use Rattle.job.specs.Reply.{Reply, reply}
 use Rattle.job.specs.Wake.{freshReply, freshBytes, wakeReply, wakeBytes}

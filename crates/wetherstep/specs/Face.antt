@@ -10,7 +10,7 @@ use Prim.Native.Nat.{ℕ, _+_, _*_}
 use mathlib.Core.List.{List, [], _∷_}
 use lib.Dec.{eqb}
 use lib.ListN.{length}
-use Rattle.rules.specs.Tests.{_also_, choose}
+use Rattle.choice.specs.Tests.{_also_, choose}
 use Rattle.job.specs.Reply.{Reply, reply}
 
 -- Bits 0 to 7, 8 to 15 and 32 to 63.

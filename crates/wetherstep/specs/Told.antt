@@ -10,7 +10,7 @@
 use Prim.Native.Nat.{ℕ, _/_, _%_}
 use mathlib.Core.List.{List, [], _∷_}
 use lib.Dec.{eqb}
-use Rattle.rules.specs.Tests.{choose}
+use Rattle.choice.specs.Tests.{choose}
 use Rattle.job.specs.Reply.{Reply, reply}
 
 unfoldable pub toldNumber : ℕ → ℕ

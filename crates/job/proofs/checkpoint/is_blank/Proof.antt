@@ -2,7 +2,7 @@
 use mathlib.Core.Path.{sym, _∙_}
 use lib.Dec.{eqb}
 use borrow.Author.Needs.{needs}
-use Rattle.rules.proofs.TestsLaws.{both}
+use Rattle.choice.proofs.TestsLaws.{both}
 use Rattle.rules.proofs.BytesLaws.{zeros-add}
 use Rattle.job.proofs.checkpoint.is_blank.Statement.{statement}
 use Rattle.job.proofs.checkpoint.is_blank.Tie as tie

@@ -2,8 +2,8 @@
 use mathlib.Core.Path.{refl, sym, _∙_}
 use lib.Dec.{eqb, ltb, leb}
 use borrow.Author.Needs.{needs}
+use Rattle.choice.proofs.TestsLaws.{both, choose-t, choose-f, eq-of, ne-of}
 use Rattle.rules.specs.Record.{lastReason}
-use Rattle.rules.proofs.TestsLaws.{both, choose-t, choose-f, eq-of, ne-of}
 use Rattle.job.specs.Checkpoint.{firstSound}
 use Rattle.job.proofs.checkpoint.is_first_sound.Statement.{statement}
 use Rattle.job.proofs.checkpoint.is_first_sound.Tie as tie

@@ -2,8 +2,8 @@
 use Prim.Native.Nat.{_*_}
 use lib.Dec.{ltb, leb}
 use borrow.Author.Needs.{needs}
+use Rattle.choice.proofs.TestsLaws.{both}
 use Rattle.mass.specs.Ledger.{tonne}
-use Rattle.rules.proofs.TestsLaws.{both}
 use Rattle.job.specs.Checkpoint.{ledgerSound}
 use Rattle.job.proofs.checkpoint.is_ledger_sound.Statement.{statement}
 use Rattle.job.proofs.checkpoint.is_ledger_sound.Tie as tie

@@ -1,7 +1,7 @@
 -- The row of tests is that of the definition, each test of what was read. Assumes nothing.
 use lib.Dec.{eqb, leb}
 use borrow.Author.Needs.{needs}
-use Rattle.rules.proofs.TestsLaws.{both}
+use Rattle.choice.proofs.TestsLaws.{both}
 use Rattle.job.specs.Checkpoint.{sound}
 use Rattle.job.proofs.checkpoint.is_sound.Statement.{statement}
 use Rattle.job.proofs.checkpoint.is_sound.Tie as tie

@@ -1,7 +1,7 @@
 -- The code tests in the order of the definition. Assumes nothing.
 use mathlib.Core.Path.{sym}
 use borrow.Author.Needs.{needs}
-use Rattle.rules.proofs.TestsLaws.{is-not, is-so}
+use Rattle.choice.proofs.TestsLaws.{is-not, is-so}
 use Rattle.job.specs.Report.{judgement}
 use Rattle.job.proofs.WakeLaws.{judgedFor-30, judgedFor-31, judgedFor-sound}
 use Rattle.job.proofs.report.judge_for.Statement.{statement}

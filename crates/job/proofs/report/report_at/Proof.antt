@@ -4,10 +4,10 @@ use mathlib.Core.Path.{refl, ap, sym, _∙_}
 use lib.Dec.{lit≤}
 use borrow.Author.Needs.{needs}
 use borrow.Author.Tests.{lt-ltb, le-ltb}
+use Rattle.choice.proofs.TestsLaws.{choose-t, choose-f}
 use Rattle.mass.specs.declared.figures.Figures.{Figures}
 use Rattle.mass.specs.declared.ledger.Ledgers.{Ledgers}
 use Rattle.mass.specs.Figures.{figuresOf}
-use Rattle.rules.proofs.TestsLaws.{choose-t, choose-f}
 use Rattle.job.specs.declared.tally.Tally.{Tally}
 use Rattle.job.specs.Tally.{tallyOf, stateOf}
 use Rattle.job.specs.Reply.{reply, reported, figureValues}

@@ -7,7 +7,7 @@ use mathlib.Core.List.{[], _∷_}
 use mathlib.Core.Path.{_≡_, ap, ap₂, sym, _∙_}
 use native.Mathlib.Omega.{arith}
 use borrow.Author.Needs.{needs}
-use Rattle.rules.proofs.TestsLaws.{is-not, is-so}
+use Rattle.choice.proofs.TestsLaws.{is-not, is-so}
 use Rattle.rules.proofs.BookLaws.{Accepted, accepted-facts}
 use Rattle.job.specs.declared.tally.Tally.{Tally}
 use Rattle.job.specs.State.{State, run}

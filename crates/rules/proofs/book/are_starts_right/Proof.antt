@@ -1,7 +1,7 @@
 -- The code's row of tests is the definition's. Assumes nothing.
 use mathlib.Core.Path.{refl}
+use Rattle.choice.proofs.TestsLaws.{both}
 use Rattle.rules.specs.Book.{startsOk}
-use Rattle.rules.proofs.TestsLaws.{both}
 use Rattle.rules.proofs.book.are_starts_right.Statement.{statement}
 use Rattle.rules.proofs.book.are_starts_right.Tie as tie
 

@@ -2,8 +2,8 @@
 use mathlib.Core.Path.{_∙_}
 use lib.Dec.{eqb, leb}
 use borrow.Author.Needs.{needs}
+use Rattle.choice.proofs.TestsLaws.{both}
 use Rattle.rules.specs.Book.{startsOk, trailerOk}
-use Rattle.rules.proofs.TestsLaws.{both}
 use Rattle.rules.proofs.book.is_trailer_right.Statement.{statement}
 use Rattle.rules.proofs.book.is_trailer_right.Tie as tie
 

@@ -6,9 +6,9 @@ use mathlib.Core.Path.{_≡_, refl, sym, _∙_}
 use native.Mathlib.Omega.{arith}
 use lib.ListN.{length}
 use borrow.Author.Needs.{needs}
+use Rattle.choice.proofs.TestsLaws.{choose-t, choose-f, is-not, is-so}
 use Rattle.rules.specs.Bytes.{part}
 use Rattle.rules.specs.Book.{lengthOk, trailerOk, unitOk, fuelOk, linesSound, trailer, headOf, unitLines, fuelLines, accepted, opened, answer}
-use Rattle.rules.proofs.TestsLaws.{choose-t, choose-f, is-not, is-so}
 use Rattle.rules.proofs.BookLaws.{lengthOk→right, trailerOk→right}
 use Rattle.rules.proofs.book.open.Statement.{statement}
 use Rattle.rules.proofs.book.open.Tie as tie

@@ -2,8 +2,8 @@
 use mathlib.Core.Path.{refl, sym}
 use borrow.Author.Needs.{needs}
 use borrow.Author.Tests.{eq-eqb, ne-eqb}
+use Rattle.choice.proofs.TestsLaws.{choose-t, choose-f, eq-of, ne-of}
 use Rattle.rules.specs.Entry.{destinationBy}
-use Rattle.rules.proofs.TestsLaws.{choose-t, choose-f, eq-of, ne-of}
 use Rattle.rules.proofs.entry.find_destination.Statement.{statement}
 use Rattle.rules.proofs.entry.find_destination.Tie as tie
 

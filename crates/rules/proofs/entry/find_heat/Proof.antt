@@ -1,8 +1,8 @@
 -- The flag decides between the two heats. Assumes nothing.
 use mathlib.Core.Path.{refl, sym, _∙_}
 use borrow.Author.Needs.{needs}
+use Rattle.choice.proofs.TestsLaws.{is, choose-t, choose-f}
 use Rattle.rules.specs.Entry.{heatInUse}
-use Rattle.rules.proofs.TestsLaws.{is, choose-t, choose-f}
 use Rattle.rules.proofs.entry.find_heat.Statement.{statement}
 use Rattle.rules.proofs.entry.find_heat.Tie as tie
 

@@ -3,9 +3,9 @@ use mathlib.Core.Path.{refl, sym, _∙_}
 use native.Mathlib.Omega.{arith}
 use borrow.Author.Needs.{needs}
 use borrow.Author.Tests.{eq-eqb, ne-eqb}
+use Rattle.choice.proofs.TestsLaws.{choose-t, choose-f}
 use Rattle.mass.specs.Fuel.{co2OfHeat, co2OfCarbon}
 use Rattle.rules.specs.Entry.{co2By}
-use Rattle.rules.proofs.TestsLaws.{choose-t, choose-f}
 use Rattle.rules.proofs.EntryLaws.{Reach, reach}
 use Rattle.rules.proofs.entry.weigh_co2.Statement.{statement}
 use Rattle.rules.proofs.entry.weigh_co2.Tie as tie

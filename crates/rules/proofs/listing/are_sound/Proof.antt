@@ -6,9 +6,9 @@ use mathlib.Core.Path.{_≡_, refl, sym, ap, _∙_}
 use lib.ListN.{drop}
 use borrow.Author.Needs.{needs}
 use borrow.Author.Tests.{le-leb, lt-leb}
+use Rattle.choice.proofs.TestsLaws.{also-t, also-f, is-not, is-so}
 use Rattle.rules.specs.Bytes.{zeros, lines, linesIn}
 use Rattle.rules.specs.Book.{lineOk, linesOk, linesSound}
-use Rattle.rules.proofs.TestsLaws.{also-t, also-f, is-not, is-so}
 use Rattle.rules.proofs.BytesLaws.{blank-bad, blank-next, blank-end, lines-start}
 use Rattle.rules.proofs.BookLaws.{linesOk-low, linesOk-bad, linesOk-next, linesOk-end}
 use Rattle.rules.proofs.ListingLaws.{lineOk-bad, lineOk-blank}

@@ -1,7 +1,7 @@
 -- The code's row of tests is the definition's. Assumes nothing.
 use mathlib.Core.Path.{refl}
+use Rattle.choice.proofs.TestsLaws.{both, any}
 use Rattle.rules.specs.Book.{kindClassOk}
-use Rattle.rules.proofs.TestsLaws.{both, any}
 use Rattle.rules.proofs.listing.do_agree.Statement.{statement}
 use Rattle.rules.proofs.listing.do_agree.Tie as tie
 

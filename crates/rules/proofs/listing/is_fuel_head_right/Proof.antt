@@ -2,8 +2,8 @@
 use mathlib.Core.Path.{ap₂, _∙_}
 use lib.Dec.{leb}
 use borrow.Author.Needs.{needs}
+use Rattle.choice.proofs.TestsLaws.{both}
 use Rattle.rules.specs.Book.{kindClassOk, fuelHeadOk}
-use Rattle.rules.proofs.TestsLaws.{both}
 use Rattle.rules.proofs.listing.is_fuel_head_right.Statement.{statement}
 use Rattle.rules.proofs.listing.is_fuel_head_right.Tie as tie
 

@@ -1,8 +1,8 @@
 -- The code's row of tests, of the fields that it read, is the definition's. Assumes nothing.
 use lib.Dec.{leb}
 use borrow.Author.Needs.{needs}
+use Rattle.choice.proofs.TestsLaws.{both}
 use Rattle.rules.specs.Book.{unitHeadOk}
-use Rattle.rules.proofs.TestsLaws.{both}
 use Rattle.rules.proofs.listing.is_unit_head_right.Statement.{statement}
 use Rattle.rules.proofs.listing.is_unit_head_right.Tie as tie
 

@@ -5,10 +5,10 @@ use mathlib.Core.List.{List}
 use mathlib.Core.Path.{_≡_, refl, sym, _∙_}
 use lib.Dec.{leb, eqb}
 use borrow.Author.Needs.{needs}
-use Rattle.rules.specs.Tests.{_either_}
+use Rattle.choice.specs.Tests.{_either_}
+use Rattle.choice.proofs.TestsLaws.{is, any, zero-of, positive-of, choose-t, choose-f}
 use Rattle.rules.specs.Fields.{monitored, fuelClass, heatMeasured, carbonMeasured}
 use Rattle.rules.specs.Method.{small}
-use Rattle.rules.proofs.TestsLaws.{is, any, zero-of, positive-of, choose-t, choose-f}
 use Rattle.rules.proofs.MethodLaws.{methodOf-monitored, methodOf-carbon, methodOf-heat, methodOf-default}
 use Rattle.rules.proofs.method.choose_method.Statement.{statement}
 use Rattle.rules.proofs.method.choose_method.Tie as tie

@@ -2,8 +2,8 @@
 use mathlib.Core.Path.{refl, ap, sym}
 use borrow.Author.Needs.{needs}
 use borrow.Author.Tests.{lt-ltb, le-ltb}
+use Rattle.choice.proofs.TestsLaws.{choose-t, choose-f}
 use Rattle.rules.specs.Reader.{shown, sightBy, sight}
-use Rattle.rules.proofs.TestsLaws.{choose-t, choose-f}
 use Rattle.rules.proofs.reader.look_in.Statement.{statement}
 use Rattle.rules.proofs.reader.look_in.Tie as tie
 

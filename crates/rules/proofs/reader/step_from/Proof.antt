@@ -3,8 +3,8 @@
 use mathlib.Core.Path.{refl, sym}
 use borrow.Author.Needs.{needs}
 use borrow.Author.Tests.{lt-ltb, le-ltb}
+use Rattle.choice.proofs.TestsLaws.{choose-t, choose-f}
 use Rattle.rules.specs.Reader.{placeAfter}
-use Rattle.rules.proofs.TestsLaws.{choose-t, choose-f}
 use Rattle.rules.proofs.reader.step_from.Statement.{statement}
 use Rattle.rules.proofs.reader.step_from.Tie as tie
 

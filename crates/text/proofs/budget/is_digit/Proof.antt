@@ -1,6 +1,6 @@
 -- The two tests are those of the definition. Assumes nothing.
 use mathlib.Core.Path.{refl}
-use Rattle.rules.proofs.TestsLaws.{both}
+use Rattle.choice.proofs.TestsLaws.{both}
 use Rattle.text.specs.Budget.{isDigit}
 use Rattle.text.proofs.budget.is_digit.Statement.{statement}
 use Rattle.text.proofs.budget.is_digit.Tie as tie

@@ -5,7 +5,7 @@ use mathlib.Core.Path.{_≡_}
 use native.Mathlib.Omega.{arith}
 use lib.ListN.{length, drop}
 use borrow.Author.Needs.{needs}
-use Rattle.rules.proofs.TestsLaws.{is-not, is-so}
+use Rattle.choice.proofs.TestsLaws.{is-not, is-so}
 use Rattle.text.specs.Budget.{highest, budgetIn}
 use Rattle.text.proofs.BudgetLaws.{budgetFrom, budgetIn-nil, budgetIn-some, budgetFrom-digit, budgetFrom-other, budgetFrom-above, budgetFrom-end, isDigit→within}
 use Rattle.text.proofs.budget.read.Statement.{statement}

@@ -1,6 +1,6 @@
 -- The row of tests is that of the definition. Assumes nothing.
 use mathlib.Core.Path.{refl}
-use Rattle.rules.proofs.TestsLaws.{any}
+use Rattle.choice.proofs.TestsLaws.{any}
 use Rattle.text.specs.Frame.{argumentOk}
 use Rattle.text.proofs.frame.is_argument_right.Statement.{statement}
 use Rattle.text.proofs.frame.is_argument_right.Tie as tie

@@ -2,7 +2,7 @@
 use mathlib.Core.Path.{ap₂, _∙_}
 use lib.Dec.{eqb, leb}
 use borrow.Author.Needs.{needs}
-use Rattle.rules.proofs.TestsLaws.{both}
+use Rattle.choice.proofs.TestsLaws.{both}
 use Rattle.text.specs.Frame.{longestPart, argumentOk, headOk}
 use Rattle.text.proofs.frame.is_right.Statement.{statement}
 use Rattle.text.proofs.frame.is_right.Tie as tie

@@ -1,6 +1,6 @@
 -- A head has its length and passes its row of tests, or the frames stop. Assumes nothing.
 use borrow.Author.Needs.{needs}
-use Rattle.rules.proofs.TestsLaws.{is}
+use Rattle.choice.proofs.TestsLaws.{is}
 use Rattle.text.proofs.FrameLaws.{askedIn-length, askedIn-bad, askedIn-right}
 use Rattle.text.proofs.frame.read.Statement.{statement}
 use Rattle.text.proofs.frame.read.Tie as tie

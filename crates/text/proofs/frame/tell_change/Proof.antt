@@ -1,7 +1,7 @@
 -- Equal figures are no change. Assumes nothing.
 use mathlib.Core.Path.{refl, sym}
 use borrow.Author.Needs.{needs}
-use Rattle.rules.proofs.TestsLaws.{choose-t, choose-f, is}
+use Rattle.choice.proofs.TestsLaws.{choose-t, choose-f, is}
 use Rattle.text.proofs.frame.tell_change.Statement.{statement}
 use Rattle.text.proofs.frame.tell_change.Tie as tie
 

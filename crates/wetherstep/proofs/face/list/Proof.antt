@@ -1,6 +1,6 @@
 -- The decision is a figure too: 1 where the site must report, else 0. Assumes nothing.
 use mathlib.Core.Path.{refl, sym}
-use Rattle.rules.proofs.TestsLaws.{choose-t, choose-f}
+use Rattle.choice.proofs.TestsLaws.{choose-t, choose-f}
 use Rattle.job.proofs.ReplyLaws.{figureValues-six}
 use Rattle.wetherstep.proofs.face.list.Statement.{statement}
 use Rattle.wetherstep.proofs.face.list.Tie as tie

@@ -1,4 +1,5 @@
--- A row of tests, gone through test by test, and the code's `&` and `|` as rows. Assumes nothing.
+-- A row of tests, gone through test by test; what holds of a choice; and the code's `&` and `|` as
+-- rows. Assumes nothing.
 use Prim.Native.Nat.{ℕ}
 use mathlib.Core.Bool.{Bool, true, false, not, _&&_, _||_}
 use mathlib.Core.Logic.{_↔_}
@@ -6,7 +7,7 @@ use mathlib.Core.Path.{_≡_, refl, sym, _∙_, subst}
 use native.Mathlib.Omega.{arith}
 use lib.Dec.{T, ltb, eqb}
 use borrow.Author.Tests.{not-true, not-false, eq-eqb, ne-eqb, lt-ltb, le-ltb}
-use Rattle.rules.specs.Tests.{_also_, _either_, choose}
+use Rattle.choice.specs.Tests.{_also_, _either_, choose}
 
 -- ---- rows
 pub also-t : {a b r : Bool} → a ≡ true → b ≡ r → (a also b) ≡ r
@@ -61,6 +62,35 @@ choose-t y p q = rw p q
 pub choose-f : {A : Type 0} {a : Bool} {y r : A} (x : A) → a ≡ false → y ≡ r → choose a x y ≡ r
 unfolding choose
 choose-f x p q = rw p q
+
+-- What holds of either thing holds of the chosen one.
+pub if-choose : {A : Type 0} {x y : A} (P : A → Type 0) (t : Bool) → (t ≡ true → P x) → (t ≡ false → P y)
+    → P (choose t x y)
+unfolding choose
+if-choose P true p q = p refl
+if-choose P false p q = q refl
+
+-- ---- a test whose answer is known, as an equation
+pub choose-true : {A : Type 0} (x y : A) → choose true x y ≡ x
+choose-true x y = choose-t y refl refl
+
+pub choose-false : {A : Type 0} (x y : A) → choose false x y ≡ y
+choose-false x y = choose-f x refl refl
+
+pub also-true : (b : Bool) → (true also b) ≡ b
+also-true b = also-t refl refl
+
+pub also-false : (b : Bool) → (false also b) ≡ false
+also-false b = also-f b refl
+
+pub either-true : (b : Bool) → (true either b) ≡ true
+either-true b = either-t b refl
+
+pub either-false : (b : Bool) → (false either b) ≡ b
+either-false b = either-f refl refl
+
+-- With these `simp` works out what hangs on closed tests.
+pub ruleset worked-out = (choose-true, choose-false, also-true, also-false, either-true, either-false)
 
 -- ---- a call r that ensures r ≡ t, tested as r or as not r
 pub is : {r t x : Bool} → r ≡ t → r ≡ x → t ≡ x

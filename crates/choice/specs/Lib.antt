@@ -1,0 +1,2 @@
+-- The words in which every crate's definitions put a test.
+pub mod Tests
