@@ -4,16 +4,19 @@ use crate::tally::Tally;
 use mass::Ng;
 use mass::ledger::Ledger;
 use mass::ledger::Ledgers;
+use mass::ledger::NG_PER_TONNE;
 use rules::book::Head;
 use rules::bytes::read_word;
+use rules::record::LAST_REASON;
 ghost use mathlib.Core.Path.{_≡_};
 ghost use Prim.Native.Nat.{_+_, _≤_};
 ghost use lib.ListN.{length};
 ghost use Rattle.mass.specs.Figures.{AllSound};
-ghost use Rattle.job.specs.Checkpoint.{blankIn, firstSound, ledgerSound, sound, encode};
+ghost use Rattle.job.specs.Checkpoint.{checkpointSize, blankIn, firstSound, ledgerSound, sound, encode};
 ghost use Rattle.job.specs.Tally.{tallyIn, ledgerIn, stateOf};
 
-pub(crate) const SIZE: usize = 96;
+// How many bytes a checkpoint has.
+pub const SIZE: usize = 96;
 
 // Where each field stands, a ledger's rest 8 bytes after its tonnes.
 const DONE: usize = 0;
@@ -50,15 +53,11 @@ const BLANK: usize = 86;
 
 const BLANK_TAIL: usize = 94;
 
-const NG_PER_TONNE: u64 = 1_000_000_000_000_000;
-
 // The most that a record gives to a ledger.
 const TONNES_PER_RECORD: u64 = 4_000_000;
 
-const LAST_REASON: u64 = 7;
-
 pub(crate) fn read(c: &[u8]) -> Tally
-    requires whole { ⌜ length (now c) ≡ 96 ⌝ }
+    requires whole { ⌜ length (now c) ≡ checkpointSize ⌝ }
     ensures tally { λ r. ⌜ r ≡ tallyIn (now (c .entry)) ⌝ }
 {
     let done = read_word(c, DONE, 4) as u32;
@@ -97,7 +96,7 @@ fn read_ledger(c: &[u8], at: usize) -> Ledger
 
 // Whether a checkpoint is sound for a book.
 pub(crate) fn is_sound(h: Head, c: &[u8]) -> bool
-    requires whole { ⌜ length (now c) ≡ 96 ⌝ }
+    requires whole { ⌜ length (now c) ≡ checkpointSize ⌝ }
     ensures sound { λ r. ⌜ r ≡ sound h (now (c .entry)) ⌝ }
 {
     let length = read_word(c, LENGTH, 4) as usize;
@@ -125,14 +124,14 @@ pub(crate) fn is_sound(h: Head, c: &[u8]) -> bool
 }
 
 fn is_blank(c: &[u8]) -> bool
-    requires whole { ⌜ length (now c) ≡ 96 ⌝ }
+    requires whole { ⌜ length (now c) ≡ checkpointSize ⌝ }
     ensures blank { λ r. ⌜ r ≡ blankIn (now (c .entry)) ⌝ }
 {
     (read_word(c, BLANK, 8) == 0) & (read_word(c, BLANK_TAIL, 2) == 0)
 }
 
 fn is_first_sound(c: &[u8]) -> bool
-    requires whole { ⌜ length (now c) ≡ 96 ⌝ }
+    requires whole { ⌜ length (now c) ≡ checkpointSize ⌝ }
     ensures first { λ r. ⌜ r ≡ firstSound (now (c .entry)) ⌝ }
 {
     let index = read_word(c, INDEX, 4);
@@ -145,7 +144,7 @@ fn is_first_sound(c: &[u8]) -> bool
 }
 
 fn is_ledger_sound(c: &[u8], at: usize) -> bool
-    requires whole { ⌜ (length (now c) ≡ 96) × (at ≤ 80) ⌝ }
+    requires whole { ⌜ (length (now c) ≡ checkpointSize) × (at ≤ 80) ⌝ }
     ensures ledger { λ r. ⌜ r ≡ ledgerSound (now (c .entry)) at ⌝ }
 {
     let rest = read_word(c, at + 8, 8);
@@ -156,7 +155,7 @@ fn is_ledger_sound(c: &[u8], at: usize) -> bool
 
 // Writes the checkpoint of a book with the head h that says t.
 pub(crate) fn write(h: Head, t: Tally, out: &mut [u8])
-    requires whole { ⌜ length (now out) ≡ 96 ⌝ }
+    requires whole { ⌜ length (now out) ≡ checkpointSize ⌝ }
     requires canonical { ⌜ AllSound (t .ledgers) ⌝ }
     ensures written { λ _. ⌜ now (out .exit) ≡ encode h (stateOf t) ⌝ }
 {
@@ -164,12 +163,12 @@ pub(crate) fn write(h: Head, t: Tally, out: &mut [u8])
     bytes::copy(&b, out);
 }
 
-fn make(h: Head, t: Tally) -> [u8; 96]
+fn make(h: Head, t: Tally) -> [u8; SIZE]
     requires canonical { ⌜ AllSound (t .ledgers) ⌝ }
     ensures made { λ r. ⌜ r ≡ encode h (stateOf t) ⌝ }
 {
     let g = t.ledgers;
-    let b = put::put([0u8; 96], DONE, 4, t.done as u64);
+    let b = put::put([0u8; SIZE], DONE, 4, t.done as u64);
     let b = put::put(b, ASIDE, 4, t.aside as u64);
     let b = put::put(b, INDEX, 4, t.index as u64);
     let b = put::put(b, REASON, 1, t.reason as u64);

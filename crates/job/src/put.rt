@@ -1,13 +1,14 @@
 // Numbers put into a buffer of a checkpoint's size, little-endian.
+use crate::checkpoint::SIZE;
 ghost use mathlib.Core.List.{_++_};
 ghost use mathlib.Core.Path.{_≡_};
 ghost use Prim.Native.Nat.{_+_, _≤_};
 ghost use lib.ListN.{length, take, drop};
-ghost use Rattle.job.specs.Checkpoint.{bytesOf};
+ghost use Rattle.job.specs.Checkpoint.{checkpointSize, bytesOf};
 
 // The buffer with v in the n bytes from `at` on.
-pub(crate) fn put(b: [u8; 96], at: usize, n: usize, v: u64) -> [u8; 96]
-    requires within { ⌜ at + n ≤ 96 ⌝ }
+pub(crate) fn put(b: [u8; SIZE], at: usize, n: usize, v: u64) -> [u8; SIZE]
+    requires within { ⌜ at + n ≤ checkpointSize ⌝ }
     ensures put { λ r. ⌜ r ≡ take at b ++ bytesOf n v ++ drop (at + n) b ⌝ }
 {
     let mut out = b;

@@ -19,7 +19,7 @@ pub struct Ledgers {
     pub n2o: Ledger,
 }
 
-const NG_PER_TONNE: u64 = 1_000_000_000_000_000;
+pub const NG_PER_TONNE: u64 = 1_000_000_000_000_000;
 
 const UG_PER_TONNE: u64 = 1_000_000_000_000;
 
