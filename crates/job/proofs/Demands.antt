@@ -27,8 +27,8 @@ use Rattle.job.specs.Wake.{moves, freshReply, freshBytes, wakeReply, wak
 use Rattle.job.specs.Report.{reportReply}
 use Rattle.job.specs.History.{Wakes, History, InTurn}
 use Rattle.job.proofs.StateLaws.{first-sums}
-use Rattle.job.proofs.WakeLaws.{freshJudged-book, freshJudged-32, freshJudged-go, freshBytes-kept}
-use Rattle.job.proofs.WakeLaws.{wakeJudged-book, wakeJudged-30, wakeJudged-31, wakeJudged-32, wakeJudged-go, wakeBytes-kept}
+use Rattle.job.proofs.WakeLaws.{freshAdmitted-book, freshAdmitted-32, freshAdmitted-go, freshBytes-kept}
+use Rattle.job.proofs.WakeLaws.{wakeAdmitted-book, wakeAdmitted-30, wakeAdmitted-31, wakeAdmitted-32, wakeAdmitted-go, wakeBytes-kept}
 use Rattle.job.proofs.ReportLaws.{reportReply-book, reportReply-30, reportReply-31, replyAt-40, replyAt-41, replyAt-0}
 use Rattle.job.proofs.HistoryLaws.{at-history, decode-history, wakes-history, ends-history, accepts-history}
 use Rattle.job.proofs.HistoryLaws.{done-inTurn, same-history, told-history, reportReply-history}
@@ -72,19 +72,19 @@ pub demand1 : (k c : List ℕ) (b : ℕ) (out : List ℕ) → Demand1 k c b out
 unfolding freshReply freshBytes wakeReply wakeBytes
 demand1 k c b out = record {
   book-number = opened-number k;
-  book-fresh = λ n. freshJudged-book k out _ _;
-  book-wake = λ n. wakeJudged-book k c out _ _;
+  book-fresh = λ n. freshAdmitted-book k out _ _;
+  book-wake = λ n. wakeAdmitted-book k c out _ _;
   book-report = λ n. reportReply-book k c;
-  length-wake = λ h. wakeJudged-30 k c out _ _;
+  length-wake = λ h. wakeAdmitted-30 k c out _ _;
   length-report = λ h. reportReply-30 k c;
-  sound-wake = λ h. wakeJudged-31 k c out _ _;
+  sound-wake = λ h. wakeAdmitted-31 k c out _ _;
   sound-report = λ h. reportReply-31 k c;
-  buffer-wake = λ h. wakeJudged-32 k c out _ _;
-  buffer-fresh = λ h. freshJudged-32 k out _ _;
-  accepts-fresh = λ h. freshJudged-go k out _ _;
-  accepts-wake = λ h. wakeJudged-go k c out _ _;
-  writes-fresh = λ h. freshJudged-go k out _ _;
-  writes-wake = λ h. wakeJudged-go k c out _ _;
+  buffer-wake = λ h. wakeAdmitted-32 k c out _ _;
+  buffer-fresh = λ h. freshAdmitted-32 k out _ _;
+  accepts-fresh = λ h. freshAdmitted-go k out _ _;
+  accepts-wake = λ h. wakeAdmitted-go k c out _ _;
+  writes-fresh = λ h. freshAdmitted-go k out _ _;
+  writes-wake = λ h. wakeAdmitted-go k c out _ _;
   kept-fresh = λ n vs. freshBytes-kept k;
   kept-wake = λ n vs. wakeBytes-kept k c b;
 }

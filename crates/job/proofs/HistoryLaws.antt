@@ -20,7 +20,7 @@ use Rattle.job.specs.History.{Starts, Wakes, History, InTurn}
 use Rattle.job.proofs.StateLaws.{FirstAside, first-done, run-first, fitFor-first, first-index}
 use Rattle.job.proofs.CheckpointLaws.{length-encode, decode-encode, sound-encode}
 use Rattle.job.proofs.ReplyLaws.{refused-0, one-first}
-use Rattle.job.proofs.WakeLaws.{records-le, freshJudged-32, freshJudged-go, wakeJudged-32, wakeJudged-go}
+use Rattle.job.proofs.WakeLaws.{records-le, freshAdmitted-32, freshAdmitted-go, wakeAdmitted-32, wakeAdmitted-go}
 use Rattle.job.proofs.ReportLaws.{reportReply-at}
 
 -- A history that has left c.
@@ -61,8 +61,8 @@ module _ (k : List ℕ) (h : Head) (e : opened k ≡ accepted h) where
   unfolding freshReply freshBytes first
   started c s =
       if-eq (length (s .out)) checkpointSize
-      (λ o. s .saves ∙ freshJudged-go k (s .out) _ _ e o)
-      (λ o. absurd (refused-0 (s .accepts) (freshJudged-32 k (s .out) (λ n. reply n []) (λ x. reply 0 []) e o) (omega arith)))
+      (λ o. s .saves ∙ freshAdmitted-go k (s .out) _ _ e o)
+      (λ o. absurd (refused-0 (s .accepts) (freshAdmitted-32 k (s .out) (λ n. reply n []) (λ x. reply 0 []) e o) (omega arith)))
 
   moves-first : (p b : ℕ) → p ≤ h .n → moves h (left-by p) b ≡ min (p + b) (h .n) - p
   unfolding moves
@@ -75,7 +75,7 @@ module _ (k : List ℕ) (h : Head) (e : opened k ≡ accepted h) where
       → wakeReply k (left-by p) b out ≡ reply 0 ((min (p + b) (h .n) - p) ∷ [])
   unfolding wakeReply
   wakeReply-first p b out l o =
-      wakeJudged-go k (left-by p) out _ _ e (length-encode h (first h k p)) (sound-first p l) o
+      wakeAdmitted-go k (left-by p) out _ _ e (length-encode h (first h k p)) (sound-first p l) o
       ∙ ap (λ (m : ℕ). reply 0 (m ∷ [])) (moves-first p b l)
 
   wakeBytes-first : (p b : ℕ) (out : List ℕ) → p ≤ h .n → length out ≡ checkpointSize
@@ -83,7 +83,7 @@ module _ (k : List ℕ) (h : Head) (e : opened k ≡ accepted h) where
   unfolding wakeBytes
   wakeBytes-first p b out l o =
       let end : p + (min (p + b) (h .n) - p) ≡ min (p + b) (h .n) = omega arith in
-      wakeJudged-go k (left-by p) out _ _ e (length-encode h (first h k p)) (sound-first p l) o
+      wakeAdmitted-go k (left-by p) out _ _ e (length-encode h (first h k p)) (sound-first p l) o
       ∙ ap (λ (s : State). encode h (run h k s (moves h (left-by p) b))) (decode-first p l)
       ∙ ap (λ (m : ℕ). encode h (run h k (first h k p) m)) (moves-first p b l)
       ∙ ap (encode h) (run-first h k p (min (p + b) (h .n) - p))
@@ -97,7 +97,7 @@ module _ (k : List ℕ) (h : Head) (e : opened k ≡ accepted h) where
   reportReply-whole b out next l o p =
       let all : min (0 + b) (h .n) ≡ h .n = omega arith in
       let saved =
-      ap (λ (c : List ℕ). wakeBytes k c b next) (freshJudged-go k out _ _ e o)
+      ap (λ (c : List ℕ). wakeBytes k c b next) (freshAdmitted-go k out _ _ e o)
       ∙ wakeBytes-first 0 b next (omega arith) p
       ∙ ap left-by all in
       ap (reportReply k) saved
@@ -114,7 +114,7 @@ module _ (k : List ℕ) (h : Head) (e : opened k ≡ accepted h) where
         w .saves ∙ wakeBytes-first p b (w .out) l o,
       ))
       (λ o. absurd (refused-0 (w .accepts)
-      (wakeJudged-32 k (left-by p) (w .out) (λ n. reply n []) (λ x. reply 0 (moves x (left-by p) b ∷ [])) e
+      (wakeAdmitted-32 k (left-by p) (w .out) (λ n. reply n []) (λ x. reply 0 (moves x (left-by p) b ∷ [])) e
       (length-encode h (first h k p)) (sound-first p l) o) (omega arith)))
 
   -- ---- histories

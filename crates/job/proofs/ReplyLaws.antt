@@ -18,9 +18,9 @@ use Rattle.job.specs.declared.reply.Woken.{Woken}
 use Rattle.job.specs.declared.reply.Woken.the-variants.{NotWoken, Moved}
 use Rattle.job.specs.declared.reply.Reported.{Reported}
 use Rattle.job.specs.declared.reply.Reported.the-variants.{NotReported, Unfinished, RecordAside, Given}
-use Rattle.job.specs.declared.reply.Counted.{Counted}
-use Rattle.job.specs.declared.reply.Counted.the-variants.{NotCounted, Left}
-use Rattle.job.specs.Reply.{Reply, reply, refusalNumber, figureValues, started, woken, reported, counted}
+use Rattle.job.specs.declared.reply.Remaining.{Remaining}
+use Rattle.job.specs.declared.reply.Remaining.the-variants.{Unknown, Left}
+use Rattle.job.specs.Reply.{Reply, reply, refusalNumber, figureValues, started, woken, reported, remaining}
 
 -- ---- the reply of each answer
 pub started-notStarted : (x : Refusal) → started (NotStarted x) ≡ reply (refusalNumber x) []
@@ -172,14 +172,14 @@ pub reported-inj : (r s : Reported) → reported r ≡ reported s → r ≡ s
 reported-inj r s e = sym (said-reported r) ∙ ap said e ∙ said-reported s
 
 -- ---- a count of the records left
-left : Reply → Counted
-left (reply n []) = NotCounted (refusal n)
+left : Reply → Remaining
+left (reply n []) = Unknown (refusal n)
 left (reply n (m ∷ vs)) = Left m
 
-left-counted : (r : Counted) → left (counted r) ≡ r
-unfolding left counted
-left-counted (NotCounted x) = ap NotCounted (refusal-number x)
-left-counted (Left m) = refl
+left-remaining : (r : Remaining) → left (remaining r) ≡ r
+unfolding left remaining
+left-remaining (Unknown x) = ap Unknown (refusal-number x)
+left-remaining (Left m) = refl
 
-pub counted-inj : (r s : Counted) → counted r ≡ counted s → r ≡ s
-counted-inj r s e = sym (left-counted r) ∙ ap left e ∙ left-counted s
+pub remaining-inj : (r s : Remaining) → remaining r ≡ remaining s → r ≡ s
+remaining-inj r s e = sym (left-remaining r) ∙ ap left e ∙ left-remaining s

@@ -16,18 +16,18 @@ use Rattle.rules.specs.declared.book.Head.{Head}
 use Rattle.rules.specs.Book.{Answer, refused, accepted, opened}
 use Rattle.rules.proofs.BookLaws.{accepted-facts}
 use Rattle.job.specs.declared.reply.Refusal.{Refusal}
-use Rattle.job.specs.declared.report.Judgement.{Judgement}
-use Rattle.job.specs.declared.report.Judgement.the-variants.{Refused, Sound}
+use Rattle.job.specs.declared.report.Admission.{Admission}
+use Rattle.job.specs.declared.report.Admission.the-variants.{Refused, Sound}
 use Rattle.job.specs.declared.tally.Tally.{Tally}
 use Rattle.job.specs.State.{State, FitFor}
 use Rattle.job.specs.Checkpoint.{checkpointSize, sound, decode, encode}
 use Rattle.job.specs.Tally.{ledgersOf, tallyIn, stateOf}
 use Rattle.job.specs.Reply.{reply, refusalNumber, figureValues}
-use Rattle.job.specs.Report.{warming, figuresAt, replyAt, judgement, reportReply, leftReply}
-use Rattle.job.specs.Wake.{ifOpen, judgedFor, judged}
+use Rattle.job.specs.Report.{warming, figuresAt, replyAt, admission, reportReply, leftReply}
+use Rattle.job.specs.Wake.{ifOpen, admittedFor, admitted}
 use Rattle.job.proofs.CheckpointLaws.{length-encode, decode-encode, sound-encode, stateOf-tallyIn}
 use Rattle.job.proofs.WakeLaws.{ifOpen-refused, ifOpen-accepted, records-le}
-use Rattle.job.proofs.WakeLaws.{judgedFor-30, judgedFor-31, judgedFor-sound, judged-book, judged-open}
+use Rattle.job.proofs.WakeLaws.{admittedFor-30, admittedFor-31, admittedFor-sound, admitted-book, admitted-open}
 
 -- ---- a book and a checkpoint that pass
 pub record Judged (k c : List ℕ) (h : Head) : Type 0 where
@@ -44,11 +44,11 @@ passed : (t : Bool) (x : Answer) (n : ℕ) {h : Head} → choose t x (refused n)
 passed true x n e = (refl, sym (choose-t {x = x} (refused n) refl refl) ∙ e)
 passed false x n e = never (sym (choose-f {y = refused n} x refl refl) ∙ e)
 
-pub judged-facts : (k c : List ℕ) (h : Head) → judged k c ≡ accepted h → Judged k c h
-unfolding judged judgedFor ifOpen
-judged-facts k c h = by (opened k) refl
+pub admitted-facts : (k c : List ℕ) (h : Head) → admitted k c ≡ accepted h → Judged k c h
+unfolding admitted admittedFor ifOpen
+admitted-facts k c h = by (opened k) refl
   where
-    by : (a : Answer) → opened k ≡ a → ifOpen a refused (λ x. judgedFor x c) ≡ accepted h → Judged k c h
+    by : (a : Answer) → opened k ≡ a → ifOpen a refused (λ x. admittedFor x c) ≡ accepted h → Judged k c h
     by (refused n) o e = never e
     by (accepted x) o e =
         let whole = passed (eqb (length c) checkpointSize) _ 30 e in
@@ -60,38 +60,38 @@ judged-facts k c h = by (opened k) refl
           is-sound = ap (λ (y : Head). sound y c) (sym same) ∙ is-so .0;
         }
 
--- ---- what the code's judgement says
-pub judged-refused : {j : Judgement} {x : Refusal} (k c : List ℕ) → judgement j ≡ judged k c → j ≡ Refused x
-    → judged k c ≡ refused (refusalNumber x)
-unfolding judgement
-judged-refused k c e q = sym e ∙ ap judgement q
+-- ---- what the code's admission says
+pub admitted-refused : {j : Admission} {x : Refusal} (k c : List ℕ) → admission j ≡ admitted k c → j ≡ Refused x
+    → admitted k c ≡ refused (refusalNumber x)
+unfolding admission
+admitted-refused k c e q = sym e ∙ ap admission q
 
-pub judged-sound : {j : Judgement} {h : Head} (k c : List ℕ) → judgement j ≡ judged k c → j ≡ Sound h
-    → judged k c ≡ accepted h
-unfolding judgement
-judged-sound k c e q = sym e ∙ ap judgement q
+pub admitted-sound : {j : Admission} {h : Head} (k c : List ℕ) → admission j ≡ admitted k c → j ≡ Sound h
+    → admitted k c ≡ accepted h
+unfolding admission
+admitted-sound k c e q = sym e ∙ ap admission q
 
 -- ---- a report and a count
 module _ (k c : List ℕ) where
-  pub reportReply-refused : {n : ℕ} → judged k c ≡ refused n → reportReply k c ≡ reply n []
+  pub reportReply-refused : {n : ℕ} → admitted k c ≡ refused n → reportReply k c ≡ reply n []
   unfolding reportReply
-  reportReply-refused e = ifOpen-refused (judged k c) (λ n. reply n []) _ e
+  reportReply-refused e = ifOpen-refused (admitted k c) (λ n. reply n []) _ e
 
-  pub reportReply-sound : {h : Head} → judged k c ≡ accepted h → reportReply k c ≡ replyAt h (decode c)
+  pub reportReply-sound : {h : Head} → admitted k c ≡ accepted h → reportReply k c ≡ replyAt h (decode c)
   unfolding reportReply
-  reportReply-sound e = ifOpen-accepted (judged k c) (λ n. reply n []) _ e
+  reportReply-sound e = ifOpen-accepted (admitted k c) (λ n. reply n []) _ e
 
-  pub leftReply-refused : {n : ℕ} → judged k c ≡ refused n → leftReply k c ≡ reply n []
+  pub leftReply-refused : {n : ℕ} → admitted k c ≡ refused n → leftReply k c ≡ reply n []
   unfolding leftReply
-  leftReply-refused e = ifOpen-refused (judged k c) (λ n. reply n []) _ e
+  leftReply-refused e = ifOpen-refused (admitted k c) (λ n. reply n []) _ e
 
-  pub leftReply-sound : {h : Head} → judged k c ≡ accepted h
+  pub leftReply-sound : {h : Head} → admitted k c ≡ accepted h
       → leftReply k c ≡ reply 0 ((h .n - decode c .done) ∷ [])
   unfolding leftReply
-  leftReply-sound e = ifOpen-accepted (judged k c) (λ n. reply n []) _ e
+  leftReply-sound e = ifOpen-accepted (admitted k c) (λ n. reply n []) _ e
 
   -- By the tally that was read from the checkpoint.
-  module _ {h : Head} {t : Tally} (e : judged k c ≡ accepted h) (r : t ≡ tallyIn c) where
+  module _ {h : Head} {t : Tally} (e : admitted k c ≡ accepted h) (r : t ≡ tallyIn c) where
     state-is : stateOf t ≡ decode c
     state-is = ap stateOf r ∙ stateOf-tallyIn c
 
@@ -103,21 +103,21 @@ module _ (k c : List ℕ) where
     leftReply-read = ap (λ (s : State). reply 0 ((h .n - s .done) ∷ [])) state-is ∙ sym (leftReply-sound e)
 
   pub reportReply-book : {n : ℕ} → opened k ≡ refused n → reportReply k c ≡ reply n []
-  reportReply-book e = reportReply-refused (judged-book k c e)
+  reportReply-book e = reportReply-refused (admitted-book k c e)
 
   module _ {h : Head} (e : opened k ≡ accepted h) where
     pub reportReply-30 : (length c ≡ checkpointSize → ⊥) → reportReply k c ≡ reply 30 []
-    reportReply-30 l = reportReply-refused (judged-open k c e ∙ judgedFor-30 h c l)
+    reportReply-30 l = reportReply-refused (admitted-open k c e ∙ admittedFor-30 h c l)
 
     pub reportReply-31 : length c ≡ checkpointSize → sound h c ≡ false → reportReply k c ≡ reply 31 []
-    reportReply-31 l s = reportReply-refused (judged-open k c e ∙ judgedFor-31 h c l s)
+    reportReply-31 l s = reportReply-refused (admitted-open k c e ∙ admittedFor-31 h c l s)
 
     pub reportReply-at : length c ≡ checkpointSize → sound h c ≡ true → reportReply k c ≡ replyAt h (decode c)
-    reportReply-at l s = reportReply-sound (judged-open k c e ∙ judgedFor-sound h c l s)
+    reportReply-at l s = reportReply-sound (admitted-open k c e ∙ admittedFor-sound h c l s)
 
     pub leftReply-at : length c ≡ checkpointSize → sound h c ≡ true
         → leftReply k c ≡ reply 0 ((h .n - decode c .done) ∷ [])
-    leftReply-at l s = leftReply-sound (judged-open k c e ∙ judgedFor-sound h c l s)
+    leftReply-at l s = leftReply-sound (admitted-open k c e ∙ admittedFor-sound h c l s)
 
 -- The checkpoint of any state that fits the book.
 pub leftReply-encode : (k : List ℕ) (h : Head) (s : State) → opened k ≡ accepted h → FitFor h s

@@ -2,7 +2,7 @@
 -- buffer lent to it. `Post` is the contract's own reading. Assumes nothing.
 use mathlib.Core.Path.{_≡_, sym, _∙_}
 use denote.Ref.{now}
-use Rattle.job.proofs.ReplyLaws.{started-inj, woken-inj, reported-inj, counted-inj}
+use Rattle.job.proofs.ReplyLaws.{started-inj, woken-inj, reported-inj, remaining-inj}
 use Rattle.job.proofs.reply.number_refusal.Reads as number-refusal
 use Rattle.job.proofs.wake.fresh.Reads as fresh
 use Rattle.job.proofs.wake.wake.Reads as wake
@@ -33,4 +33,4 @@ report-unique κs a r s x y p q = reported-inj r s (p ∙ sym q)
 
 pub count-left-unique : (κs : _) (a : _) (r s : _) (x y : _)
     → count-left.Post κs a r x → count-left.Post κs a s y → r ≡ s
-count-left-unique κs a r s x y p q = counted-inj r s (p ∙ sym q)
+count-left-unique κs a r s x y p q = remaining-inj r s (p ∙ sym q)

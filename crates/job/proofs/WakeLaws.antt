@@ -1,4 +1,4 @@
--- A call's judgement, one case at a time, and what an accepted book says of a tally. Assumes nothing.
+-- A call's admission, one case at a time, and what an accepted book says of a tally. Assumes nothing.
 use Prim.Native.Nat.{ℕ, suc, _≤_}
 use mathlib.Core.Bool.{Bool, true, false}
 use mathlib.Core.List.{List, []}
@@ -18,7 +18,7 @@ use Rattle.job.specs.State.{State, FitFor}
 use Rattle.job.specs.Checkpoint.{checkpointSize, sound}
 use Rattle.job.specs.Tally.{tallyOf}
 use Rattle.job.specs.Reply.{reply}
-use Rattle.job.specs.Wake.{ifOpen, freshJudged, freshReply, freshBytes, judgedFor, judged, wakeJudged, wakeReply, wakeBytes}
+use Rattle.job.specs.Wake.{ifOpen, freshAdmitted, freshReply, freshBytes, admittedFor, admitted, wakeAdmitted, wakeReply, wakeBytes}
 use Rattle.job.proofs.TallyLaws.{sound-ledgersOf}
 use Rattle.job.proofs.ReplyLaws.{refused-0}
 
@@ -34,69 +34,69 @@ module _ {A : Type 0} (a : Answer) (refuse : ℕ → A) (go : Head → A) where
 
 -- ---- a fresh start
 module _ {A : Type 0} (k out : List ℕ) (refuse : ℕ → A) (go : Head → A) where
-  pub freshJudged-book : {n : ℕ} → opened k ≡ refused n → freshJudged k out refuse go ≡ refuse n
-  unfolding freshJudged
-  freshJudged-book e = ifOpen-refused (opened k) refuse _ e
+  pub freshAdmitted-book : {n : ℕ} → opened k ≡ refused n → freshAdmitted k out refuse go ≡ refuse n
+  unfolding freshAdmitted
+  freshAdmitted-book e = ifOpen-refused (opened k) refuse _ e
 
   module _ {h : Head} (e : opened k ≡ accepted h) where
-    pub freshJudged-32 : (length out ≡ checkpointSize → ⊥) → freshJudged k out refuse go ≡ refuse 32
-    unfolding freshJudged
-    freshJudged-32 o = ifOpen-accepted (opened k) refuse _ e ∙ choose-f _ (ne-eqb _ _ o) refl
+    pub freshAdmitted-32 : (length out ≡ checkpointSize → ⊥) → freshAdmitted k out refuse go ≡ refuse 32
+    unfolding freshAdmitted
+    freshAdmitted-32 o = ifOpen-accepted (opened k) refuse _ e ∙ choose-f _ (ne-eqb _ _ o) refl
 
-    pub freshJudged-go : length out ≡ checkpointSize → freshJudged k out refuse go ≡ go h
-    unfolding freshJudged
-    freshJudged-go o = ifOpen-accepted (opened k) refuse _ e ∙ choose-t _ (eq-eqb _ _ o) refl
+    pub freshAdmitted-go : length out ≡ checkpointSize → freshAdmitted k out refuse go ≡ go h
+    unfolding freshAdmitted
+    freshAdmitted-go o = ifOpen-accepted (opened k) refuse _ e ∙ choose-t _ (eq-eqb _ _ o) refl
 
 -- ---- what turns a book or its checkpoint away
 module _ (h : Head) (c : List ℕ) where
-  pub judgedFor-30 : (length c ≡ checkpointSize → ⊥) → judgedFor h c ≡ refused 30
-  unfolding judgedFor
-  judgedFor-30 l = choose-f _ (ne-eqb _ _ l) refl
+  pub admittedFor-30 : (length c ≡ checkpointSize → ⊥) → admittedFor h c ≡ refused 30
+  unfolding admittedFor
+  admittedFor-30 l = choose-f _ (ne-eqb _ _ l) refl
 
-  pub judgedFor-31 : length c ≡ checkpointSize → sound h c ≡ false → judgedFor h c ≡ refused 31
-  unfolding judgedFor
-  judgedFor-31 l s = choose-t _ (eq-eqb _ _ l) (choose-f _ s refl)
+  pub admittedFor-31 : length c ≡ checkpointSize → sound h c ≡ false → admittedFor h c ≡ refused 31
+  unfolding admittedFor
+  admittedFor-31 l s = choose-t _ (eq-eqb _ _ l) (choose-f _ s refl)
 
-  pub judgedFor-sound : length c ≡ checkpointSize → sound h c ≡ true → judgedFor h c ≡ accepted h
-  unfolding judgedFor
-  judgedFor-sound l s = choose-t _ (eq-eqb _ _ l) (choose-t _ s refl)
+  pub admittedFor-sound : length c ≡ checkpointSize → sound h c ≡ true → admittedFor h c ≡ accepted h
+  unfolding admittedFor
+  admittedFor-sound l s = choose-t _ (eq-eqb _ _ l) (choose-t _ s refl)
 
 module _ (k c : List ℕ) where
-  pub judged-book : {n : ℕ} → opened k ≡ refused n → judged k c ≡ refused n
-  unfolding judged
-  judged-book e = ifOpen-refused (opened k) refused _ e
+  pub admitted-book : {n : ℕ} → opened k ≡ refused n → admitted k c ≡ refused n
+  unfolding admitted
+  admitted-book e = ifOpen-refused (opened k) refused _ e
 
-  pub judged-open : {h : Head} → opened k ≡ accepted h → judged k c ≡ judgedFor h c
-  unfolding judged
-  judged-open e = ifOpen-accepted (opened k) refused _ e
+  pub admitted-open : {h : Head} → opened k ≡ accepted h → admitted k c ≡ admittedFor h c
+  unfolding admitted
+  admitted-open e = ifOpen-accepted (opened k) refused _ e
 
 -- ---- a wake
 module _ {A : Type 0} (k c out : List ℕ) (refuse : ℕ → A) (go : Head → A) where
-  pub wakeJudged-book : {n : ℕ} → opened k ≡ refused n → wakeJudged k c out refuse go ≡ refuse n
-  unfolding wakeJudged
-  wakeJudged-book e = ifOpen-refused (judged k c) _ _ (judged-book k c e)
+  pub wakeAdmitted-book : {n : ℕ} → opened k ≡ refused n → wakeAdmitted k c out refuse go ≡ refuse n
+  unfolding wakeAdmitted
+  wakeAdmitted-book e = ifOpen-refused (admitted k c) _ _ (admitted-book k c e)
 
   module _ {h : Head} (e : opened k ≡ accepted h) where
-    pub wakeJudged-30 : (length c ≡ checkpointSize → ⊥) → wakeJudged k c out refuse go ≡ refuse 30
-    unfolding wakeJudged
-    wakeJudged-30 l = ifOpen-refused (judged k c) _ _ (judged-open k c e ∙ judgedFor-30 h c l)
+    pub wakeAdmitted-30 : (length c ≡ checkpointSize → ⊥) → wakeAdmitted k c out refuse go ≡ refuse 30
+    unfolding wakeAdmitted
+    wakeAdmitted-30 l = ifOpen-refused (admitted k c) _ _ (admitted-open k c e ∙ admittedFor-30 h c l)
 
-    pub wakeJudged-31 : length c ≡ checkpointSize → sound h c ≡ false → wakeJudged k c out refuse go ≡ refuse 31
-    unfolding wakeJudged
-    wakeJudged-31 l s = ifOpen-refused (judged k c) _ _ (judged-open k c e ∙ judgedFor-31 h c l s)
+    pub wakeAdmitted-31 : length c ≡ checkpointSize → sound h c ≡ false → wakeAdmitted k c out refuse go ≡ refuse 31
+    unfolding wakeAdmitted
+    wakeAdmitted-31 l s = ifOpen-refused (admitted k c) _ _ (admitted-open k c e ∙ admittedFor-31 h c l s)
 
-    pub wakeJudged-32 : length c ≡ checkpointSize → sound h c ≡ true → (length out ≡ checkpointSize → ⊥)
-        → wakeJudged k c out refuse go ≡ refuse 32
-    unfolding wakeJudged
-    wakeJudged-32 l s o =
-        ifOpen-accepted (judged k c) _ _ (judged-open k c e ∙ judgedFor-sound h c l s)
+    pub wakeAdmitted-32 : length c ≡ checkpointSize → sound h c ≡ true → (length out ≡ checkpointSize → ⊥)
+        → wakeAdmitted k c out refuse go ≡ refuse 32
+    unfolding wakeAdmitted
+    wakeAdmitted-32 l s o =
+        ifOpen-accepted (admitted k c) _ _ (admitted-open k c e ∙ admittedFor-sound h c l s)
         ∙ choose-f _ (ne-eqb _ _ o) refl
 
-    pub wakeJudged-go : length c ≡ checkpointSize → sound h c ≡ true → length out ≡ checkpointSize
-        → wakeJudged k c out refuse go ≡ go h
-    unfolding wakeJudged
-    wakeJudged-go l s o =
-        ifOpen-accepted (judged k c) _ _ (judged-open k c e ∙ judgedFor-sound h c l s)
+    pub wakeAdmitted-go : length c ≡ checkpointSize → sound h c ≡ true → length out ≡ checkpointSize
+        → wakeAdmitted k c out refuse go ≡ go h
+    unfolding wakeAdmitted
+    wakeAdmitted-go l s o =
+        ifOpen-accepted (admitted k c) _ _ (admitted-open k c e ∙ admittedFor-sound h c l s)
         ∙ choose-t _ (eq-eqb _ _ o) refl
 
 -- ---- what is refused leaves the buffer as it was
@@ -115,12 +115,12 @@ module _ {n : ℕ} {vs out : List ℕ} where
   ifOpen-kept (accepted h) says leaves e = choose-kept (eqb (length out) checkpointSize) _ _ e
 
   pub freshBytes-kept : (k : List ℕ) → freshReply k out ≡ reply (suc n) vs → freshBytes k out ≡ out
-  unfolding freshReply freshBytes freshJudged
+  unfolding freshReply freshBytes freshAdmitted
   freshBytes-kept k = ifOpen-kept (opened k) _ _
 
   pub wakeBytes-kept : (k c : List ℕ) (b : ℕ) → wakeReply k c b out ≡ reply (suc n) vs → wakeBytes k c b out ≡ out
-  unfolding wakeReply wakeBytes wakeJudged
-  wakeBytes-kept k c b = ifOpen-kept (judged k c) _ _
+  unfolding wakeReply wakeBytes wakeAdmitted
+  wakeBytes-kept k c b = ifOpen-kept (admitted k c) _ _
 
 -- ---- a book that is accepted
 pub records-le : (k : List ℕ) (h : Head) → opened k ≡ accepted h → h .n ≤ 131072

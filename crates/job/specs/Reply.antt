@@ -6,7 +6,7 @@
 --     woken r                the reply that a wake's answer stands for: records gone through
 --     reported r             the reply that a report's answer stands for: 40 with the records done; 41 with
 --                            index and reason; or the five figures in kg and 1 if the site must report
---     counted r              the reply that a count's answer stands for: records left
+--     remaining r            the reply that a count's answer stands for: records left
 --
 -- Each is one-to-one: proofs/ReplyLaws.antt. Definitions only.
 use Prim.Native.Nat.{ℕ}
@@ -22,8 +22,8 @@ use Rattle.job.specs.declared.reply.Woken.{Woken}
 use Rattle.job.specs.declared.reply.Woken.the-variants.{NotWoken, Moved}
 use Rattle.job.specs.declared.reply.Reported.{Reported}
 use Rattle.job.specs.declared.reply.Reported.the-variants.{NotReported, Unfinished, RecordAside, Given}
-use Rattle.job.specs.declared.reply.Counted.{Counted}
-use Rattle.job.specs.declared.reply.Counted.the-variants.{NotCounted, Left}
+use Rattle.job.specs.declared.reply.Remaining.{Remaining}
+use Rattle.job.specs.declared.reply.Remaining.the-variants.{Unknown, Left}
 
 pub data Reply : Type 0 where
   reply : ℕ → List ℕ → Reply
@@ -52,6 +52,6 @@ reported (Unfinished d) = reply 40 (d ∷ [])
 reported (RecordAside i k) = reply 41 (i ∷ k ∷ [])
 reported (Given f) = reply 0 (figureValues f)
 
-unfoldable pub counted : Counted → Reply
-counted (NotCounted x) = reply (refusalNumber x) []
-counted (Left m) = reply 0 (m ∷ [])
+unfoldable pub remaining : Remaining → Reply
+remaining (Unknown x) = reply (refusalNumber x) []
+remaining (Left m) = reply 0 (m ∷ [])

@@ -4,7 +4,7 @@
 --     figuresAt s         the five figures and the decision of a state
 --     replyAt h s         the reply to a report at a state: 40 unless the book is finished, 41 if a record
 --                         was set aside, else the figures
---     judgement r         the number, or the head, that the code's judgement stands for
+--     admission r         the number, or the head, that the code's admission stands for
 --     reportReply k c     the reply to a report
 --     leftReply k c       the reply to a count: the records of the book, less those done
 --
@@ -18,13 +18,13 @@ use Rattle.mass.specs.declared.figures.Warming.{Warming}
 use Rattle.mass.specs.Figures.{figuresOf}
 use Rattle.rules.specs.declared.book.Head.{Head}
 use Rattle.rules.specs.Book.{Answer, refused, accepted}
-use Rattle.job.specs.declared.report.Judgement.{Judgement}
-use Rattle.job.specs.declared.report.Judgement.the-variants.{Refused, Sound}
+use Rattle.job.specs.declared.report.Admission.{Admission}
+use Rattle.job.specs.declared.report.Admission.the-variants.{Refused, Sound}
 use Rattle.job.specs.State.{State}
 use Rattle.job.specs.Checkpoint.{decode}
 use Rattle.job.specs.Tally.{ledgersOf}
 use Rattle.job.specs.Reply.{Reply, reply, refusalNumber, figureValues}
-use Rattle.job.specs.Wake.{ifOpen, judged}
+use Rattle.job.specs.Wake.{ifOpen, admitted}
 
 -- 21 for CH4 and 310 for N2O.
 abbrev pub warming : Warming
@@ -39,12 +39,12 @@ replyAt h s =
     (choose (ltb 0 (s .aside)) (reply 41 (s .index ∷ s .reason ∷ []))
     (reply 0 (figureValues (figuresAt s))))
 
-unfoldable pub judgement : Judgement → Answer
-judgement (Refused x) = refused (refusalNumber x)
-judgement (Sound h) = accepted h
+unfoldable pub admission : Admission → Answer
+admission (Refused x) = refused (refusalNumber x)
+admission (Sound h) = accepted h
 
 unfoldable pub reportReply : List ℕ → List ℕ → Reply
-reportReply k c = ifOpen (judged k c) (λ n. reply n []) (λ h. replyAt h (decode c))
+reportReply k c = ifOpen (admitted k c) (λ n. reply n []) (λ h. replyAt h (decode c))
 
 unfoldable pub leftReply : List ℕ → List ℕ → Reply
-leftReply k c = ifOpen (judged k c) (λ n. reply n []) (λ h. reply 0 ((h .n - decode c .done) ∷ []))
+leftReply k c = ifOpen (admitted k c) (λ n. reply n []) (λ h. reply 0 ((h .n - decode c .done) ∷ []))

@@ -1,10 +1,10 @@
 -- What a fresh start and a wake reply and write. RULES, "Calls" and "Numbers".
 --
 --     ifOpen a refuse go          refuse with the number that refused a book, or go with its head
---     judgedFor h c               the head h of a book, or the number that refuses c as its checkpoint
---     judged k c                  the head of the book k, or the first number that refuses k or c
---     freshJudged k out refuse go the first number that refuses a fresh start, or what it does otherwise
---     wakeJudged k c out refuse go    the same of a wake
+--     admittedFor h c               the head h of a book, or the number that refuses c as its checkpoint
+--     admitted k c                  the head of the book k, or the first number that refuses k or c
+--     freshAdmitted k out refuse go the first number that refuses a fresh start, or what it does otherwise
+--     wakeAdmitted k c out refuse go    the same of a wake
 --     freshReply k out, freshBytes k out       the reply, and the output buffer afterwards
 --     moves h c b              how many records a wake with budget b goes through
 --     wakeReply k c b out, wakeBytes k c b out the reply, and the output buffer afterwards
@@ -26,33 +26,33 @@ ifOpen (refused n) refuse go = refuse n
 ifOpen (accepted h) refuse go = go h
 
 -- ---- a fresh start
-unfoldable pub freshJudged : {A : Type 0} → List ℕ → List ℕ → (ℕ → A) → (Head → A) → A
-freshJudged k out refuse go =
+unfoldable pub freshAdmitted : {A : Type 0} → List ℕ → List ℕ → (ℕ → A) → (Head → A) → A
+freshAdmitted k out refuse go =
     ifOpen (opened k) refuse (λ h.
     choose (eqb (length out) checkpointSize) (go h)
     (refuse 32))
 
 unfoldable pub freshReply : List ℕ → List ℕ → Reply
-freshReply k out = freshJudged k out (λ n. reply n []) (λ h. reply 0 [])
+freshReply k out = freshAdmitted k out (λ n. reply n []) (λ h. reply 0 [])
 
 unfoldable pub freshBytes : List ℕ → List ℕ → List ℕ
-freshBytes k out = freshJudged k out (λ n. out) (λ h. encode h fresh)
+freshBytes k out = freshAdmitted k out (λ n. out) (λ h. encode h fresh)
 
 -- ---- a checkpoint
-unfoldable pub judgedFor : Head → List ℕ → Answer
-judgedFor h c =
+unfoldable pub admittedFor : Head → List ℕ → Answer
+admittedFor h c =
     choose (eqb (length c) checkpointSize)
     (choose (sound h c) (accepted h)
     (refused 31))
     (refused 30)
 
-unfoldable pub judged : List ℕ → List ℕ → Answer
-judged k c = ifOpen (opened k) refused (λ h. judgedFor h c)
+unfoldable pub admitted : List ℕ → List ℕ → Answer
+admitted k c = ifOpen (opened k) refused (λ h. admittedFor h c)
 
 -- ---- a wake
-unfoldable pub wakeJudged : {A : Type 0} → List ℕ → List ℕ → List ℕ → (ℕ → A) → (Head → A) → A
-wakeJudged k c out refuse go =
-    ifOpen (judged k c) refuse (λ h.
+unfoldable pub wakeAdmitted : {A : Type 0} → List ℕ → List ℕ → List ℕ → (ℕ → A) → (Head → A) → A
+wakeAdmitted k c out refuse go =
+    ifOpen (admitted k c) refuse (λ h.
     choose (eqb (length out) checkpointSize) (go h)
     (refuse 32))
 
@@ -60,7 +60,7 @@ unfoldable pub moves : Head → List ℕ → ℕ → ℕ
 moves h c b = min b (h .n - doneIn c)
 
 unfoldable pub wakeReply : List ℕ → List ℕ → ℕ → List ℕ → Reply
-wakeReply k c b out = wakeJudged k c out (λ n. reply n []) (λ h. reply 0 (moves h c b ∷ []))
+wakeReply k c b out = wakeAdmitted k c out (λ n. reply n []) (λ h. reply 0 (moves h c b ∷ []))
 
 unfoldable pub wakeBytes : List ℕ → List ℕ → ℕ → List ℕ → List ℕ
-wakeBytes k c b out = wakeJudged k c out (λ n. out) (λ h. encode h (run h k (decode c) (moves h c b)))
+wakeBytes k c b out = wakeAdmitted k c out (λ n. out) (λ h. encode h (run h k (decode c) (moves h c b)))

@@ -51,8 +51,8 @@ pub enum Reported {
     Given(Figures),
 }
 
-pub enum Counted {
-    NotCounted(Refusal),
+pub enum Remaining {
+    Unknown(Refusal),
     // So many records are left.
     Left(u32),
 }

@@ -1,8 +1,8 @@
 // The report: figures once every record was counted, and until then why they are withheld. Beside it
 // the count of the records left.
 use crate::checkpoint;
-use crate::reply::Counted;
 use crate::reply::Refusal;
+use crate::reply::Remaining;
 use crate::reply::Reported;
 use crate::tally::Tally;
 use mass::figures;
@@ -14,9 +14,9 @@ ghost use mathlib.Core.Path.{_≡_};
 ghost use Prim.Native.Nat.{_≤_};
 ghost use Rattle.job.specs.State.{FitFor};
 ghost use Rattle.job.specs.Tally.{tallyOf, stateOf};
-ghost use Rattle.job.specs.Reply.{reported, counted};
-ghost use Rattle.job.specs.Wake.{judgedFor, judged};
-ghost use Rattle.job.specs.Report.{replyAt, judgement, reportReply, leftReply};
+ghost use Rattle.job.specs.Reply.{reported, remaining};
+ghost use Rattle.job.specs.Wake.{admittedFor, admitted};
+ghost use Rattle.job.specs.Report.{replyAt, admission, reportReply, leftReply};
 
 // How many kilograms of CO2 one of CH4, and one of N2O, stands for.
 const WARMING_CH4: u64 = 21;
@@ -26,52 +26,52 @@ const WARMING_N2O: u64 = 310;
 pub fn report(book: &[u8], from: &[u8]) -> Reported
     ensures reply { λ r. ⌜ reported r ≡ reportReply (now (book .entry)) (now (from .entry)) ⌝ }
 {
-    match judge(book, from) {
-        Judgement::Refused(x) => Reported::NotReported(x),
-        Judgement::Sound(h) => report_at(h, checkpoint::read(from)),
+    match admit(book, from) {
+        Admission::Refused(x) => Reported::NotReported(x),
+        Admission::Sound(h) => report_at(h, checkpoint::read(from)),
     }
 }
 
 // How many records of the book are left.
-pub fn count_left(book: &[u8], from: &[u8]) -> Counted
-    ensures reply { λ r. ⌜ counted r ≡ leftReply (now (book .entry)) (now (from .entry)) ⌝ }
+pub fn count_left(book: &[u8], from: &[u8]) -> Remaining
+    ensures reply { λ r. ⌜ remaining r ≡ leftReply (now (book .entry)) (now (from .entry)) ⌝ }
 {
-    match judge(book, from) {
-        Judgement::Refused(x) => Counted::NotCounted(x),
-        Judgement::Sound(h) => {
+    match admit(book, from) {
+        Admission::Refused(x) => Remaining::Unknown(x),
+        Admission::Sound(h) => {
             let t = checkpoint::read(from);
             let left = h.n as u32 - t.done;
-            Counted::Left(left)
+            Remaining::Left(left)
         }
     }
 }
 
-enum Judgement {
+enum Admission {
     // The first rule that the book or the checkpoint breaks.
     Refused(Refusal),
     // The checkpoint is sound for the book with this head.
     Sound(Head),
 }
 
-fn judge(book: &[u8], from: &[u8]) -> Judgement
-    ensures judged { λ r. ⌜ judgement r ≡ judged (now (book .entry)) (now (from .entry)) ⌝ }
+fn admit(book: &[u8], from: &[u8]) -> Admission
+    ensures admitted { λ r. ⌜ admission r ≡ admitted (now (book .entry)) (now (from .entry)) ⌝ }
 {
     match book::open(book) {
-        Opened::Wrong(fault) => Judgement::Refused(Refusal::Book(fault)),
-        Opened::Open(h) => judge_for(h, from),
+        Opened::Wrong(fault) => Admission::Refused(Refusal::Book(fault)),
+        Opened::Open(h) => admit_for(h, from),
     }
 }
 
-fn judge_for(h: Head, from: &[u8]) -> Judgement
-    ensures judged { λ r. ⌜ judgement r ≡ judgedFor h (now (from .entry)) ⌝ }
+fn admit_for(h: Head, from: &[u8]) -> Admission
+    ensures admitted { λ r. ⌜ admission r ≡ admittedFor h (now (from .entry)) ⌝ }
 {
     if from.len() != checkpoint::SIZE {
-        return Judgement::Refused(Refusal::CheckpointLength);
+        return Admission::Refused(Refusal::CheckpointLength);
     }
     if !checkpoint::is_sound(h, from) {
-        return Judgement::Refused(Refusal::CheckpointUnsound);
+        return Admission::Refused(Refusal::CheckpointUnsound);
     }
-    Judgement::Sound(h)
+    Admission::Sound(h)
 }
 
 // A report of a state that is sound.

@@ -80,7 +80,7 @@ pub fn wake(book: &[u8], from: &[u8], budget: u32, out: &mut [u8]) -> Woken
     }
 }
 
-// It makes the tests of `judge` in report.rt itself: a head that came back through one call more made a
+// It makes the tests of `admit` in report.rt itself: a head that came back through one call more made a
 // wake of no record 15 ns slower, where it takes some 50.
 fn wake_open(book: &[u8], h: Head, from: &[u8], budget: u32, out: &mut [u8]) -> Woken
     requires opened { ⌜ opened (now book) ≡ accepted h ⌝ }

@@ -3,8 +3,8 @@ use files::Got;
 use files::kept;
 use files::kept::Kept;
 use files::kept::Place;
-use job::reply::Counted;
 use job::reply::Refusal;
+use job::reply::Remaining;
 use libc::STDERR_FILENO;
 use libc::STDOUT_FILENO;
 use roster::plants;
@@ -46,8 +46,8 @@ fn count_book(line: &[u8], book: &[u8]) -> u32 {
 // A book that is done is told at once: what it was told by before may have been killed.
 fn count_from(line: &[u8], book: &[u8], from: &[u8]) -> u32 {
     match job::report::count_left(book, from) {
-        Counted::NotCounted(x) => refuse(line, x),
-        Counted::Left(left) => {
+        Remaining::Unknown(x) => refuse(line, x),
+        Remaining::Left(left) => {
             if left == 0 {
                 tell(line, progress::tell_turn(book, from, 0));
             }
@@ -102,8 +102,8 @@ fn wake(line: &[u8], book: &[u8], from: &[u8], budget: u32) -> Turn {
 // The records left by what a wake has saved, which no refusal can meet.
 fn count_saved(book: &[u8], saved: &[u8]) -> u32 {
     match job::report::count_left(book, saved) {
-        Counted::NotCounted(_) => 0,
-        Counted::Left(left) => left,
+        Remaining::Unknown(_) => 0,
+        Remaining::Left(left) => left,
     }
 }
 

@@ -4,12 +4,12 @@ use borrow.Author.Needs.{needs}
 use Rattle.job.specs.Reply.{reported}
 use Rattle.job.proofs.CheckpointLaws.{readFrom-sound}
 use Rattle.job.proofs.WakeLaws.{records-le}
-use Rattle.job.proofs.ReportLaws.{judged-refused, judged-sound, judged-facts, reportReply-refused, reportReply-read}
+use Rattle.job.proofs.ReportLaws.{admitted-refused, admitted-sound, admitted-facts, reportReply-refused, reportReply-read}
 use Rattle.job.proofs.report.report.Statement.{statement}
 use Rattle.job.proofs.report.report.Tie as tie
 
-judge-requires : tie.Need-judge-requires
-judge-requires c κs = search needs
+admit-requires : tie.Need-admit-requires
+admit-requires c κs = search needs
 
 enum-known-x : tie.Need-enum-known-x
 enum-known-x c = search needs
@@ -19,12 +19,12 @@ enum-known-h c = search needs
 
 read-requires : tie.Need-read-requires
 read-requires c κs =
-    judged-facts _ _ _ (judged-sound _ _ (c .before .before .before .judge .ensures) (c .before .h .given .1)) .is-whole
+    admitted-facts _ _ _ (admitted-sound _ _ (c .before .before .before .admit .ensures) (c .before .h .given .1)) .is-whole
 
 report-at-requires : tie.Need-report-at-requires
 report-at-requires c κs =
     let s = c .before .before in
-    let known = judged-facts _ _ _ (judged-sound _ _ (s .before .before .judge .ensures) (s .h .given .1)) in
+    let known = admitted-facts _ _ _ (admitted-sound _ _ (s .before .before .admit .ensures) (s .h .given .1)) in
     let tally = readFrom-sound _ _ (known .is-sound) (c .read .ensures) in
     (records-le _ _ (known .is-open), (tally .canonical, tally .fits))
 
@@ -32,19 +32,19 @@ returns : tie.Need-returns
 unfolding reported
 returns c =
     sym (reportReply-refused _ _
-    (judged-refused _ _ (c .before .before .before .judge .ensures) (c .before .x .given .1)))
+    (admitted-refused _ _ (c .before .before .before .admit .ensures) (c .before .x .given .1)))
 
 returns-2 : tie.Need-returns-2
 returns-2 c =
     let s = c .before .before .before in
-    let judged = judged-sound _ _ (s .before .before .judge .ensures) (s .h .given .1) in
-    c .report-at .ensures ∙ reportReply-read _ _ judged (c .before .read .ensures)
+    let admitted = admitted-sound _ _ (s .before .before .admit .ensures) (s .h .given .1) in
+    c .report-at .ensures ∙ reportReply-read _ _ admitted (c .before .read .ensures)
 
 pub report-spec : {M : Type 1} → statement M
 report-spec =
     tie.close
     (tie.spec
-    judge-requires
+    admit-requires
     enum-known-x
     enum-known-h
     read-requires

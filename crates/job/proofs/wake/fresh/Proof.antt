@@ -4,7 +4,7 @@ use borrow.Author.Needs.{needs}
 use Rattle.rules.proofs.BookLaws.{opened-open, opened-wrong}
 use Rattle.job.specs.Reply.{started}
 use Rattle.job.specs.Wake.{freshReply, freshBytes}
-use Rattle.job.proofs.WakeLaws.{freshJudged-book}
+use Rattle.job.proofs.WakeLaws.{freshAdmitted-book}
 use Rattle.job.proofs.wake.fresh.Statement.{statement}
 use Rattle.job.proofs.wake.fresh.Tie as tie
 
@@ -26,7 +26,7 @@ returns : tie.Need-returns
 unfolding started freshReply freshBytes
 returns c =
     let e = opened-wrong _ (c .before .before .before .«open» .ensures) (c .before .fault .given .1) in
-    (sym (freshJudged-book _ _ _ _ e), sym (freshJudged-book _ _ _ _ e))
+    (sym (freshAdmitted-book _ _ _ _ e), sym (freshAdmitted-book _ _ _ _ e))
 
 same-length : tie.Need-same-length
 same-length c = search needs

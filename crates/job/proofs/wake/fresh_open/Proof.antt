@@ -9,7 +9,7 @@ use Rattle.job.specs.Reply.{started}
 use Rattle.job.specs.Wake.{freshReply, freshBytes}
 use Rattle.job.proofs.StateLaws.{fitFor-fresh}
 use Rattle.job.proofs.TallyLaws.{stateOf-tallyOf}
-use Rattle.job.proofs.WakeLaws.{freshJudged-32, freshJudged-go, records-le, sound-tally}
+use Rattle.job.proofs.WakeLaws.{freshAdmitted-32, freshAdmitted-go, records-le, sound-tally}
 use Rattle.job.proofs.wake.fresh_open.Statement.{statement}
 use Rattle.job.proofs.wake.fresh_open.Tie as tie
 
@@ -17,7 +17,7 @@ returns : tie.Need-returns
 unfolding started freshReply freshBytes
 returns c =
     let e = c .before .before .before .pre in
-    (sym (freshJudged-32 _ _ _ _ e (c .if1 .taken)), sym (freshJudged-32 _ _ _ _ e (c .if1 .taken)))
+    (sym (freshAdmitted-32 _ _ _ _ e (c .if1 .taken)), sym (freshAdmitted-32 _ _ _ _ e (c .if1 .taken)))
 
 begin-requires : tie.Need-begin-requires
 begin-requires c κs = search needs
@@ -43,7 +43,7 @@ returns-2 c =
     c .before .before .write .ensures
     ∙ ap (λ (t : Tally). encode h (stateOf t)) (begun .begin .ensures)
     ∙ ap (encode h) (stateOf-tallyOf fresh) in
-    (sym (freshJudged-go _ _ _ _ e o), written ∙ sym (freshJudged-go _ _ _ _ e o))
+    (sym (freshAdmitted-go _ _ _ _ e o), written ∙ sym (freshAdmitted-go _ _ _ _ e o))
 
 pub fresh-open-spec : {M : Type 1} → statement M
 fresh-open-spec = tie.close (tie.spec returns begin-requires write-requires same-length returns-2)

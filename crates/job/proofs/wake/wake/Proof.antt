@@ -4,7 +4,7 @@ use borrow.Author.Needs.{needs}
 use Rattle.rules.proofs.BookLaws.{opened-open, opened-wrong}
 use Rattle.job.specs.Reply.{woken}
 use Rattle.job.specs.Wake.{wakeReply, wakeBytes}
-use Rattle.job.proofs.WakeLaws.{wakeJudged-book}
+use Rattle.job.proofs.WakeLaws.{wakeAdmitted-book}
 use Rattle.job.proofs.wake.wake.Statement.{statement}
 use Rattle.job.proofs.wake.wake.Tie as tie
 
@@ -26,7 +26,7 @@ returns : tie.Need-returns
 unfolding woken wakeReply wakeBytes
 returns c =
     let e = opened-wrong _ (c .before .before .before .«open» .ensures) (c .before .fault .given .1) in
-    (sym (wakeJudged-book _ _ _ _ _ e), sym (wakeJudged-book _ _ _ _ _ e))
+    (sym (wakeAdmitted-book _ _ _ _ _ e), sym (wakeAdmitted-book _ _ _ _ _ e))
 
 same-length : tie.Need-same-length
 same-length c = search needs

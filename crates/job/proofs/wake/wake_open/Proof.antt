@@ -18,7 +18,7 @@ use Rattle.job.specs.Wake.{moves, wakeReply, wakeBytes}
 use Rattle.job.proofs.StateLaws.{fitFor-run}
 use Rattle.job.proofs.CheckpointLaws.{stateOf-tallyIn, ReadFrom, readFrom-sound}
 use Rattle.job.proofs.TallyLaws.{stateOf-tallyOf}
-use Rattle.job.proofs.WakeLaws.{wakeJudged-30, wakeJudged-31, wakeJudged-32, wakeJudged-go, records-le, sound-tally}
+use Rattle.job.proofs.WakeLaws.{wakeAdmitted-30, wakeAdmitted-31, wakeAdmitted-32, wakeAdmitted-go, records-le, sound-tally}
 use Rattle.job.proofs.wake.wake_open.Statement.{statement}
 use Rattle.job.proofs.wake.wake_open.Tie as tie
 
@@ -45,7 +45,7 @@ returns : tie.Need-returns
 unfolding woken wakeReply wakeBytes
 returns c =
     let e = c .before .before .before .before .pre in
-    (sym (wakeJudged-30 _ _ _ _ _ e (c .if1 .taken)), sym (wakeJudged-30 _ _ _ _ _ e (c .if1 .taken)))
+    (sym (wakeAdmitted-30 _ _ _ _ _ e (c .if1 .taken)), sym (wakeAdmitted-30 _ _ _ _ _ e (c .if1 .taken)))
 
 is-sound-requires : tie.Need-is-sound-requires
 is-sound-requires c κs = search needs
@@ -56,7 +56,7 @@ returns-2 c =
     let e = c .before .before .before .before .before .before .pre in
     let l = c .before .before .if1 .left in
     let s = is-not (c .before .is-sound .ensures) (c .if2 .taken) in
-    (sym (wakeJudged-31 _ _ _ _ _ e l s), sym (wakeJudged-31 _ _ _ _ _ e l s))
+    (sym (wakeAdmitted-31 _ _ _ _ _ e l s), sym (wakeAdmitted-31 _ _ _ _ _ e l s))
 
 returns-3 : tie.Need-returns-3
 unfolding woken wakeReply wakeBytes
@@ -65,7 +65,7 @@ returns-3 c =
     let e = entry s .pre in
     let l = s .before .before .if1 .left in
     let o = c .if3 .taken in
-    (sym (wakeJudged-32 _ _ _ _ _ e l (is-sound-so s) o), sym (wakeJudged-32 _ _ _ _ _ e l (is-sound-so s) o))
+    (sym (wakeAdmitted-32 _ _ _ _ _ e l (is-sound-so s) o), sym (wakeAdmitted-32 _ _ _ _ _ e l (is-sound-so s) o))
 
 -- ---- the way on
 read-requires : tie.Need-read-requires
@@ -133,8 +133,8 @@ returns-4 c =
     c .before .before .write .ensures
     ∙ ap (λ (t : Tally). encode (a .h) (stateOf t)) (c .before .before .before .before .go-through .ensures)
     ∙ ap (encode (a .h)) (stateOf-tallyOf _) in (
-      moved ∙ sym (wakeJudged-go _ _ _ _ _ e (s .before .before .if1 .left) (is-sound-so s) o),
-      written ∙ ran ∙ sym (wakeJudged-go _ _ _ _ _ e (s .before .before .if1 .left) (is-sound-so s) o),
+      moved ∙ sym (wakeAdmitted-go _ _ _ _ _ e (s .before .before .if1 .left) (is-sound-so s) o),
+      written ∙ ran ∙ sym (wakeAdmitted-go _ _ _ _ _ e (s .before .before .if1 .left) (is-sound-so s) o),
     )
 
 pub wake-open-spec : {M : Type 1} → statement M
