@@ -6,6 +6,7 @@ pub mod PileLaws
 pub mod CheckpointLaws
 pub mod ReplyLaws
 pub mod WakeLaws
+pub mod AdmissionLaws
 pub mod ReportLaws
 pub mod HistoryLaws
 pub mod Unique

@@ -1,12 +1,11 @@
 -- The reply to a report and to a count, one case at a time. Assumes nothing.
 use Prim.Native.Nat.{ℕ, _+_, _-_, _*_, _<_}
-use mathlib.Core.Bool.{Bool, true, false}
+use mathlib.Core.Bool.{true, false}
 use mathlib.Core.List.{List, [], _∷_}
 use mathlib.Core.Path.{_≡_, refl, sym, ap, _∙_}
 use native.Mathlib.Omega.{arith}
-use lib.Dec.{eqb}
 use lib.ListN.{length}
-use borrow.Author.Tests.{eqb-true, lt-ltb, le-ltb}
+use borrow.Author.Tests.{lt-ltb, le-ltb}
 use Rattle.choice.specs.Tests.{choose}
 use Rattle.choice.proofs.TestsLaws.{choose-t, choose-f}
 use Rattle.mass.specs.declared.figures.Figures.{Figures}
@@ -15,109 +14,87 @@ use Rattle.mass.proofs.FiguresLaws.{figuresOf-ledgers}
 use Rattle.rules.specs.declared.book.Head.{Head}
 use Rattle.rules.specs.Book.{Answer, refused, accepted, opened}
 use Rattle.rules.proofs.BookLaws.{accepted-facts}
-use Rattle.job.specs.declared.reply.Refusal.{Refusal}
-use Rattle.job.specs.declared.report.Admission.{Admission}
-use Rattle.job.specs.declared.report.Admission.the-variants.{Refused, Sound}
 use Rattle.job.specs.declared.tally.Tally.{Tally}
 use Rattle.job.specs.State.{State, FitFor}
 use Rattle.job.specs.Checkpoint.{checkpointSize, sound, decode, encode}
 use Rattle.job.specs.Tally.{ledgersOf, tallyIn, stateOf}
-use Rattle.job.specs.Reply.{reply, refusalNumber, figureValues}
-use Rattle.job.specs.Report.{warming, figuresAt, replyAt, admission, reportReply, leftReply}
+use Rattle.job.specs.Reply.{reply, figureValues}
+use Rattle.job.specs.Report.{warming, figuresAt, replyAt, reportReply, leftReply}
 use Rattle.job.specs.Wake.{ifOpen, admittedFor, admitted}
+use Rattle.job.specs.Admission.{reportFor, leftFor}
 use Rattle.job.proofs.CheckpointLaws.{length-encode, decode-encode, sound-encode, stateOf-tallyIn}
 use Rattle.job.proofs.WakeLaws.{ifOpen-refused, ifOpen-accepted, records-le}
 use Rattle.job.proofs.WakeLaws.{admittedFor-30, admittedFor-31, admittedFor-sound, admitted-book, admitted-open}
 
--- ---- a book and a checkpoint that pass
-pub record Judged (k c : List ℕ) (h : Head) : Type 0 where
-  pub is-open : opened k ≡ accepted h
-  pub is-whole : length c ≡ checkpointSize
-  pub is-sound : sound h c ≡ true
+-- ---- a report and a count of an opened book
+module _ (h : Head) (c : List ℕ) where
+  pub reportFor-refused : {n : ℕ} → admittedFor h c ≡ refused n → reportFor h c ≡ reply n []
+  unfolding reportFor
+  reportFor-refused e = ifOpen-refused (admittedFor h c) (λ n. reply n []) _ e
 
-never : {A : Type 0} {n : ℕ} {h : Head} → refused n ≡ accepted h → A
-never e = let odd : _≡_ {A = ℕ} 0 1 = cc in absurd (omega arith)
+  reportFor-sound : admittedFor h c ≡ accepted h → reportFor h c ≡ replyAt h (decode c)
+  unfolding reportFor
+  reportFor-sound e = ifOpen-accepted (admittedFor h c) (λ n. reply n []) _ e
 
--- A test that was passed on the way to acceptance.
-passed : (t : Bool) (x : Answer) (n : ℕ) {h : Head} → choose t x (refused n) ≡ accepted h
-    → (t ≡ true) × (x ≡ accepted h)
-passed true x n e = (refl, sym (choose-t {x = x} (refused n) refl refl) ∙ e)
-passed false x n e = never (sym (choose-f {y = refused n} x refl refl) ∙ e)
+  pub leftFor-refused : {n : ℕ} → admittedFor h c ≡ refused n → leftFor h c ≡ reply n []
+  unfolding leftFor
+  leftFor-refused e = ifOpen-refused (admittedFor h c) (λ n. reply n []) _ e
 
-pub admitted-facts : (k c : List ℕ) (h : Head) → admitted k c ≡ accepted h → Judged k c h
-unfolding admitted admittedFor ifOpen
-admitted-facts k c h = by (opened k) refl
-  where
-    by : (a : Answer) → opened k ≡ a → ifOpen a refused (λ x. admittedFor x c) ≡ accepted h → Judged k c h
-    by (refused n) o e = never e
-    by (accepted x) o e =
-        let whole = passed (eqb (length c) checkpointSize) _ 30 e in
-        let is-so = passed (sound x c) _ 31 (whole .1) in
-        let same : x ≡ h = cc in
-        record {
-          is-open = o ∙ ap accepted same;
-          is-whole = eqb-true _ _ (whole .0);
-          is-sound = ap (λ (y : Head). sound y c) (sym same) ∙ is-so .0;
-        }
-
--- ---- what the code's admission says
-pub admitted-refused : {j : Admission} {x : Refusal} (k c : List ℕ) → admission j ≡ admitted k c → j ≡ Refused x
-    → admitted k c ≡ refused (refusalNumber x)
-unfolding admission
-admitted-refused k c e q = sym e ∙ ap admission q
-
-pub admitted-sound : {j : Admission} {h : Head} (k c : List ℕ) → admission j ≡ admitted k c → j ≡ Sound h
-    → admitted k c ≡ accepted h
-unfolding admission
-admitted-sound k c e q = sym e ∙ ap admission q
-
--- ---- a report and a count
-module _ (k c : List ℕ) where
-  pub reportReply-refused : {n : ℕ} → admitted k c ≡ refused n → reportReply k c ≡ reply n []
-  unfolding reportReply
-  reportReply-refused e = ifOpen-refused (admitted k c) (λ n. reply n []) _ e
-
-  pub reportReply-sound : {h : Head} → admitted k c ≡ accepted h → reportReply k c ≡ replyAt h (decode c)
-  unfolding reportReply
-  reportReply-sound e = ifOpen-accepted (admitted k c) (λ n. reply n []) _ e
-
-  pub leftReply-refused : {n : ℕ} → admitted k c ≡ refused n → leftReply k c ≡ reply n []
-  unfolding leftReply
-  leftReply-refused e = ifOpen-refused (admitted k c) (λ n. reply n []) _ e
-
-  pub leftReply-sound : {h : Head} → admitted k c ≡ accepted h
-      → leftReply k c ≡ reply 0 ((h .n - decode c .done) ∷ [])
-  unfolding leftReply
-  leftReply-sound e = ifOpen-accepted (admitted k c) (λ n. reply n []) _ e
+  leftFor-sound : admittedFor h c ≡ accepted h → leftFor h c ≡ reply 0 ((h .n - decode c .done) ∷ [])
+  unfolding leftFor
+  leftFor-sound e = ifOpen-accepted (admittedFor h c) (λ n. reply n []) _ e
 
   -- By the tally that was read from the checkpoint.
-  module _ {h : Head} {t : Tally} (e : admitted k c ≡ accepted h) (r : t ≡ tallyIn c) where
+  module _ {t : Tally} (e : admittedFor h c ≡ accepted h) (r : t ≡ tallyIn c) where
     state-is : stateOf t ≡ decode c
     state-is = ap stateOf r ∙ stateOf-tallyIn c
 
-    pub reportReply-read : replyAt h (stateOf t) ≡ reportReply k c
-    reportReply-read = ap (replyAt h) state-is ∙ sym (reportReply-sound e)
+    pub reportFor-read : replyAt h (stateOf t) ≡ reportFor h c
+    reportFor-read = ap (replyAt h) state-is ∙ sym (reportFor-sound e)
 
-    pub leftReply-read : reply 0 ((h .n - t .done) ∷ []) ≡ leftReply k c
+    pub leftFor-read : reply 0 ((h .n - t .done) ∷ []) ≡ leftFor h c
     unfolding stateOf
-    leftReply-read = ap (λ (s : State). reply 0 ((h .n - s .done) ∷ [])) state-is ∙ sym (leftReply-sound e)
+    leftFor-read = ap (λ (s : State). reply 0 ((h .n - s .done) ∷ [])) state-is ∙ sym (leftFor-sound e)
 
+-- ---- a report and a count
+module _ (k c : List ℕ) where
   pub reportReply-book : {n : ℕ} → opened k ≡ refused n → reportReply k c ≡ reply n []
-  reportReply-book e = reportReply-refused (admitted-book k c e)
+  unfolding reportReply
+  reportReply-book e = ifOpen-refused (admitted k c) (λ n. reply n []) _ (admitted-book k c e)
+
+  pub leftReply-book : {n : ℕ} → opened k ≡ refused n → leftReply k c ≡ reply n []
+  unfolding leftReply
+  leftReply-book e = ifOpen-refused (admitted k c) (λ n. reply n []) _ (admitted-book k c e)
 
   module _ {h : Head} (e : opened k ≡ accepted h) where
+    pub reportReply-open : reportReply k c ≡ reportFor h c
+    unfolding reportReply reportFor
+    reportReply-open = ap (λ (a : Answer). ifOpen a (λ n. reply n []) (λ x. replyAt x (decode c))) (admitted-open k c e)
+
+    pub leftReply-open : leftReply k c ≡ leftFor h c
+    unfolding leftReply leftFor
+    leftReply-open =
+        ap (λ (a : Answer). ifOpen a (λ n. reply n []) (λ x. reply 0 ((x .n - decode c .done) ∷ [])))
+        (admitted-open k c e)
+
     pub reportReply-30 : (length c ≡ checkpointSize → ⊥) → reportReply k c ≡ reply 30 []
-    reportReply-30 l = reportReply-refused (admitted-open k c e ∙ admittedFor-30 h c l)
+    reportReply-30 l = reportReply-open ∙ reportFor-refused h c (admittedFor-30 h c l)
 
-    pub reportReply-31 : length c ≡ checkpointSize → sound h c ≡ false → reportReply k c ≡ reply 31 []
-    reportReply-31 l s = reportReply-refused (admitted-open k c e ∙ admittedFor-31 h c l s)
+    pub leftReply-30 : (length c ≡ checkpointSize → ⊥) → leftReply k c ≡ reply 30 []
+    leftReply-30 l = leftReply-open ∙ leftFor-refused h c (admittedFor-30 h c l)
 
-    pub reportReply-at : length c ≡ checkpointSize → sound h c ≡ true → reportReply k c ≡ replyAt h (decode c)
-    reportReply-at l s = reportReply-sound (admitted-open k c e ∙ admittedFor-sound h c l s)
+    module _ (l : length c ≡ checkpointSize) where
+      pub reportReply-31 : sound h c ≡ false → reportReply k c ≡ reply 31 []
+      reportReply-31 s = reportReply-open ∙ reportFor-refused h c (admittedFor-31 h c l s)
 
-    pub leftReply-at : length c ≡ checkpointSize → sound h c ≡ true
-        → leftReply k c ≡ reply 0 ((h .n - decode c .done) ∷ [])
-    leftReply-at l s = leftReply-sound (admitted-open k c e ∙ admittedFor-sound h c l s)
+      pub leftReply-31 : sound h c ≡ false → leftReply k c ≡ reply 31 []
+      leftReply-31 s = leftReply-open ∙ leftFor-refused h c (admittedFor-31 h c l s)
+
+      pub reportReply-at : sound h c ≡ true → reportReply k c ≡ replyAt h (decode c)
+      reportReply-at s = reportReply-open ∙ reportFor-sound h c (admittedFor-sound h c l s)
+
+      pub leftReply-at : sound h c ≡ true → leftReply k c ≡ reply 0 ((h .n - decode c .done) ∷ [])
+      leftReply-at s = leftReply-open ∙ leftFor-sound h c (admittedFor-sound h c l s)
 
 -- The checkpoint of any state that fits the book.
 pub leftReply-encode : (k : List ℕ) (h : Head) (s : State) → opened k ≡ accepted h → FitFor h s

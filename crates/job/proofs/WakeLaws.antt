@@ -77,27 +77,34 @@ module _ {A : Type 0} (k c out : List ℕ) (refuse : ℕ → A) (go : Head → A
   wakeAdmitted-book e = ifOpen-refused (admitted k c) _ _ (admitted-book k c e)
 
   module _ {h : Head} (e : opened k ≡ accepted h) where
-    pub wakeAdmitted-30 : (length c ≡ checkpointSize → ⊥) → wakeAdmitted k c out refuse go ≡ refuse 30
+    pub wakeAdmitted-refused : {n : ℕ} → admittedFor h c ≡ refused n → wakeAdmitted k c out refuse go ≡ refuse n
     unfolding wakeAdmitted
-    wakeAdmitted-30 l = ifOpen-refused (admitted k c) _ _ (admitted-open k c e ∙ admittedFor-30 h c l)
+    wakeAdmitted-refused q = ifOpen-refused (admitted k c) _ _ (admitted-open k c e ∙ q)
+
+    pub wakeAdmitted-30 : (length c ≡ checkpointSize → ⊥) → wakeAdmitted k c out refuse go ≡ refuse 30
+    wakeAdmitted-30 l = wakeAdmitted-refused (admittedFor-30 h c l)
 
     pub wakeAdmitted-31 : length c ≡ checkpointSize → sound h c ≡ false → wakeAdmitted k c out refuse go ≡ refuse 31
-    unfolding wakeAdmitted
-    wakeAdmitted-31 l s = ifOpen-refused (admitted k c) _ _ (admitted-open k c e ∙ admittedFor-31 h c l s)
+    wakeAdmitted-31 l s = wakeAdmitted-refused (admittedFor-31 h c l s)
 
-    pub wakeAdmitted-32 : length c ≡ checkpointSize → sound h c ≡ true → (length out ≡ checkpointSize → ⊥)
-        → wakeAdmitted k c out refuse go ≡ refuse 32
-    unfolding wakeAdmitted
-    wakeAdmitted-32 l s o =
-        ifOpen-accepted (admitted k c) _ _ (admitted-open k c e ∙ admittedFor-sound h c l s)
-        ∙ choose-f _ (ne-eqb _ _ o) refl
+    -- By what lets the checkpoint in, or by its length and soundness.
+    module _ (a : admittedFor h c ≡ accepted h) where
+      pub wakeAdmitted-short : (length out ≡ checkpointSize → ⊥) → wakeAdmitted k c out refuse go ≡ refuse 32
+      unfolding wakeAdmitted
+      wakeAdmitted-short o =
+          ifOpen-accepted (admitted k c) _ _ (admitted-open k c e ∙ a) ∙ choose-f _ (ne-eqb _ _ o) refl
 
-    pub wakeAdmitted-go : length c ≡ checkpointSize → sound h c ≡ true → length out ≡ checkpointSize
-        → wakeAdmitted k c out refuse go ≡ go h
-    unfolding wakeAdmitted
-    wakeAdmitted-go l s o =
-        ifOpen-accepted (admitted k c) _ _ (admitted-open k c e ∙ admittedFor-sound h c l s)
-        ∙ choose-t _ (eq-eqb _ _ o) refl
+      pub wakeAdmitted-whole : length out ≡ checkpointSize → wakeAdmitted k c out refuse go ≡ go h
+      unfolding wakeAdmitted
+      wakeAdmitted-whole o =
+          ifOpen-accepted (admitted k c) _ _ (admitted-open k c e ∙ a) ∙ choose-t _ (eq-eqb _ _ o) refl
+
+    module _ (l : length c ≡ checkpointSize) (s : sound h c ≡ true) where
+      pub wakeAdmitted-32 : (length out ≡ checkpointSize → ⊥) → wakeAdmitted k c out refuse go ≡ refuse 32
+      wakeAdmitted-32 = wakeAdmitted-short (admittedFor-sound h c l s)
+
+      pub wakeAdmitted-go : length out ≡ checkpointSize → wakeAdmitted k c out refuse go ≡ go h
+      wakeAdmitted-go = wakeAdmitted-whole (admittedFor-sound h c l s)
 
 -- ---- what is refused leaves the buffer as it was
 module _ {n : ℕ} {vs out : List ℕ} where

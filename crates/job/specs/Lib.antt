@@ -7,3 +7,4 @@ pub mod Reply
 pub mod Wake
 pub mod Report
 pub mod History
+pub mod Admission

@@ -4,7 +4,6 @@
 --     figuresAt s         the five figures and the decision of a state
 --     replyAt h s         the reply to a report at a state: 40 unless the book is finished, 41 if a record
 --                         was set aside, else the figures
---     admission r         the number, or the head, that the code's admission stands for
 --     reportReply k c     the reply to a report
 --     leftReply k c       the reply to a count: the records of the book, less those done
 --
@@ -17,13 +16,10 @@ use Rattle.mass.specs.declared.figures.Figures.{Figures}
 use Rattle.mass.specs.declared.figures.Warming.{Warming}
 use Rattle.mass.specs.Figures.{figuresOf}
 use Rattle.rules.specs.declared.book.Head.{Head}
-use Rattle.rules.specs.Book.{Answer, refused, accepted}
-use Rattle.job.specs.declared.report.Admission.{Admission}
-use Rattle.job.specs.declared.report.Admission.the-variants.{Refused, Sound}
 use Rattle.job.specs.State.{State}
 use Rattle.job.specs.Checkpoint.{decode}
 use Rattle.job.specs.Tally.{ledgersOf}
-use Rattle.job.specs.Reply.{Reply, reply, refusalNumber, figureValues}
+use Rattle.job.specs.Reply.{Reply, reply, figureValues}
 use Rattle.job.specs.Wake.{ifOpen, admitted}
 
 -- 21 for CH4 and 310 for N2O.
@@ -38,10 +34,6 @@ replyAt h s =
     choose (ltb (s .done) (h .n)) (reply 40 (s .done ∷ []))
     (choose (ltb 0 (s .aside)) (reply 41 (s .index ∷ s .reason ∷ []))
     (reply 0 (figureValues (figuresAt s))))
-
-unfoldable pub admission : Admission → Answer
-admission (Refused x) = refused (refusalNumber x)
-admission (Sound h) = accepted h
 
 unfoldable pub reportReply : List ℕ → List ℕ → Reply
 reportReply k c = ifOpen (admitted k c) (λ n. reply n []) (λ h. replyAt h (decode c))

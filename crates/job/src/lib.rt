@@ -1,5 +1,6 @@
 // The job: a fresh start, wakes that go on from a checkpoint, the report, and the count of what is left.
 // Bad input is answered with a number; nothing here asks anything of its caller.
+mod admission;
 pub mod checkpoint;
 mod hints;
 mod put;

@@ -1,5 +1,7 @@
 // The report: figures once every record was counted, and until then why they are withheld. Beside it
 // the count of the records left.
+use crate::admission;
+use crate::admission::Admission;
 use crate::checkpoint;
 use crate::reply::Refusal;
 use crate::reply::Remaining;
@@ -15,8 +17,8 @@ ghost use Prim.Native.Nat.{_≤_};
 ghost use Rattle.job.specs.State.{FitFor};
 ghost use Rattle.job.specs.Tally.{tallyOf, stateOf};
 ghost use Rattle.job.specs.Reply.{reported, remaining};
-ghost use Rattle.job.specs.Wake.{admittedFor, admitted};
-ghost use Rattle.job.specs.Report.{replyAt, admission, reportReply, leftReply};
+ghost use Rattle.job.specs.Report.{replyAt, reportReply, leftReply};
+ghost use Rattle.job.specs.Admission.{reportFor, leftFor};
 
 // How many kilograms of CO2 one of CH4, and one of N2O, stands for.
 const WARMING_CH4: u64 = 21;
@@ -26,52 +28,20 @@ const WARMING_N2O: u64 = 310;
 pub fn report(book: &[u8], from: &[u8]) -> Reported
     ensures reply { λ r. ⌜ reported r ≡ reportReply (now (book .entry)) (now (from .entry)) ⌝ }
 {
-    match admit(book, from) {
-        Admission::Refused(x) => Reported::NotReported(x),
-        Admission::Sound(h) => report_at(h, checkpoint::read(from)),
-    }
-}
-
-// How many records of the book are left.
-pub fn count_left(book: &[u8], from: &[u8]) -> Remaining
-    ensures reply { λ r. ⌜ remaining r ≡ leftReply (now (book .entry)) (now (from .entry)) ⌝ }
-{
-    match admit(book, from) {
-        Admission::Refused(x) => Remaining::Unknown(x),
-        Admission::Sound(h) => {
-            let t = checkpoint::read(from);
-            let left = h.n as u32 - t.done;
-            Remaining::Left(left)
-        }
-    }
-}
-
-enum Admission {
-    // The first rule that the book or the checkpoint breaks.
-    Refused(Refusal),
-    // The checkpoint is sound for the book with this head.
-    Sound(Head),
-}
-
-fn admit(book: &[u8], from: &[u8]) -> Admission
-    ensures admitted { λ r. ⌜ admission r ≡ admitted (now (book .entry)) (now (from .entry)) ⌝ }
-{
     match book::open(book) {
-        Opened::Wrong(fault) => Admission::Refused(Refusal::Book(fault)),
-        Opened::Open(h) => admit_for(h, from),
+        Opened::Wrong(fault) => Reported::NotReported(Refusal::Book(fault)),
+        Opened::Open(h) => report_open(h, from),
     }
 }
 
-fn admit_for(h: Head, from: &[u8]) -> Admission
-    ensures admitted { λ r. ⌜ admission r ≡ admittedFor h (now (from .entry)) ⌝ }
+fn report_open(h: Head, from: &[u8]) -> Reported
+    requires few { ⌜ h .n ≤ 131072 ⌝ }
+    ensures reply { λ r. ⌜ reported r ≡ reportFor h (now (from .entry)) ⌝ }
 {
-    if from.len() != checkpoint::SIZE {
-        return Admission::Refused(Refusal::CheckpointLength);
+    match admission::admit(h, from) {
+        Admission::Refused(x) => Reported::NotReported(x),
+        Admission::Sound => report_at(h, checkpoint::read(from)),
     }
-    if !checkpoint::is_sound(h, from) {
-        return Admission::Refused(Refusal::CheckpointUnsound);
-    }
-    Admission::Sound(h)
 }
 
 // A report of a state that is sound.
@@ -93,4 +63,28 @@ fn report_at(h: Head, t: Tally) -> Reported
         n2o: WARMING_N2O,
     };
     Reported::Given(figures::work_out(ledgers, warming))
+}
+
+// How many records of the book are left.
+pub fn count_left(book: &[u8], from: &[u8]) -> Remaining
+    ensures reply { λ r. ⌜ remaining r ≡ leftReply (now (book .entry)) (now (from .entry)) ⌝ }
+{
+    match book::open(book) {
+        Opened::Wrong(fault) => Remaining::Unknown(Refusal::Book(fault)),
+        Opened::Open(h) => count_left_open(h, from),
+    }
+}
+
+fn count_left_open(h: Head, from: &[u8]) -> Remaining
+    requires few { ⌜ h .n ≤ 131072 ⌝ }
+    ensures reply { λ r. ⌜ remaining r ≡ leftFor h (now (from .entry)) ⌝ }
+{
+    match admission::admit(h, from) {
+        Admission::Refused(x) => Remaining::Unknown(x),
+        Admission::Sound => {
+            let t = checkpoint::read(from);
+            let left = h.n as u32 - t.done;
+            Remaining::Left(left)
+        }
+    }
 }

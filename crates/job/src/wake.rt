@@ -1,4 +1,6 @@
 // A fresh start, and a wake that goes on from a checkpoint.
+use crate::admission;
+use crate::admission::Admission;
 use crate::checkpoint;
 use crate::reply::Refusal;
 use crate::reply::Started;
@@ -18,7 +20,7 @@ ghost use Rattle.rules.specs.Book.{opened, accepted};
 ghost use Rattle.job.specs.State as state;
 ghost use Rattle.job.specs.Tally.{tallyOf};
 ghost use Rattle.job.specs.Reply.{started, woken};
-ghost use Rattle.job.specs.Wake.{freshReply, freshBytes, wakeReply, wakeBytes};
+ghost use Rattle.job.specs.Wake.{freshReply, freshBytes, admittedFor, wakeReply, wakeBytes};
 
 // A checkpoint of the book with nothing done.
 pub fn fresh(book: &[u8], out: &mut [u8]) -> Started
@@ -80,19 +82,23 @@ pub fn wake(book: &[u8], from: &[u8], budget: u32, out: &mut [u8]) -> Woken
     }
 }
 
-// It makes the tests of `admit` in report.rt itself: a head that came back through one call more made a
-// wake of no record 15 ns slower, where it takes some 50.
 fn wake_open(book: &[u8], h: Head, from: &[u8], budget: u32, out: &mut [u8]) -> Woken
     requires opened { ⌜ opened (now book) ≡ accepted h ⌝ }
     ensures reply { λ r. ⌜ woken r ≡ wakeReply (now (book .entry)) (now (from .entry)) budget (now (out .entry)) ⌝ }
     ensures bytes { λ _. ⌜ now (out .exit) ≡ wakeBytes (now (book .entry)) (now (from .entry)) budget (now (out .entry)) ⌝ }
 {
-    if from.len() != checkpoint::SIZE {
-        return Woken::NotWoken(Refusal::CheckpointLength);
+    match admission::admit(h, from) {
+        Admission::Refused(x) => Woken::NotWoken(x),
+        Admission::Sound => wake_sound(book, h, from, budget, out),
     }
-    if !checkpoint::is_sound(h, from) {
-        return Woken::NotWoken(Refusal::CheckpointUnsound);
-    }
+}
+
+fn wake_sound(book: &[u8], h: Head, from: &[u8], budget: u32, out: &mut [u8]) -> Woken
+    requires opened { ⌜ opened (now book) ≡ accepted h ⌝ }
+    requires sound { ⌜ admittedFor h (now from) ≡ accepted h ⌝ }
+    ensures reply { λ r. ⌜ woken r ≡ wakeReply (now (book .entry)) (now (from .entry)) budget (now (out .entry)) ⌝ }
+    ensures bytes { λ _. ⌜ now (out .exit) ≡ wakeBytes (now (book .entry)) (now (from .entry)) budget (now (out .entry)) ⌝ }
+{
     if out.len() != checkpoint::SIZE {
         return Woken::NotWoken(Refusal::BufferLength);
     }

@@ -2,10 +2,10 @@
 use mathlib.Core.Path.{sym}
 use borrow.Author.Needs.{needs}
 use Rattle.choice.proofs.TestsLaws.{is-not, is-so}
-use Rattle.job.specs.Report.{admission}
+use Rattle.job.specs.Admission.{admission}
 use Rattle.job.proofs.WakeLaws.{admittedFor-30, admittedFor-31, admittedFor-sound}
-use Rattle.job.proofs.report.admit_for.Statement.{statement}
-use Rattle.job.proofs.report.admit_for.Tie as tie
+use Rattle.job.proofs.admission.admit.Statement.{statement}
+use Rattle.job.proofs.admission.admit.Tie as tie
 
 returns : tie.Need-returns
 unfolding admission
@@ -24,5 +24,5 @@ unfolding admission
 returns-3 c =
     sym (admittedFor-sound _ _ (c .before .before .if1 .left) (is-so (c .before .is-sound .ensures) (c .if2 .left)))
 
-pub admit-for-spec : {M : Type 1} → statement M
-admit-for-spec = tie.close (tie.spec returns is-sound-requires returns-2 returns-3)
+pub admit-spec : {M : Type 1} → statement M
+admit-spec = tie.close (tie.spec returns is-sound-requires returns-2 returns-3)
