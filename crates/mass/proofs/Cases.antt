@@ -1,15 +1,16 @@
--- The sums worked by hand, as far as they are masses: P1 to P3, P7 to P12. Assumes nothing.
+-- The sums worked by hand, as far as they are masses: P1 to P3, P7 to P12; and the figures of P1 alone.
+-- Assumes nothing.
 use Prim.Native.Nat.{_*_}
 use mathlib.Core.Bool.{true, false}
 use mathlib.Core.Path.{_≡_, refl}
 use lib.Ieee.{ofBits}
 use Rattle.mass.specs.declared.hour.Hour.the-variants.{Usable}
-use Rattle.mass.specs.Rounding.{nearestTo}
+use Rattle.mass.specs.Rounding.{nearestTo, halfUp}
 use Rattle.mass.specs.Fuel.{co2OfHeat, co2OfCarbon, traceOfHeat}
 use Rattle.mass.specs.Units.{unitsIn, natural}
 use Rattle.mass.specs.Hour.{upTo, readingsOf, judged, hourOf, roundedProduct, hourMass}
 use Rattle.mass.specs.Ledger.{tonne}
-use Rattle.mass.specs.Figures.{decisive, mustReport}
+use Rattle.mass.specs.Figures.{kgOf, decisive, mustReport}
 
 -- ---- fuel: 1,000 m3 of a gas of 38,000 kJ, 50,000 mg CO2, 900 µg CH4 and 90 µg N2O a MJ
 pub p1-co2 : co2OfHeat (record { 0 = 1000 }) (record { 0 = 38000 }) (record { 0 = 50000 })
@@ -103,3 +104,34 @@ p11-reports = refl
 pub p12-reports : mustReport (25000 * tonne) (16000 * tonne) ≡ true
 unfolding mustReport decisive
 p12-reports = refl
+
+-- ---- the figures of P1 alone, and of nothing
+pub p1-co2-kg : kgOf 1900000000000000 ≡ record { 0 = 1900 }
+unfolding kgOf halfUp
+p1-co2-kg = refl
+
+-- 34.2 g and 3.42 g are less than half a kilogram.
+pub p1-ch4-kg : kgOf 34200000000 ≡ record { 0 = 0 }
+unfolding kgOf halfUp
+p1-ch4-kg = refl
+
+pub p1-n2o-kg : kgOf 3420000000 ≡ record { 0 = 0 }
+unfolding kgOf halfUp
+p1-n2o-kg = refl
+
+-- The CO2 equivalent is 1,901.7784 kg: the CO2, 21 times the CH4 and 310 times the N2O.
+pub p1-co2e-kg : kgOf 1901778400000000 ≡ record { 0 = 1902 }
+unfolding kgOf halfUp
+p1-co2e-kg = refl
+
+pub p1-reports : mustReport 1901778400000000 0 ≡ false
+unfolding mustReport decisive
+p1-reports = refl
+
+pub nothing-kg : kgOf 0 ≡ record { 0 = 0 }
+unfolding kgOf halfUp
+nothing-kg = refl
+
+pub nothing-reports : mustReport 0 0 ≡ false
+unfolding mustReport decisive
+nothing-reports = refl
