@@ -1,5 +1,5 @@
--- The argument, from rows of tests to records: laws on plain values, what a reader owns, worked sums,
--- uniqueness.
+-- The argument, from bytes to records: laws on plain values, what a reader owns, worked sums,
+-- one whole book, uniqueness.
 pub mod BytesLaws
 pub mod BookLaws
 pub mod ListingLaws
@@ -9,4 +9,5 @@ pub mod RecordLaws
 pub mod ReaderLaws
 pub mod ReaderHeld
 pub mod Cases
+pub mod Sample
 pub mod Unique
