@@ -11,4 +11,5 @@ pub mod ReportLaws
 pub mod HistoryLaws
 pub mod Unique
 pub mod Demands
+pub mod Witness
 pub mod ShutOut
