@@ -1,22 +1,24 @@
 -- Programs that the contracts shut out by name: each would contradict a reply or a checkpoint that is
--- fixed. Assumes nothing.
+-- fixed of any accepted book, or of the book of Witness. Assumes nothing.
 use Prim.Native.Nat.{ℕ, suc, _+_, _-_, _<_}
 use mathlib.Core.List.{List, List·Memᴰ}
-use mathlib.Core.Path.{_≡_, sym, _∙_}
+use mathlib.Core.Path.{_≡_, refl, sym, _∙_}
 use native.Mathlib.Omega.{arith}
-use lib.ListN.{length}
+use lib.ListN.{length, replicate}
 use Rattle.mass.specs.Figures.{kgOf}
 use Rattle.rules.specs.declared.book.Head.{Head}
 use Rattle.rules.specs.Book.{accepted, opened}
 use Rattle.rules.specs.Record.{outcomeAt}
+use Rattle.rules.proofs.Sample.{sampleBook, sampleHead, opened-sampleBook, emptyBook, emptyHead, opened-emptyBook}
 use Rattle.job.specs.State.{asideOf, sumTo}
 use Rattle.job.specs.Checkpoint.{doneIn, asideIn, decode}
 use Rattle.job.specs.Reply.{Reply, reply}
-use Rattle.job.specs.Wake.{freshReply, wakeReply}
+use Rattle.job.specs.Wake.{freshReply, freshBytes, wakeReply, wakeBytes}
 use Rattle.job.specs.Report.{reportReply}
 use Rattle.job.specs.History.{Wakes, History}
 use Rattle.job.proofs.ReplyLaws.{refused-0, one-first}
 use Rattle.job.proofs.Demands.{Demand2, demand1, demand2, demand3}
+use Rattle.job.proofs.Witness.{Witness, witness, reportReply-emptyBook}
 
 module _ (k : List ℕ) (h : Head) (e : opened k ≡ accepted h) where
   -- A fresh start that refuses every book.
@@ -62,3 +64,40 @@ pub no-fixed-report : (k k′ : List ℕ) (h h′ : Head) (c c′ : List ℕ) �
     → (fixed : Reply) → reportReply k c ≡ fixed → reportReply k′ c′ ≡ fixed → ⊥
 no-fixed-report k k′ h h′ c c′ p q l z l′ z′ differ fixed r r′ =
     differ (one-first (sym (p .given l z) ∙ r) (sym (q .given l′ z′) ∙ r′))
+
+-- ---- with no premise, since the book of Witness is accepted, goes to its end and is reported
+-- Any number but 0 refuses or withholds.
+pub record Refuses (r : Reply) : Type 0 where
+  pub number : ℕ
+  pub values : List ℕ
+  pub refuses : r ≡ reply (suc number) values
+
+abbrev blank : List ℕ
+blank = replicate 96 0
+
+seen : Witness blank blank 1
+seen = witness blank blank 1 refl refl (omega arith)
+
+-- A fresh start that refuses every book.
+pub no-refusing-every-fresh : ((k out : List ℕ) → length out ≡ 96 → Refuses (freshReply k out)) → ⊥
+no-refusing-every-fresh f = refused-0 (seen .starts) (f sampleBook blank refl .refuses) (omega arith)
+
+-- A wake that refuses every checkpoint.
+pub no-refusing-every-wake : ((k c : List ℕ) (b : ℕ) (out : List ℕ) → length out ≡ 96 → Refuses (wakeReply k c b out))
+    → ⊥
+no-refusing-every-wake f = refused-0 (seen .wakes) (f sampleBook _ 1 blank refl .refuses) (omega arith)
+
+-- A report that withholds the totals of every book.
+pub no-refusing-every-report : ((k c : List ℕ) → Refuses (reportReply k c)) → ⊥
+no-refusing-every-report f = refused-0 (seen .reports) (f sampleBook _ .refuses) (omega arith)
+
+-- One fixed report for every accepted book that a wake took to its end.
+pub no-one-report : (fixed : Reply)
+    → ((k : List ℕ) (h : Head) (out next : List ℕ) → opened k ≡ accepted h → length out ≡ 96 → length next ≡ 96
+    → reportReply k (wakeBytes k (freshBytes k out) (h .n) next) ≡ fixed) → ⊥
+no-one-report fixed f =
+    let one = f sampleBook sampleHead blank blank opened-sampleBook refl refl in
+    let none = f emptyBook emptyHead blank blank opened-emptyBook refl refl in
+    let same : _≡_ {A = ℕ} 1900 0 =
+    one-first (sym (seen .reports) ∙ one) (sym (reportReply-emptyBook blank blank refl refl) ∙ none) in
+    omega arith
