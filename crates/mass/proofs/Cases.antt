@@ -4,6 +4,7 @@ use Prim.Native.Nat.{_*_}
 use mathlib.Core.Bool.{true, false}
 use mathlib.Core.Path.{_≡_, refl}
 use lib.Ieee.{ofBits}
+use Rattle.choice.proofs.TestsLaws.{worked-out}
 use Rattle.mass.specs.declared.hour.Hour.the-variants.{Usable}
 use Rattle.mass.specs.Rounding.{nearestTo, halfUp}
 use Rattle.mass.specs.Fuel.{co2OfHeat, co2OfCarbon, traceOfHeat}
@@ -53,57 +54,57 @@ p3-co2 = refl
 -- P7 reads 12.5 percent and 2,000,000 scf/h.
 pub p7-usable : hourOf 0x4148_0000 0x49F4_2400 ≡ Usable (readingsOf 0x4148_0000 0x49F4_2400)
 unfolding hourOf judged upTo natural unitsIn readingsOf ofBits
-p7-usable = refl
+p7-usable = simp worked-out
 
 pub p7-mass : hourMass (readingsOf 0x4148_0000 0x49F4_2400) ≡ record { 0 = 12950000000000 }
 unfolding hourMass roundedProduct nearestTo unitsIn readingsOf ofBits
-p7-mass = refl
+p7-mass = simp worked-out
 
 -- P8 reads 0.25 and 0.25: 62.5 goes down to the even 62.
 pub p8-usable : hourOf 0x3E80_0000 0x3E80_0000 ≡ Usable (readingsOf 0x3E80_0000 0x3E80_0000)
 unfolding hourOf judged upTo natural unitsIn readingsOf ofBits
-p8-usable = refl
+p8-usable = simp worked-out
 
 pub p8-rounded : roundedProduct 1000 (readingsOf 0x3E80_0000 0x3E80_0000) ≡ 62
 unfolding roundedProduct nearestTo unitsIn readingsOf ofBits
-p8-rounded = refl
+p8-rounded = simp worked-out
 
 pub p8-mass : hourMass (readingsOf 0x3E80_0000 0x3E80_0000) ≡ record { 0 = 32116 }
 unfolding hourMass roundedProduct nearestTo unitsIn readingsOf ofBits
-p8-mass = refl
+p8-mass = simp worked-out
 
 -- P9 reads 0.75 and 0.25: 187.5 goes up to the even 188.
 pub p9-usable : hourOf 0x3F40_0000 0x3E80_0000 ≡ Usable (readingsOf 0x3F40_0000 0x3E80_0000)
 unfolding hourOf judged upTo natural unitsIn readingsOf ofBits
-p9-usable = refl
+p9-usable = simp worked-out
 
 pub p9-rounded : roundedProduct 1000 (readingsOf 0x3F40_0000 0x3E80_0000) ≡ 188
 unfolding roundedProduct nearestTo unitsIn readingsOf ofBits
-p9-rounded = refl
+p9-rounded = simp worked-out
 
 pub p9-mass : hourMass (readingsOf 0x3F40_0000 0x3E80_0000) ≡ record { 0 = 97384 }
 unfolding hourMass roundedProduct nearestTo unitsIn readingsOf ofBits
-p9-mass = refl
+p9-mass = simp worked-out
 
 -- ---- the decision
 -- P10 has 10,000 t, none of it biomass CO2.
 pub p10-reports : mustReport (10000 * tonne) 0 ≡ true
 unfolding mustReport decisive
-p10-reports = refl
+p10-reports = simp worked-out
 
 -- P11 has 24,999 t, of which 16,000 t are biomass CO2: 15,000 t of them are left out.
 pub p11-decisive : decisive (24999 * tonne) (16000 * tonne) ≡ 9999 * tonne
 unfolding decisive
-p11-decisive = refl
+p11-decisive = simp worked-out
 
 pub p11-reports : mustReport (24999 * tonne) (16000 * tonne) ≡ false
 unfolding mustReport decisive
-p11-reports = refl
+p11-reports = simp worked-out
 
 -- P12 has 25,000 t, so that nothing is left out.
 pub p12-reports : mustReport (25000 * tonne) (16000 * tonne) ≡ true
 unfolding mustReport decisive
-p12-reports = refl
+p12-reports = simp worked-out
 
 -- ---- the figures of P1 alone, and of nothing
 pub p1-co2-kg : kgOf 1900000000000000 ≡ record { 0 = 1900 }
@@ -126,7 +127,7 @@ p1-co2e-kg = refl
 
 pub p1-reports : mustReport 1901778400000000 0 ≡ false
 unfolding mustReport decisive
-p1-reports = refl
+p1-reports = simp worked-out
 
 pub nothing-kg : kgOf 0 ≡ record { 0 = 0 }
 unfolding kgOf halfUp
@@ -134,4 +135,4 @@ nothing-kg = refl
 
 pub nothing-reports : mustReport 0 0 ≡ false
 unfolding mustReport decisive
-nothing-reports = refl
+nothing-reports = simp worked-out

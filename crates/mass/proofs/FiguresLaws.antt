@@ -1,10 +1,11 @@
 -- The figures by tonnes and rests, as the code works them out. Assumes nothing.
 use Prim.Native.Nat.{ℕ, _+_, _-_, _*_, _/_, _<_, _≤_, min}
-use mathlib.Core.Path.{_≡_, sym, ap, _∙_}
+use mathlib.Core.Path.{_≡_, refl, sym, ap, _∙_}
 use native.Mathlib.Nat.{mul-add, mul-assoc, mul-le-mul}
 use native.Mathlib.Omega.{arith}
 use lib.Dec.{leb}
 use borrow.Author.Tests.{lt-ltb, le-ltb, lt-leb, le-leb}
+use Rattle.choice.proofs.TestsLaws.{choose-t, choose-f}
 use Rattle.choice.proofs.Splitting.{if-lt}
 use Rattle.mass.specs.declared.Kg.{Kg}
 use Rattle.mass.specs.declared.ledger.Ledger.{Ledger}
@@ -64,11 +65,11 @@ co2eOf-tonnes-le t w s m =
 
 pub decisive-large : (v b : ℕ) → 25000 * tonne ≤ v → decisive v b ≡ v
 unfolding decisive
-decisive-large v b h = rw (le-ltb v (25000 * tonne) h)
+decisive-large v b h = choose-f _ (le-ltb v (25000 * tonne) h) refl
 
 pub decisive-small : (v b : ℕ) → v < 25000 * tonne → decisive v b ≡ v - min b (15000 * tonne)
 unfolding decisive
-decisive-small v b h = rw (lt-ltb v (25000 * tonne) h)
+decisive-small v b h = choose-t _ (lt-ltb v (25000 * tonne) h) refl
 
 -- Whole tonnes decide, since 10,000 t are whole.
 pub mustReport-tonnes : (v b : ℕ) → leb 10000 (ledgerOf (decisive v b) .tonnes) ≡ mustReport v b

@@ -10,6 +10,7 @@ use lib.Dec.{T, isLe, isEq, eqb, eqb-refl, eqb→eq, leb→le, nleb→lt}
 use lib.Ieee.{nearest}
 use lib.Ieee.Nearest.{closest, closest-same, closest-mono}
 use borrow.Author.Tests.{lt-ltb, le-ltb}
+use Rattle.choice.proofs.TestsLaws.{choose-t, choose-f}
 use Rattle.choice.proofs.Splitting.{if-lt, if-eq}
 use Rattle.mass.specs.Rounding.{nearestTo}
 
@@ -17,15 +18,18 @@ use Rattle.mass.specs.Rounding.{nearestTo}
 module _ (n d : ℕ) where
   pub nearestTo-below : 2 * (n % d) < d → nearestTo n d ≡ n / d
   unfolding nearestTo
-  nearestTo-below h = rw (lt-ltb (2 * (n % d)) d h)
+  nearestTo-below h = choose-t _ (lt-ltb (2 * (n % d)) d h) refl
 
   pub nearestTo-above : d < 2 * (n % d) → nearestTo n d ≡ n / d + 1
   unfolding nearestTo
-  nearestTo-above h = rw (le-ltb (2 * (n % d)) d (le-of-lt h), lt-ltb d (2 * (n % d)) h)
+  nearestTo-above h =
+      choose-f _ (le-ltb (2 * (n % d)) d (le-of-lt h)) (choose-t _ (lt-ltb d (2 * (n % d)) h) refl)
 
   pub nearestTo-half : 2 * (n % d) ≡ d → nearestTo n d ≡ n / d + n / d % 2
   unfolding nearestTo
-  nearestTo-half h = rw (le-ltb (2 * (n % d)) d (le-of-eq (sym h)), le-ltb d (2 * (n % d)) (le-of-eq h))
+  nearestTo-half h =
+      choose-f _ (le-ltb (2 * (n % d)) d (le-of-eq (sym h)))
+      (choose-f _ (le-ltb d (2 * (n % d)) (le-of-eq h)) refl)
 
   -- Any statement on the rounded number is proved case by case.
   pub nearestTo-cases : {G : Type 0} → (2 * (n % d) < d → G) → (d < 2 * (n % d) → G) → (2 * (n % d) ≡ d → G)

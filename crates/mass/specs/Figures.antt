@@ -11,8 +11,9 @@
 --
 -- Laws: proofs/FiguresLaws.antt. Definitions only.
 use Prim.Native.Nat.{ℕ, _+_, _-_, _*_, _≤_, min}
-use mathlib.Core.Bool.{Bool, cond}
+use mathlib.Core.Bool.{Bool}
 use lib.Dec.{ltb, leb}
+use Rattle.choice.specs.Tests.{choose}
 use Rattle.mass.specs.declared.Kg.{Kg}
 use Rattle.mass.specs.declared.ledger.Ledgers.{Ledgers}
 use Rattle.mass.specs.declared.figures.Warming.{Warming}
@@ -43,7 +44,7 @@ co2eOf t w = total (t .fossil) + total (t .biomass) + w .ch4 * total (t .ch4) + 
 
 -- Below 25,000 t the biomass CO2 is subtracted, at most 15,000 t of it.
 unfoldable pub decisive : ℕ → ℕ → ℕ
-decisive v b = cond (ltb v (25000 * tonne)) (v - min b (15000 * tonne)) v
+decisive v b = choose (ltb v (25000 * tonne)) (v - min b (15000 * tonne)) v
 
 unfoldable pub mustReport : ℕ → ℕ → Bool
 mustReport v b = leb (10000 * tonne) (decisive v b)

@@ -7,15 +7,15 @@
 -- `nearestTo` is the one number that `Nearest` allows: proofs/NearestLaws.antt. Other laws:
 -- proofs/RoundingLaws.antt. Definitions only.
 use Prim.Native.Nat.{ℕ, _+_, _*_, _/_, _%_, _≤_}
-use mathlib.Core.Bool.{cond}
 use mathlib.Core.Path.{_≡_}
 use lib.Dec.{ltb}
+use Rattle.choice.specs.Tests.{choose}
 
 -- It is the quotient where the remainder is below half the divisor, and one more where it is above.
 unfoldable pub nearestTo : ℕ → ℕ → ℕ
 nearestTo n d =
-    cond (ltb (2 * (n % d)) d) (n / d)
-    (cond (ltb d (2 * (n % d))) (n / d + 1)
+    choose (ltb (2 * (n % d)) d) (n / d)
+    (choose (ltb d (2 * (n % d))) (n / d + 1)
     (n / d + n / d % 2))
 
 -- It is n / d + 1 / 2 without its fraction.

@@ -1,5 +1,5 @@
--- The book that docs/FORMAT.md prints, "One book": it is accepted, and its record is that of P1. So is a
--- book of a trailer alone. Assumes nothing.
+-- The book that docs/FORMAT.md prints, "One book": it is accepted, and its record is that of P1. A book
+-- of a trailer alone is accepted too. Assumes nothing.
 use Prim.Native.Nat.{ℕ}
 use mathlib.Core.List.{List, [], _∷_}
 use mathlib.Core.Path.{_≡_}
