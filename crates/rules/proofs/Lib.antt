@@ -2,6 +2,7 @@
 -- one whole book, uniqueness.
 pub mod BytesLaws
 pub mod BookLaws
+pub mod NumberLaws
 pub mod ListingLaws
 pub mod MethodLaws
 pub mod EntryLaws
