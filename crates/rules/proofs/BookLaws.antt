@@ -62,7 +62,7 @@ module _ (ok : List ℕ → Bool) where
       let first = also-l _ _ h in
       (ltb-true _ _ (also-l _ _ first), also-r _ _ first, also-r _ _ h)
 
-  linesOk-each : (n k before : ℕ) (s : List ℕ) → linesOk ok before (lines n s) ≡ true → k < n
+  pub linesOk-each : (n k before : ℕ) (s : List ℕ) → linesOk ok before (lines n s) ≡ true → k < n
       → (ok (line k s) ≡ true) × (before < numberAt k s)
   linesOk-each zero k before s h l = absurd (not-suc-le-zero l)
   linesOk-each (suc n) zero before s h l =

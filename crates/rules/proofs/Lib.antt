@@ -3,6 +3,7 @@
 pub mod BytesLaws
 pub mod BookLaws
 pub mod NumberLaws
+pub mod RightLaws
 pub mod ListingLaws
 pub mod MethodLaws
 pub mod EntryLaws

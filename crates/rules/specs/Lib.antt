@@ -2,6 +2,7 @@
 pub mod Bytes
 pub mod Fields
 pub mod Book
+pub mod Right
 pub mod Method
 pub mod Entry
 pub mod Record
