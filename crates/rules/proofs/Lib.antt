@@ -8,6 +8,8 @@ pub mod ListingLaws
 pub mod MethodLaws
 pub mod EntryLaws
 pub mod RecordLaws
+pub mod ListedLaws
+pub mod ReasonLaws
 pub mod ReaderLaws
 pub mod ReaderHeld
 pub mod Cases

@@ -6,5 +6,6 @@ pub mod Right
 pub mod Method
 pub mod Entry
 pub mod Record
+pub mod Reason
 pub mod Listing
 pub mod Reader

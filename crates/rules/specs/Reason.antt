@@ -1,0 +1,61 @@
+-- When each reason applies to a record, told by itself: of the record's line l, the unit lines and the
+-- fuel lines, whatever else applies. RULES, "Reasons".
+--
+--     FuelRecord l, MonitorHour l    the kind of the record
+--     Listed x ls a                  a is a line of ls and has the number x
+--     Lacks x ls                     no line of ls has it
+--     Applies l units fuels k        reason k applies; each case is a ground for it
+--
+-- A ground that asks for the record's unit or fuel goes by its listed line. Numbers of listed lines rise,
+-- so that there is one such line at most.
+-- Laws: proofs/ReasonLaws.antt. Definitions only.
+use Prim.Native.Nat.{ℕ}
+use mathlib.Core.Bool.{false}
+use mathlib.Core.List.{List, List·Memᴰ}
+use mathlib.Core.Path.{_≡_}
+use lib.Ieee.{Float}
+use Rattle.mass.specs.declared.hour.Hour.the-variants.{Unusable}
+use Rattle.mass.specs.Hour.{hourOf}
+use Rattle.rules.specs.Fields.{number, monitored, kind, unitNumber, fuelNumber, percentBits, flowBits}
+use Rattle.rules.specs.Method.{methodOf}
+use Rattle.rules.specs.Entry.{heatInUse}
+use Rattle.rules.specs.Record.{fuelForm, hourForm, fuelRanges, hourRange}
+
+abbrev pub FuelRecord : List ℕ → Type 0
+FuelRecord l = kind l ≡ 1
+
+abbrev pub MonitorHour : List ℕ → Type 0
+MonitorHour l = kind l ≡ 2
+
+pub record Listed (x : ℕ) (ls : List (List ℕ)) (a : List ℕ) : Type 0 where
+  pub among : List·Memᴰ a ls
+  pub has : number a ≡ x
+
+abbrev pub Lacks : ℕ → List (List ℕ) → Type 0
+Lacks x ls = (a : List ℕ) → Listed x ls a → ⊥
+
+pub data Applies (l : List ℕ) (units fuels : List (List ℕ)) : ℕ → Type 0 where
+  -- 1: kind, flags or a byte that must be 0.
+  wrongKind : (FuelRecord l → ⊥) → (MonitorHour l → ⊥) → Applies l units fuels 1
+  wrongFuelForm : FuelRecord l → fuelForm l ≡ false → Applies l units fuels 1
+  wrongHourForm : MonitorHour l → hourForm l ≡ false → Applies l units fuels 1
+  -- 2: unit not listed.
+  noUnit : Lacks (unitNumber l) units → Applies l units fuels 2
+  -- 3: fuel not listed.
+  noFuel : FuelRecord l → Lacks (fuelNumber l) fuels → Applies l units fuels 3
+  -- 4: month, amount, heat or carbon out of range, the limit of carbon being that of the fuel's kind;
+  fuelOutside : (f : List ℕ) → FuelRecord l → Listed (fuelNumber l) fuels f → fuelRanges l f ≡ false
+      → Applies l units fuels 4
+  -- hour or reading out of range.
+  hourOutside : MonitorHour l → hourRange l ≡ false → Applies l units fuels 4
+  readingOutside : (x : Float) → MonitorHour l → hourOf (percentBits l) (flowBits l) ≡ Unusable x
+      → Applies l units fuels 4
+  -- 5: hour for a unit without monitor.
+  noMonitor : (u : List ℕ) → MonitorHour l → Listed (unitNumber l) units u → monitored u ≡ false
+      → Applies l units fuels 5
+  -- 6: no permitted method.
+  noMethod : (u f : List ℕ) → FuelRecord l → Listed (unitNumber l) units u → Listed (fuelNumber l) fuels f
+      → methodOf l u f ≡ 0 → Applies l units fuels 6
+  -- 7: no heat in use.
+  noHeat : (f : List ℕ) → FuelRecord l → Listed (fuelNumber l) fuels f → heatInUse l f ≡ 0
+      → Applies l units fuels 7
