@@ -1,88 +1,159 @@
 -- The three demands, as theorems. Read this file first.
 --
 -- k is a book, c a checkpoint, out the buffer lent for the next one, all as lists of bytes; b is a
--- budget. The code replies `freshReply`, `wakeReply` and `reportReply`, and leaves `freshBytes` and
--- `wakeBytes` in the buffer: those are its contracts, taken over below with their proofs. So what is
--- said here of these five is said of the code. Their definitions, and those of a book, of a record's
--- outcome and of a history, are what has to be believed: docs/TRUST.md has the list.
+-- budget. The code replies `freshReply`, `wakeReply`, `reportReply` and `leftReply`, leaves `freshBytes`
+-- and `wakeBytes` in the buffer, and finds `outcomeAt` and `sightAt` of single records: those are its
+-- contracts, taken over below with their proofs. So what is said here of these is said of the code.
+-- Their definitions, and those of a book, of a record's outcome and of a history, are what has to be
+-- believed: docs/TRUST.md has the list. Witness.antt shows of one book that nothing here is empty.
 --
 -- Assumes nothing.
 use Prim.Native.Nat.{ℕ, suc, _+_, _-_, _*_, _<_, _≤_, min}
-use mathlib.Core.Bool.{true, false}
+use mathlib.Core.Bool.{Bool, true, false}
 use mathlib.Core.List.{List, [], _∷_, List·Memᴰ}
 use mathlib.Core.Logic.{_↔_}
-use mathlib.Core.Path.{_≡_, ap, _∙_}
+use mathlib.Core.Path.{_≡_, sym, ap, _∙_}
 use lib.ListN.{length}
 use Rattle.choice.specs.Tests.{choose}
 use Rattle.mass.specs.Figures.{kgOf, mustReport}
 use Rattle.rules.specs.declared.book.Head.{Head}
 use Rattle.rules.specs.declared.record.Outcome.the-variants.{SetAside}
-use Rattle.rules.specs.Book.{refused, accepted, opened}
+use Rattle.rules.specs.Bytes.{line, linesIn}
+use Rattle.rules.specs.Book.{lengthOk, trailerOk, unitOk, fuelOk, linesSound, trailer, headOf, unitLines, fuelLines, refused, accepted, opened}
 use Rattle.rules.specs.Record.{outcomeAt}
+use Rattle.rules.specs.Reader.{shown, sightAt}
+use Rattle.rules.specs.Right.{RightLines}
 use Rattle.rules.proofs.BookLaws.{opened-number}
+use Rattle.rules.proofs.NumberLaws.{opened-20, opened-21, opened-22, opened-23, opened-accepted}
+use Rattle.rules.proofs.RightLaws.{linesSound-rightLines}
+use Rattle.rules.proofs.ReaderLaws.{sightAt-shown}
+use Rattle.rules.proofs.ReasonLaws.{Reasons, reasons-outcomeAt}
 use Rattle.job.specs.State.{State, fossilOf, biomassOf, ch4Of, n2oOf, asideOf, fresh, run, first, sumTo}
-use Rattle.job.specs.Checkpoint.{doneIn, asideIn, indexIn, reasonIn, sound, decode, encode}
+use Rattle.job.specs.Checkpoint.{checkpointSize, doneIn, asideIn, indexIn, reasonIn, sound, decode, encode}
 use Rattle.job.specs.Reply.{reply}
 use Rattle.job.specs.Wake.{moves, freshReply, freshBytes, wakeReply, wakeBytes}
-use Rattle.job.specs.Report.{reportReply}
+use Rattle.job.specs.Report.{reportReply, leftReply}
 use Rattle.job.specs.History.{Wakes, History, InTurn}
 use Rattle.job.proofs.StateLaws.{first-sums}
+use Rattle.job.proofs.CheckpointLaws.{fitFor-sound}
 use Rattle.job.proofs.WakeLaws.{freshAdmitted-book, freshAdmitted-32, freshAdmitted-go, freshBytes-kept}
 use Rattle.job.proofs.WakeLaws.{wakeAdmitted-book, wakeAdmitted-30, wakeAdmitted-31, wakeAdmitted-32, wakeAdmitted-go, wakeBytes-kept}
-use Rattle.job.proofs.ReportLaws.{reportReply-book, reportReply-30, reportReply-31, replyAt-40, replyAt-41, replyAt-0}
-use Rattle.job.proofs.HistoryLaws.{at-history, decode-history, wakes-history, ends-history, accepts-history}
-use Rattle.job.proofs.HistoryLaws.{done-inTurn, same-history, told-history, reportReply-history}
+use Rattle.job.proofs.ReportLaws.{reportReply-book, reportReply-30, reportReply-31, reportReply-at}
+use Rattle.job.proofs.ReportLaws.{leftReply-book, leftReply-30, leftReply-31, leftReply-at}
+use Rattle.job.proofs.ReportLaws.{replyAt-40, replyAt-41, replyAt-0, replyAt-exactly}
+use Rattle.job.proofs.HistoryLaws.{at-history, decode-history, sound-history, wakes-history, ends-history, accepts-history}
+use Rattle.job.proofs.HistoryLaws.{done-inTurn, same-history, told-history}
 -- The code meets its contracts.
 pub use Rattle.job.proofs.wake.fresh.Met.{met as fresh-meets-its-contract}
 pub use Rattle.job.proofs.wake.wake.Met.{met as wake-meets-its-contract}
 pub use Rattle.job.proofs.report.report.Met.{met as report-meets-its-contract}
+pub use Rattle.job.proofs.report.count_left.Met.{met as count-left-meets-its-contract}
+pub use Rattle.rules.proofs.record.judge.Met.{met as judge-meets-its-contract}
+pub use Rattle.rules.proofs.reader.look.Met.{met as look-meets-its-contract}
 
 -- ---- 1. Every book, checkpoint, budget and buffer gets a defined reply.
+-- A report of a checkpoint c of a book with the head h, whoever made it.
+pub record Reports (k : List ℕ) (h : Head) (c : List ℕ) : Type 0 where
+  -- Totals are given exactly when the book is finished and no record was set aside:
+  pub exactly : ((vs : List ℕ) × (reportReply k c ≡ reply 0 vs)) ↔ ((doneIn c ≡ h .n) × (asideIn c ≡ 0))
+  -- each rounded once from its exact mass, and the decision on exact masses.
+  pub given : doneIn c ≡ h .n → asideIn c ≡ 0
+      → let s = decode c in
+      let e = s .fossil + s .biomass + 21 * s .ch4 + 310 * s .n2o in
+      reportReply k c
+      ≡ reply 0 (kgOf (s .fossil) .0 ∷ kgOf (s .biomass) .0 ∷ kgOf (s .ch4) .0 ∷ kgOf (s .n2o) .0 ∷ kgOf e .0
+      ∷ choose (mustReport e (s .biomass)) 1 0 ∷ [])
+  -- Else it is told that the book isn't finished, or, once it is, the first record set aside.
+  pub within : doneIn c ≤ h .n
+  pub unfinished : doneIn c < h .n → reportReply k c ≡ reply 40 (doneIn c ∷ [])
+  pub withheld : doneIn c ≡ h .n → (asideIn c ≡ 0 → ⊥) → reportReply k c ≡ reply 41 (indexIn c ∷ reasonIn c ∷ [])
+
+pub reports : (k c : List ℕ) (h : Head) → opened k ≡ accepted h → length c ≡ checkpointSize → sound h c ≡ true
+    → Reports k h c
+unfolding decode
+reports k c h e l s =
+    let says = reportReply-at k c e l s in
+    let few = fitFor-sound h c s .done-le in
+    let only = replyAt-exactly h (decode c) few in
+    record {
+      exactly = (λ g. only .0 (g .0, sym says ∙ g .1), λ q. let g = only .1 q in (g .0, says ∙ g .1));
+      given = λ l z. says ∙ replyAt-0 h (decode c) l z;
+      within = few;
+      unfinished = λ l. says ∙ replyAt-40 h (decode c) l;
+      withheld = λ l z. says ∙ replyAt-41 h (decode c) l z;
+    }
+
 pub record Demand1 (k c : List ℕ) (b : ℕ) (out : List ℕ) : Type 0 where
-  -- A book that breaks the rules is turned away first, with its number, which is 20 to 23.
+  -- A book that breaks the rules is turned away first, with the first of these numbers that applies, and no other.
+  pub book-20 : (opened k ≡ refused 20) ↔ (lengthOk k ≡ false)
+  pub book-21 : (opened k ≡ refused 21) ↔ ((lengthOk k ≡ true) × (trailerOk (trailer k) (length k - 32) ≡ false))
+  pub book-22 : (opened k ≡ refused 22)
+      ↔ ((lengthOk k ≡ true) × (trailerOk (trailer k) (length k - 32) ≡ true)
+      × (linesSound unitOk (unitLines (headOf k) k) ≡ false))
+  pub book-23 : (opened k ≡ refused 23)
+      ↔ ((lengthOk k ≡ true) × (trailerOk (trailer k) (length k - 32) ≡ true)
+      × (linesSound unitOk (unitLines (headOf k) k) ≡ true) × (linesSound fuelOk (fuelLines (headOf k) k) ≡ false))
   pub book-number : (n : ℕ) → opened k ≡ refused n → (20 ≤ n) × (n ≤ 23)
-  pub book-fresh : (n : ℕ) → opened k ≡ refused n → freshReply k out ≡ reply n []
-  pub book-wake : (n : ℕ) → opened k ≡ refused n → wakeReply k c b out ≡ reply n []
-  pub book-report : (n : ℕ) → opened k ≡ refused n → reportReply k c ≡ reply n []
+  pub book-accepted : (h : Head) → (opened k ≡ accepted h)
+      ↔ ((lengthOk k ≡ true) × (trailerOk (trailer k) (length k - 32) ≡ true)
+      × (linesSound unitOk (unitLines (headOf k) k) ≡ true) × (linesSound fuelOk (fuelLines (headOf k) k) ≡ true)
+      × (h ≡ headOf k))
+  -- Unit or fuel lines are sound if there are at most 64, each is right by itself, and their numbers are above 0
+  -- and rise.
+  pub lines-right : (ok : List ℕ → Bool) (s : List ℕ) → (linesSound ok s ≡ true) ↔ RightLines ok s
+  pub refuses-book : (n : ℕ) → opened k ≡ refused n
+      → (freshReply k out ≡ reply n []) × (wakeReply k c b out ≡ reply n [])
+      × (reportReply k c ≡ reply n []) × (leftReply k c ≡ reply n [])
   -- Then a checkpoint that hasn't 96 bytes,
-  pub length-wake : (h : Head) → opened k ≡ accepted h → (length c ≡ 96 → ⊥) → wakeReply k c b out ≡ reply 30 []
-  pub length-report : (h : Head) → opened k ≡ accepted h → (length c ≡ 96 → ⊥) → reportReply k c ≡ reply 30 []
+  pub refuses-30 : (h : Head) → opened k ≡ accepted h → (length c ≡ checkpointSize → ⊥)
+      → (wakeReply k c b out ≡ reply 30 []) × (reportReply k c ≡ reply 30 []) × (leftReply k c ≡ reply 30 [])
   -- then one that isn't sound for the book,
-  pub sound-wake : (h : Head) → opened k ≡ accepted h → length c ≡ 96 → sound h c ≡ false
-      → wakeReply k c b out ≡ reply 31 []
-  pub sound-report : (h : Head) → opened k ≡ accepted h → length c ≡ 96 → sound h c ≡ false
-      → reportReply k c ≡ reply 31 []
+  pub refuses-31 : (h : Head) → opened k ≡ accepted h → length c ≡ checkpointSize → sound h c ≡ false
+      → (wakeReply k c b out ≡ reply 31 []) × (reportReply k c ≡ reply 31 []) × (leftReply k c ≡ reply 31 [])
   -- then a buffer that hasn't 96 bytes.
-  pub buffer-wake : (h : Head) → opened k ≡ accepted h → length c ≡ 96 → sound h c ≡ true
-      → (length out ≡ 96 → ⊥) → wakeReply k c b out ≡ reply 32 []
-  pub buffer-fresh : (h : Head) → opened k ≡ accepted h → (length out ≡ 96 → ⊥) → freshReply k out ≡ reply 32 []
-  -- All else is accepted.
-  pub accepts-fresh : (h : Head) → opened k ≡ accepted h → length out ≡ 96 → freshReply k out ≡ reply 0 []
-  pub accepts-wake : (h : Head) → opened k ≡ accepted h → length c ≡ 96 → sound h c ≡ true → length out ≡ 96
-      → wakeReply k c b out ≡ reply 0 (moves h c b ∷ [])
-  -- Every byte of the buffer is fixed then, also where no wake made the checkpoint.
-  pub writes-fresh : (h : Head) → opened k ≡ accepted h → length out ≡ 96 → freshBytes k out ≡ encode h fresh
-  pub writes-wake : (h : Head) → opened k ≡ accepted h → length c ≡ 96 → sound h c ≡ true → length out ≡ 96
-      → wakeBytes k c b out ≡ encode h (run h k (decode c) (moves h c b))
+  pub refuses-32-wake : (h : Head) → opened k ≡ accepted h → length c ≡ checkpointSize → sound h c ≡ true
+      → (length out ≡ checkpointSize → ⊥) → wakeReply k c b out ≡ reply 32 []
+  pub refuses-32-fresh : (h : Head) → opened k ≡ accepted h → (length out ≡ checkpointSize → ⊥) → freshReply k out ≡ reply 32 []
+  -- All else is accepted, also a sound checkpoint that no wake made.
+  pub accepts-fresh : (h : Head) → opened k ≡ accepted h → length out ≡ checkpointSize → freshReply k out ≡ reply 0 []
+  pub accepts-wake : (h : Head) → opened k ≡ accepted h → length c ≡ checkpointSize → sound h c ≡ true
+      → length out ≡ checkpointSize → wakeReply k c b out ≡ reply 0 (moves h c b ∷ [])
+  pub accepts-report : (h : Head) → opened k ≡ accepted h → length c ≡ checkpointSize → sound h c ≡ true → Reports k h c
+  pub accepts-left : (h : Head) → opened k ≡ accepted h → length c ≡ checkpointSize → sound h c ≡ true
+      → leftReply k c ≡ reply 0 ((h .n - doneIn c) ∷ [])
+  -- Every byte of the buffer is fixed then.
+  pub writes-fresh : (h : Head) → opened k ≡ accepted h → length out ≡ checkpointSize
+      → freshBytes k out ≡ encode h fresh
+  pub writes-wake : (h : Head) → opened k ≡ accepted h → length c ≡ checkpointSize → sound h c ≡ true
+      → length out ≡ checkpointSize → wakeBytes k c b out ≡ encode h (run h k (decode c) (moves h c b))
   -- What is turned away leaves the caller's memory untouched.
   pub kept-fresh : (n : ℕ) (vs : List ℕ) → freshReply k out ≡ reply (suc n) vs → freshBytes k out ≡ out
   pub kept-wake : (n : ℕ) (vs : List ℕ) → wakeReply k c b out ≡ reply (suc n) vs → wakeBytes k c b out ≡ out
 
 pub demand1 : (k c : List ℕ) (b : ℕ) (out : List ℕ) → Demand1 k c b out
-unfolding freshReply freshBytes wakeReply wakeBytes
+unfolding freshReply freshBytes wakeReply wakeBytes decode
 demand1 k c b out = record {
+  book-20 = opened-20 k;
+  book-21 = opened-21 k;
+  book-22 = opened-22 k;
+  book-23 = opened-23 k;
   book-number = opened-number k;
-  book-fresh = λ n. freshAdmitted-book k out _ _;
-  book-wake = λ n. wakeAdmitted-book k c out _ _;
-  book-report = λ n. reportReply-book k c;
-  length-wake = λ h. wakeAdmitted-30 k c out _ _;
-  length-report = λ h. reportReply-30 k c;
-  sound-wake = λ h. wakeAdmitted-31 k c out _ _;
-  sound-report = λ h. reportReply-31 k c;
-  buffer-wake = λ h. wakeAdmitted-32 k c out _ _;
-  buffer-fresh = λ h. freshAdmitted-32 k out _ _;
+  book-accepted = opened-accepted k;
+  lines-right = linesSound-rightLines;
+  refuses-book = λ n e. (
+    freshAdmitted-book k out _ _ e,
+    wakeAdmitted-book k c out _ _ e,
+    reportReply-book k c e,
+    leftReply-book k c e,
+  );
+  refuses-30 = λ h e l. (wakeAdmitted-30 k c out _ _ e l, reportReply-30 k c e l, leftReply-30 k c e l);
+  refuses-31 = λ h e l s. (wakeAdmitted-31 k c out _ _ e l s, reportReply-31 k c e l s, leftReply-31 k c e l s);
+  refuses-32-wake = λ h. wakeAdmitted-32 k c out _ _;
+  refuses-32-fresh = λ h. freshAdmitted-32 k out _ _;
   accepts-fresh = λ h. freshAdmitted-go k out _ _;
   accepts-wake = λ h. wakeAdmitted-go k c out _ _;
+  accepts-report = reports k c;
+  accepts-left = λ h. leftReply-at k c;
   writes-fresh = λ h. freshAdmitted-go k out _ _;
   writes-wake = λ h. wakeAdmitted-go k c out _ _;
   kept-fresh = λ n vs. freshBytes-kept k;
@@ -91,7 +162,11 @@ demand1 k c b out = record {
 
 -- ---- 2. A checkpoint c that any wakes from a fresh start left of an accepted book with the head h.
 pub record Demand2 (k : List ℕ) (h : Head) (c : List ℕ) : Type 0 where
-  -- Its ledgers are exact sums, in ng, of what each record gives by itself, and it counts those set aside.
+  -- A record is set aside for the first reason that applies; if none does it gives, by its method, the masses of
+  -- its amount, heat and carbon, or of its readings. `look` shows what becomes of it.
+  pub records : (i : ℕ) → Reasons (line i k) (linesIn (unitLines h k)) (linesIn (fuelLines h k)) (outcomeAt h k i)
+  pub looks : (i : ℕ) → i < h .n → sightAt k i ≡ shown (outcomeAt h k i)
+  -- The ledgers are exact sums, in ng, of what each record gives by itself, and those set aside are counted.
   pub fossil : decode c .fossil ≡ sumTo (λ i. fossilOf (outcomeAt h k i)) (doneIn c)
   pub biomass : decode c .biomass ≡ sumTo (λ i. biomassOf (outcomeAt h k i)) (doneIn c)
   pub ch4 : decode c .ch4 ≡ sumTo (λ i. ch4Of (outcomeAt h k i)) (doneIn c)
@@ -100,16 +175,8 @@ pub record Demand2 (k : List ℕ) (h : Head) (c : List ℕ) : Type 0 where
   -- It tells the first record that was set aside, and why.
   pub told : 0 < asideIn c → outcomeAt h k (indexIn c) ≡ SetAside (reasonIn c)
   pub none-before : 0 < asideIn c → (j : ℕ) → j < indexIn c → asideOf (outcomeAt h k j) ≡ 0
-  -- Totals are withheld while the book isn't finished, then if a record was set aside,
-  pub unfinished : doneIn c < h .n → reportReply k c ≡ reply 40 (doneIn c ∷ [])
-  pub withheld : doneIn c ≡ h .n → (asideIn c ≡ 0 → ⊥) → reportReply k c ≡ reply 41 (indexIn c ∷ reasonIn c ∷ [])
-  -- and else given: each rounded once from its exact mass, and the decision on exact masses.
-  pub given : doneIn c ≡ h .n → asideIn c ≡ 0
-      → let s = decode c in
-      let e = s .fossil + s .biomass + 21 * s .ch4 + 310 * s .n2o in
-      reportReply k c
-      ≡ reply 0 (kgOf (s .fossil) .0 ∷ kgOf (s .biomass) .0 ∷ kgOf (s .ch4) .0 ∷ kgOf (s .n2o) .0 ∷ kgOf e .0
-      ∷ choose (mustReport e (s .biomass)) 1 0 ∷ [])
+  -- Totals are withheld exactly when a record was set aside or the book isn't finished.
+  pub report : Reports k h c
 
 pub demand2 : (k : List ℕ) (h : Head) → opened k ≡ accepted h
     → (cs : List (List ℕ)) (c : List ℕ) → History k cs → List·Memᴰ c cs → Demand2 k h c
@@ -117,8 +184,10 @@ unfolding decode
 demand2 k h e cs c past i =
     let holds = decode-history k h e cs c past i in
     let sums = first-sums h k (doneIn c) in
-    let says = reportReply-history k h e cs c past i in
+    let good = sound-history k h e cs c past i in
     record {
+      records = λ j. reasons-outcomeAt h k j e;
+      looks = λ j. sightAt-shown k h j e;
       fossil = ap (λ (s : State). s .fossil) holds ∙ sums .fossil-sum;
       biomass = ap (λ (s : State). s .biomass) holds ∙ sums .biomass-sum;
       ch4 = ap (λ (s : State). s .ch4) holds ∙ sums .ch4-sum;
@@ -126,9 +195,7 @@ demand2 k h e cs c past i =
       aside = ap (λ (s : State). s .aside) holds ∙ sums .aside-sum;
       told = λ l. told-history k h e cs c past i l .set-aside;
       none-before = λ l. told-history k h e cs c past i l .none-before;
-      unfinished = λ l. says ∙ replyAt-40 h (decode c) l;
-      withheld = λ l z. says ∙ replyAt-41 h (decode c) l z;
-      given = λ l z. says ∙ replyAt-0 h (decode c) l z;
+      report = reports k c h e (good .0) (good .1);
     }
 
 -- ---- 3. The same, of a checkpoint c in a history cs, whichever earlier ones its wakes used.
@@ -137,7 +204,7 @@ pub record Demand3 (k : List ℕ) (h : Head) (c : List ℕ) : Type 0 where
   pub holds : c ≡ encode h (first h k (doneIn c))
   pub reads : decode c ≡ first h k (doneIn c)
   -- A wake from it is always accepted,
-  pub accepts : (b : ℕ) (out : List ℕ) → length out ≡ 96
+  pub accepts : (b : ℕ) (out : List ℕ) → length out ≡ checkpointSize
       → wakeReply k c b out ≡ reply 0 ((min (doneIn c + b) (h .n) - doneIn c) ∷ [])
   -- and with budget b ends at min (p + b) n, holding exactly what that many records give.
   pub ends : (b m : ℕ) (d : List ℕ) → Wakes k c b m d → doneIn d ≡ min (doneIn c + b) (h .n)

@@ -199,10 +199,8 @@ module _ (k : List ℕ) (h : Head) (e : opened k ≡ accepted h) where
       (sym (decode-history cs c past i))
       (first-index h k (doneIn c))
 
-  pub reportReply-history : (cs : List (List ℕ)) (c : List ℕ) → History k cs → List·Memᴰ c cs
-      → reportReply k c ≡ replyAt h (decode c)
-  reportReply-history cs c past i =
+  pub sound-history : (cs : List (List ℕ)) (c : List ℕ) → History k cs → List·Memᴰ c cs
+      → (length c ≡ checkpointSize) × (sound h c ≡ true)
+  sound-history cs c past i =
       let at = at-history cs c past i in
-      reportReply-at k c e
-      (ap length (at .1) ∙ length-encode h (first h k (doneIn c)))
-      (ap (sound h) (at .1) ∙ sound-first (doneIn c) (at .0))
+      (ap length (at .1) ∙ length-encode h (first h k (doneIn c)), ap (sound h) (at .1) ∙ sound-first (doneIn c) (at .0))

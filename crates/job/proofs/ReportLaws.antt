@@ -1,13 +1,15 @@
 -- The reply to a report and to a count, one case at a time. Assumes nothing.
-use Prim.Native.Nat.{ℕ, _+_, _-_, _*_, _<_}
+use Prim.Native.Nat.{ℕ, _+_, _-_, _*_, _<_, _≤_}
 use mathlib.Core.Bool.{true, false}
 use mathlib.Core.List.{List, [], _∷_}
+use mathlib.Core.Logic.{_↔_}
 use mathlib.Core.Path.{_≡_, refl, sym, ap, _∙_}
 use native.Mathlib.Omega.{arith}
 use lib.ListN.{length}
 use borrow.Author.Tests.{lt-ltb, le-ltb}
 use Rattle.choice.specs.Tests.{choose}
 use Rattle.choice.proofs.TestsLaws.{choose-t, choose-f}
+use Rattle.choice.proofs.Splitting.{if-lt, if-eq}
 use Rattle.mass.specs.declared.figures.Figures.{Figures}
 use Rattle.mass.specs.Figures.{kgOf, mustReport}
 use Rattle.mass.proofs.FiguresLaws.{figuresOf-ledgers}
@@ -23,6 +25,7 @@ use Rattle.job.specs.Report.{warming, figuresAt, replyAt, reportReply, l
 use Rattle.job.specs.Wake.{ifOpen, admittedFor, admitted}
 use Rattle.job.specs.Admission.{reportFor, leftFor}
 use Rattle.job.proofs.CheckpointLaws.{length-encode, decode-encode, sound-encode, stateOf-tallyIn}
+use Rattle.job.proofs.ReplyLaws.{refused-0}
 use Rattle.job.proofs.WakeLaws.{ifOpen-refused, ifOpen-accepted, records-le}
 use Rattle.job.proofs.WakeLaws.{admittedFor-30, admittedFor-31, admittedFor-sound, admitted-book, admitted-open}
 
@@ -127,3 +130,14 @@ module _ (h : Head) (s : State) where
       choose-f _ (le-ltb (s .done) (h .n) (omega arith)) (choose-f _ (le-ltb 0 (s .aside) (omega arith)) refl)
       ∙ ap (λ (f : Figures). reply 0 (figureValues f))
       (figuresOf-ledgers (s .fossil) (s .biomass) (s .ch4) (s .n2o) warming)
+
+  -- Figures are given exactly when the book is finished and no record was set aside.
+  pub replyAt-exactly : s .done ≤ h .n
+      → ((vs : List ℕ) × (replyAt h s ≡ reply 0 vs)) ↔ ((s .done ≡ h .n) × (s .aside ≡ 0))
+  replyAt-exactly few = (
+    λ g.
+        if-lt (s .done) (h .n) (λ l. absurd (refused-0 (g .1) (replyAt-40 l) (omega arith))) (λ l.
+        let end : s .done ≡ h .n = omega arith in
+        if-eq (s .aside) 0 (λ z. (end, z)) (λ z. absurd (refused-0 (g .1) (replyAt-41 end z) (omega arith)))),
+    λ q. (_, replyAt-0 (q .0) (q .1)),
+  )

@@ -11,7 +11,7 @@ use Rattle.rules.specs.Book.{accepted, opened}
 use Rattle.rules.specs.Record.{outcomeAt}
 use Rattle.rules.proofs.Sample.{sampleBook, sampleHead, opened-sampleBook, emptyBook, emptyHead, opened-emptyBook}
 use Rattle.job.specs.State.{asideOf, sumTo}
-use Rattle.job.specs.Checkpoint.{doneIn, asideIn, decode}
+use Rattle.job.specs.Checkpoint.{checkpointSize, doneIn, asideIn, decode}
 use Rattle.job.specs.Reply.{Reply, reply}
 use Rattle.job.specs.Wake.{freshReply, freshBytes, wakeReply, wakeBytes}
 use Rattle.job.specs.Report.{reportReply}
@@ -22,20 +22,20 @@ use Rattle.job.proofs.Witness.{Witness, witness, reportReply-emptyBook}
 
 module _ (k : List ℕ) (h : Head) (e : opened k ≡ accepted h) where
   -- A fresh start that refuses every book.
-  pub no-refusing-fresh : (out : List ℕ) (n : ℕ) (vs : List ℕ) → length out ≡ 96
+  pub no-refusing-fresh : (out : List ℕ) (n : ℕ) (vs : List ℕ) → length out ≡ checkpointSize
       → freshReply k out ≡ reply (suc n) vs → ⊥
   no-refusing-fresh out n vs o r = refused-0 (demand1 k out 0 out .accepts-fresh h e o) r (omega arith)
 
   module _ (cs : List (List ℕ)) (c : List ℕ) (past : History k cs) (i : List·Memᴰ c cs) where
     -- A wake that refuses a checkpoint which an earlier one left.
-    pub no-refusing-wake : (b : ℕ) (out : List ℕ) (n : ℕ) (vs : List ℕ) → length out ≡ 96
+    pub no-refusing-wake : (b : ℕ) (out : List ℕ) (n : ℕ) (vs : List ℕ) → length out ≡ checkpointSize
         → wakeReply k c b out ≡ reply (suc n) vs → ⊥
     no-refusing-wake b out n vs o r = refused-0 (demand3 k h e cs c past i .accepts b out o) r (omega arith)
 
     -- A report that withholds the totals of a finished book, no record of which was set aside.
     pub no-refusing-report : (n : ℕ) (vs : List ℕ) → doneIn c ≡ h .n → asideIn c ≡ 0
         → reportReply k c ≡ reply (suc n) vs → ⊥
-    no-refusing-report n vs l z r = refused-0 (demand2 k h e cs c past i .given l z) r (omega arith)
+    no-refusing-report n vs l z r = refused-0 (demand2 k h e cs c past i .report .given l z) r (omega arith)
 
     module _ (b m : ℕ) (d : List ℕ) (w : Wakes k c b m d) where
       -- A wake that moves nothing, though it has a budget and the book isn't finished.
@@ -63,7 +63,7 @@ pub no-fixed-report : (k k′ : List ℕ) (h h′ : Head) (c c′ : List ℕ) �
     → (kgOf (decode c .fossil) .0 ≡ kgOf (decode c′ .fossil) .0 → ⊥)
     → (fixed : Reply) → reportReply k c ≡ fixed → reportReply k′ c′ ≡ fixed → ⊥
 no-fixed-report k k′ h h′ c c′ p q l z l′ z′ differ fixed r r′ =
-    differ (one-first (sym (p .given l z) ∙ r) (sym (q .given l′ z′) ∙ r′))
+    differ (one-first (sym (p .report .given l z) ∙ r) (sym (q .report .given l′ z′) ∙ r′))
 
 -- ---- with no premise, since the book of Witness is accepted, goes to its end and is reported
 -- Any number but 0 refuses or withholds.
@@ -73,17 +73,17 @@ pub record Refuses (r : Reply) : Type 0 where
   pub refuses : r ≡ reply (suc number) values
 
 abbrev blank : List ℕ
-blank = replicate 96 0
+blank = replicate checkpointSize 0
 
 seen : Witness blank blank 1
 seen = witness blank blank 1 refl refl (omega arith)
 
 -- A fresh start that refuses every book.
-pub no-refusing-every-fresh : ((k out : List ℕ) → length out ≡ 96 → Refuses (freshReply k out)) → ⊥
+pub no-refusing-every-fresh : ((k out : List ℕ) → length out ≡ checkpointSize → Refuses (freshReply k out)) → ⊥
 no-refusing-every-fresh f = refused-0 (seen .starts) (f sampleBook blank refl .refuses) (omega arith)
 
 -- A wake that refuses every checkpoint.
-pub no-refusing-every-wake : ((k c : List ℕ) (b : ℕ) (out : List ℕ) → length out ≡ 96 → Refuses (wakeReply k c b out))
+pub no-refusing-every-wake : ((k c : List ℕ) (b : ℕ) (out : List ℕ) → length out ≡ checkpointSize → Refuses (wakeReply k c b out))
     → ⊥
 no-refusing-every-wake f = refused-0 (seen .wakes) (f sampleBook _ 1 blank refl .refuses) (omega arith)
 
@@ -93,7 +93,7 @@ no-refusing-every-report f = refused-0 (seen .reports) (f sampleBook _ .refuses)
 
 -- One fixed report for every accepted book that a wake took to its end.
 pub no-one-report : (fixed : Reply)
-    → ((k : List ℕ) (h : Head) (out next : List ℕ) → opened k ≡ accepted h → length out ≡ 96 → length next ≡ 96
+    → ((k : List ℕ) (h : Head) (out next : List ℕ) → opened k ≡ accepted h → length out ≡ checkpointSize → length next ≡ checkpointSize
     → reportReply k (wakeBytes k (freshBytes k out) (h .n) next) ≡ fixed) → ⊥
 no-one-report fixed f =
     let one = f sampleBook sampleHead blank blank opened-sampleBook refl refl in

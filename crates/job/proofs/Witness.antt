@@ -19,7 +19,7 @@ use Rattle.rules.proofs.Cases.{counted}
 use Rattle.rules.proofs.Sample.{sampleBook, sampleHead, opened-sampleBook, outcomeAt-sampleBook}
 use Rattle.rules.proofs.Sample.{emptyBook, emptyHead, opened-emptyBook}
 use Rattle.job.specs.State.{fossilOf, biomassOf, ch4Of, n2oOf, asideOf, sumTo}
-use Rattle.job.specs.Checkpoint.{doneIn}
+use Rattle.job.specs.Checkpoint.{checkpointSize, doneIn}
 use Rattle.job.specs.Reply.{Reply, reply}
 use Rattle.job.specs.Wake.{freshReply, freshBytes, wakeReply, wakeBytes}
 use Rattle.job.specs.Report.{reportReply}
@@ -46,7 +46,7 @@ module _ (k : List ℕ) (h : Head) (e : opened k ≡ accepted h) where
   abbrev sum : (Outcome → ℕ) → ℕ
   sum g = sumTo (λ i. g (outcomeAt h k i)) (h .n)
 
-  module _ (out : List ℕ) (o : length out ≡ 96) where
+  module _ (out : List ℕ) (o : length out ≡ checkpointSize) where
     abbrev start : List ℕ
     start = freshBytes k out
 
@@ -59,9 +59,9 @@ module _ (k : List ℕ) (h : Head) (e : opened k ≡ accepted h) where
     reportReply-start : 0 < h .n → reportReply k start ≡ reply 40 (0 ∷ [])
     reportReply-start l =
         let at = none-done in
-        demands 0 start begun .0 .unfinished (omega arith) ∙ ap (λ (d : ℕ). reply 40 (d ∷ [])) at
+        demands 0 start begun .0 .report .unfinished (omega arith) ∙ ap (λ (d : ℕ). reply 40 (d ∷ [])) at
 
-    module _ (next : List ℕ) (p : length next ≡ 96) (b : ℕ) (l : h .n ≤ b) where
+    module _ (next : List ℕ) (p : length next ≡ checkpointSize) (b : ℕ) (l : h .n ≤ b) where
       abbrev end : List ℕ
       end = wakeBytes k start b next
 
@@ -88,7 +88,7 @@ module _ (k : List ℕ) (h : Head) (e : opened k ≡ accepted h) where
           let biomass = whole biomassOf (says .biomass) v in
           let ch4 = whole ch4Of (says .ch4) c in
           let n2o = whole n2oOf (says .n2o) n in
-          says .given all-done (whole asideOf (says .aside) a)
+          says .report .given all-done (whole asideOf (says .aside) a)
           ∙ (λ i. figures (fossil i) (biomass i) (ch4 i) (n2o i))
 
 -- ---- what the one record gives
@@ -116,7 +116,7 @@ pub record Witness (out next : List ℕ) (b : ℕ) : Type 0 where
   pub reports : reportReply sampleBook (wakeBytes sampleBook (freshBytes sampleBook out) b next)
       ≡ reply 0 (1900 ∷ 0 ∷ 0 ∷ 0 ∷ 1902 ∷ 0 ∷ [])
 
-pub witness : (out next : List ℕ) (b : ℕ) → length out ≡ 96 → length next ≡ 96 → 1 ≤ b → Witness out next b
+pub witness : (out next : List ℕ) (b : ℕ) → length out ≡ checkpointSize → length next ≡ checkpointSize → 1 ≤ b → Witness out next b
 witness out next b o p l = record {
   starts = demand1 sampleBook out b out .accepts-fresh sampleHead opened-sampleBook o;
   waits = reportReply-start sampleBook sampleHead opened-sampleBook out o (lit< tt);
@@ -129,7 +129,7 @@ witness out next b o p l = record {
 }
 
 -- ---- a book with no record, which is at its end at once
-pub reportReply-emptyBook : (out next : List ℕ) → length out ≡ 96 → length next ≡ 96
+pub reportReply-emptyBook : (out next : List ℕ) → length out ≡ checkpointSize → length next ≡ checkpointSize
     → reportReply emptyBook (wakeBytes emptyBook (freshBytes emptyBook out) 0 next)
     ≡ reply 0 (0 ∷ 0 ∷ 0 ∷ 0 ∷ 0 ∷ 0 ∷ [])
 unfolding sumTo

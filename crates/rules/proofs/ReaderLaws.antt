@@ -1,15 +1,20 @@
--- The sight of each answer, and that it is of one answer only. Assumes nothing.
+-- The sight of each answer and of each record, and that it is of one answer only. Assumes nothing.
+use Prim.Native.Nat.{ℕ, _<_}
+use mathlib.Core.List.{List}
 use mathlib.Core.Path.{_≡_, refl, sym, ap, _∙_}
 use lib.Dec.{eqb}
+use borrow.Author.Tests.{lt-ltb}
 use Rattle.choice.specs.Tests.{choose}
-use Rattle.choice.proofs.TestsLaws.{worked-out}
+use Rattle.choice.proofs.TestsLaws.{choose-t, worked-out}
+use Rattle.rules.specs.declared.book.Head.{Head}
 use Rattle.rules.specs.declared.book.Fault.{Fault}
 use Rattle.rules.specs.declared.book.Fault.the-variants.{Length, Trailer, Units, Fuels}
 use Rattle.rules.specs.declared.reader.Seen.{Seen}
 use Rattle.rules.specs.declared.reader.Seen.the-variants.{Refused, Missing, Record}
 use Rattle.rules.specs.declared.record.Outcome.{Outcome}
-use Rattle.rules.specs.Book.{faultNumber}
-use Rattle.rules.specs.Reader.{Sight, turnedAway, missing, shown, sight}
+use Rattle.rules.specs.Book.{Answer, accepted, opened, faultNumber}
+use Rattle.rules.specs.Record.{outcomeAt}
+use Rattle.rules.specs.Reader.{Sight, turnedAway, missing, shown, sightBy, sightAt, sight}
 
 -- ---- the sight of each answer
 pub sight-refused : (x : Fault) → sight (Refused x) ≡ turnedAway (faultNumber x)
@@ -23,6 +28,13 @@ sight-missing = refl
 pub sight-record : (o : Outcome) → sight (Record o) ≡ shown o
 unfolding sight
 sight-record o = refl
+
+-- ---- a record of an accepted book
+pub sightAt-shown : (s : List ℕ) (h : Head) (i : ℕ) → opened s ≡ accepted h → i < h .n
+    → sightAt s i ≡ shown (outcomeAt h s i)
+unfolding sightAt sightBy
+sightAt-shown s h i e l =
+    ap (λ (a : Answer). sightBy a s i) e ∙ choose-t missing (lt-ltb i (h .n) l) refl
 
 -- ---- one answer only
 -- What `look` gave, from the sight that it stands for.

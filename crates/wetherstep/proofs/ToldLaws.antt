@@ -54,23 +54,23 @@ module _ (P : Reply → Type 0) (refuse : (n : ℕ) → 20 ≤ n → n ≤ 32 �
   freshReply-each : (out : List ℕ) → P (reply 0 []) → P (freshReply k out)
   freshReply-each out starts =
       let says = demand1 k [] 0 out in
-      by-book (freshReply k out) (says .book-fresh) (λ h e.
+      by-book (freshReply k out) (λ n e. says .refuses-book n e .0) (λ h e.
       if-eq (length out) 96
       (λ o. subst P (sym (says .accepts-fresh h e o)) starts)
-      (λ o. subst P (sym (says .buffer-fresh h e o)) (refuse 32 (lit≤ tt) (lit≤ tt))))
+      (λ o. subst P (sym (says .refuses-32-fresh h e o)) (refuse 32 (lit≤ tt) (lit≤ tt))))
 
   wakeReply-each : (c : List ℕ) (b : ℕ) (out : List ℕ) → ((m : ℕ) → P (reply 0 (m ∷ [])))
       → P (wakeReply k c b out)
   wakeReply-each c b out moves =
       let says = demand1 k c b out in
-      by-book (wakeReply k c b out) (says .book-wake) (λ h e.
+      by-book (wakeReply k c b out) (λ n e. says .refuses-book n e .1) (λ h e.
       if-eq (length c) 96
       (λ l. if-test (sound h c)
       (λ s. if-eq (length out) 96
       (λ o. subst P (sym (says .accepts-wake h e l s o)) (moves _))
-      (λ o. subst P (sym (says .buffer-wake h e l s o)) (refuse 32 (lit≤ tt) (lit≤ tt))))
-      (λ s. subst P (sym (says .sound-wake h e l s)) (refuse 31 (lit≤ tt) (lit≤ tt))))
-      (λ l. subst P (sym (says .length-wake h e l)) (refuse 30 (lit≤ tt) (lit≤ tt))))
+      (λ o. subst P (sym (says .refuses-32-wake h e l s o)) (refuse 32 (lit≤ tt) (lit≤ tt))))
+      (λ s. subst P (sym (says .refuses-31 h e l s .0)) (refuse 31 (lit≤ tt) (lit≤ tt))))
+      (λ l. subst P (sym (says .refuses-30 h e l .0)) (refuse 30 (lit≤ tt) (lit≤ tt))))
 
   module _ (unfinished : (d : ℕ) → P (reply 40 (d ∷ [])))
       (withheld : (i x : ℕ) → x < 256 → P (reply 41 (i ∷ x ∷ [])))
@@ -91,12 +91,12 @@ module _ (P : Reply → Type 0) (refuse : (n : ℕ) → 20 ≤ n → n ≤ 32 �
     reportReply-each : (c : List ℕ) → P (reportReply k c)
     reportReply-each c =
         let says = demand1 k c 0 [] in
-        by-book (reportReply k c) (says .book-report) (λ h e.
+        by-book (reportReply k c) (λ n e. says .refuses-book n e .2) (λ h e.
         if-eq (length c) 96
         (λ l. if-test (sound h c)
         (λ s. subst P (sym (reportReply-at k c e l s)) (replyAt-each h c s))
-        (λ s. subst P (sym (says .sound-report h e l s)) (refuse 31 (lit≤ tt) (lit≤ tt))))
-        (λ l. subst P (sym (says .length-report h e l)) (refuse 30 (lit≤ tt) (lit≤ tt))))
+        (λ s. subst P (sym (says .refuses-31 h e l s .1)) (refuse 31 (lit≤ tt) (lit≤ tt))))
+        (λ l. subst P (sym (says .refuses-30 h e l .1)) (refuse 30 (lit≤ tt) (lit≤ tt))))
 
 -- ---- every reply is read back
 test : {x n : ℕ} {t : Bool} (m : ℕ) → x ≡ n → eqb n m ≡ t → eqb x m ≡ t
