@@ -20,7 +20,7 @@ use Rattle.queue.specs.declared.reply.AfterRemove.{AfterRemove}
 use Rattle.queue.specs.Slots.{slotCount, slotAt, isFree, freeAt, stored}
 use Rattle.queue.specs.Reply.{addReply, removeReply}
 use Rattle.queue.specs.Books.{lowestFree, added, removed}
-use Rattle.queue.proofs.LowestLaws.{lowest-none, lowest-true, lowest-false}
+use Rattle.queue.proofs.LowestLaws.{lowest-unique, lowest-none, lowest-true, lowest-false}
 use Rattle.queue.proofs.SlotsLaws.{slotAt-past, slotAt-stored, slotAt-stored-taken}
 use Rattle.queue.proofs.ReplyLaws.{reply-apart}
 
@@ -50,6 +50,11 @@ module _ (q : Queue) where
   unfolding lowestFree freeAt
   lowestFree-none taken = lowest-none (freeAt q) slotCount taken
 
+  lowestFree-unique : (s : ℕ) → s < slotCount → isFree (slotAt q s) ≡ true
+      → ((i : ℕ) → i < s → isFree (slotAt q i) ≡ false) → lowestFree q ≡ s
+  unfolding lowestFree freeAt
+  lowestFree-unique s l free taken = lowest-unique (freeAt q) slotCount s l free taken
+
   -- ---- adding, by cases
   pub added-at : (n : ℕ) → lowestFree q < slotCount
       → added q n ≡ record { answer = At (lowestFree q); queue = stored q (lowestFree q) (Book n) }
@@ -67,6 +72,12 @@ module _ (q : Queue) where
   addReply-full : (n : ℕ) → slotCount ≤ lowestFree q → addReply (added q n .answer) ≡ reply 50 []
   unfolding addReply
   addReply-full n l = ap (λ (r : AfterAdd). addReply (r .answer)) (added-full n l)
+
+  pub addReply-accepted : (n s : ℕ) → s < slotCount → isFree (slotAt q s) ≡ true
+      → ((i : ℕ) → i < s → isFree (slotAt q i) ≡ false) → addReply (added q n .answer) ≡ reply 0 (s ∷ [])
+  addReply-accepted n s l free taken =
+      let here = lowestFree-unique s l free taken in
+      addReply-at n (omega arith) ∙ ap (λ (i : ℕ). reply 0 (i ∷ [])) here
 
   pub added-lowest : (n s : ℕ) → added q n .answer ≡ At s → AddedAt q n s
   added-lowest n s a =
@@ -123,6 +134,10 @@ module _ (q : Queue) where
   removeReply-gone : (i : ℕ) → freeAt q i ≡ false → removeReply (removed q i .answer) ≡ reply 0 []
   unfolding removeReply
   removeReply-gone i taken = ap (λ (r : AfterRemove). removeReply (r .answer)) (removed-gone i taken)
+
+  pub removeReply-accepted : (i : ℕ) → isFree (slotAt q i) ≡ false → removeReply (removed q i .answer) ≡ reply 0 []
+  unfolding freeAt
+  removeReply-accepted = removeReply-gone
 
   pub removed-from : (i : ℕ) → removed q i .answer ≡ Gone → RemovedFrom q i
   unfolding freeAt

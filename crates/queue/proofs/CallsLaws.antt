@@ -6,7 +6,7 @@ use mathlib.Core.List.{List, [], _∷_, _++_}
 use mathlib.Core.List.{List·Memᴰ, List·Memᴰ·head, List·Memᴰ·tail, Memᴰ·append-left, Memᴰ·append-right}
 use mathlib.Core.Path.{_≡_, refl, ap, sym, _∙_}
 use native.Mathlib.Omega.{arith}
-use lib.ListN.{length, take}
+use lib.ListN.{length, take, length-append}
 use Rattle.choice.proofs.Splitting.{if-test, if-lt, if-eq}
 use Rattle.queue.specs.declared.slots.Slot.the-variants.{Free, Book}
 use Rattle.queue.specs.declared.slots.Queue.{Queue}
@@ -17,7 +17,7 @@ use Rattle.queue.specs.declared.reply.AfterAdd.{AfterAdd}
 use Rattle.queue.specs.declared.reply.AfterRemove.{AfterRemove}
 use Rattle.queue.specs.declared.reply.AfterTurn.{AfterTurn}
 use Rattle.queue.specs.Slots.{slotCount, slotAt, isFree, leftIn, freeAt, stored}
-use Rattle.queue.specs.Books.{lowestFree}
+use Rattle.queue.specs.Books.{lowestFree, added, removed}
 use Rattle.queue.specs.Round.{onward, passedOver, nextUp, movedAt, served, turned}
 use Rattle.queue.specs.Calls.{Call, add, remove, turn, cut, cutShort, after, slotServed, servedBy, servings, afterAll}
 use Rattle.queue.proofs.SlotsLaws.{isFree-left, slotAt-lt, length-stored, slotAt-stored-other}
@@ -32,31 +32,38 @@ data Step (q : Queue) (s : ℕ) (x : Call) : Type 0 where
   serves : servedBy q x ≡ nextUp q ∷ [] → after q x .last ≡ nextUp q
       → ((s ≡ nextUp q → ⊥) → slotAt (after q x) s ≡ slotAt q s) → Step q s x
 
-step-add : (q : Queue) (s n : ℕ) → isFree (slotAt q s) ≡ false → Step q s (add n)
+last-added : (q : Queue) (n : ℕ) → added q n .queue .last ≡ q .last
 unfolding stored
-step-add q s n taken =
+last-added q n =
     if-lt (lowestFree q) slotCount
+    (λ l. ap (λ (r : AfterAdd). r .queue .last) (added-at q n l))
+    (λ l. ap (λ (r : AfterAdd). r .queue .last) (added-full q n l))
+
+last-removed : (q : Queue) (i : ℕ) → removed q i .queue .last ≡ q .last
+unfolding stored
+last-removed q i =
+    if-test (freeAt q i)
+    (λ free. ap (λ (r : AfterRemove). r .queue .last) (removed-empty q i free))
+    (λ taken. ap (λ (r : AfterRemove). r .queue .last) (removed-gone q i taken))
+
+step-add : (q : Queue) (s n : ℕ) → isFree (slotAt q s) ≡ false → Step q s (add n)
+step-add q s n taken =
+    still refl (last-added q n)
+    (if-lt (lowestFree q) slotCount
     (λ l.
-    let e = added-at q n l in
     let apart : s ≡ lowestFree q → ⊥ =
     λ same. true≢false (sym (ap (λ (i : ℕ). isFree (slotAt q i)) same ∙ lowestFree-free q l) ∙ taken) in
-    still refl (ap (λ (r : AfterAdd). r .queue .last) e)
-    (ap (λ (r : AfterAdd). slotAt (r .queue) s) e ∙ slotAt-stored-other q (lowestFree q) s (Book n) apart))
-    (λ l.
-    let e = added-full q n l in
-    still refl (ap (λ (r : AfterAdd). r .queue .last) e) (ap (λ (r : AfterAdd). slotAt (r .queue) s) e))
+    ap (λ (r : AfterAdd). slotAt (r .queue) s) (added-at q n l)
+    ∙ slotAt-stored-other q (lowestFree q) s (Book n) apart)
+    (λ l. ap (λ (r : AfterAdd). slotAt (r .queue) s) (added-full q n l)))
 
 step-remove : (q : Queue) (s i : ℕ) → (remove i ≡ remove s → ⊥) → Step q s (remove i)
-unfolding stored
 step-remove q s i apart =
-    if-test (freeAt q i)
-    (λ free.
-    let e = removed-empty q i free in
-    still refl (ap (λ (r : AfterRemove). r .queue .last) e) (ap (λ (r : AfterRemove). slotAt (r .queue) s) e))
+    still refl (last-removed q i)
+    (if-test (freeAt q i)
+    (λ free. ap (λ (r : AfterRemove). slotAt (r .queue) s) (removed-empty q i free))
     (λ taken.
-    let e = removed-gone q i taken in
-    still refl (ap (λ (r : AfterRemove). r .queue .last) e)
-    (ap (λ (r : AfterRemove). slotAt (r .queue) s) e
+    ap (λ (r : AfterRemove). slotAt (r .queue) s) (removed-gone q i taken)
     ∙ slotAt-stored-other q i s Free (λ same. apart (ap remove (sym same)))))
 
 step-turn : (q : Queue) (s b : ℕ) → Step q s (turn b)
@@ -181,6 +188,24 @@ slotAt-afterAll q s (x ∷ xs) taken stays missed =
     slotAt-afterAll (after q x) s xs (ap isFree same ∙ taken) (λ i. stays (List·Memᴰ·tail i))
     (λ i. missed (Memᴰ·append-right (servedBy q x) i))
     ∙ same
+
+-- ---- until a turn has come, the round stands as it did
+last-still : (q : Queue) (s : ℕ) (x : Call) → Step q s x → length (servedBy q x) ≡ 0 → after q x .last ≡ q .last
+last-still q s x (still none last slot) few = last
+last-still q s x (serves one last slot) few = let some = ap length one in absurd (omega arith)
+
+last-after : (q : Queue) (x : Call) → length (servedBy q x) ≡ 0 → after q x .last ≡ q .last
+last-after q (add n) few = last-added q n
+last-after q (remove i) few = last-removed q i
+last-after q (turn b) few = last-still q 0 (turn b) (step-turn q 0 b) few
+last-after q (cut b) few = last-still q 0 (cut b) (step-cut q 0 b (step-turn q 0 b)) few
+
+pub last-afterAll : (q : Queue) (xs : List Call) → length (servings q xs) ≡ 0 → afterAll q xs .last ≡ q .last
+unfolding servings afterAll
+last-afterAll q [] few = refl
+last-afterAll q (x ∷ xs) few =
+    let both = length-append (servedBy q x) (servings (after q x) xs) in
+    last-afterAll (after q x) xs (omega arith) ∙ last-after q x (omega arith)
 
 -- ---- no call changes how many slots there are
 length-served : (q : Queue) (i b : ℕ) → length (served q i b .queue .slots) ≡ length (q .slots)

@@ -7,9 +7,9 @@
 -- Assumes nothing.
 use Prim.Native.Nat.{ℕ, suc, _+_, _-_, _%_, _<_, _≤_, min}
 use mathlib.Core.Bool.{true, false}
-use mathlib.Core.List.{List, [], List·Memᴰ}
+use mathlib.Core.List.{List, [], _∷_, List·Memᴰ}
 use mathlib.Core.Logic.{_↔_}
-use mathlib.Core.Path.{_≡_, _∙_}
+use mathlib.Core.Path.{_≡_, ap, _∙_}
 use lib.ListN.{length, take}
 use Rattle.rules.specs.declared.book.Head.{Head}
 use Rattle.rules.specs.Book.{accepted, opened}
@@ -30,10 +30,12 @@ use Rattle.queue.specs.Round.{turned}
 use Rattle.queue.specs.Calls.{Call, remove, turn, cut, after, servings, afterAll}
 use Rattle.queue.specs.Stay.{Stay}
 use Rattle.queue.proofs.SlotsLaws.{length-emptyQueue}
-use Rattle.queue.proofs.BooksLaws.{added-lowest, addReply-50, added-kept}
-use Rattle.queue.proofs.BooksLaws.{removed-from, removeReply-51, removed-kept}
-use Rattle.queue.proofs.RoundLaws.{turned-next, turned-before, turnReply-52, turnReply-53, turned-kept}
-use Rattle.queue.proofs.CallsLaws.{last-cutShort, slotAt-cutShort, servings-sixteen, slotAt-afterAll, length-afterAll}
+use Rattle.queue.proofs.BooksLaws.{addReply-accepted, added-lowest, addReply-50, added-kept}
+use Rattle.queue.proofs.BooksLaws.{removeReply-accepted, removed-from, removeReply-51, removed-kept}
+use Rattle.queue.proofs.RoundLaws.{turnReply-accepted, turnReply-lowest, turned-next, turned-before}
+use Rattle.queue.proofs.RoundLaws.{turnReply-52, turnReply-53, turned-kept}
+use Rattle.queue.proofs.CallsLaws.{last-afterAll, length-afterAll, servings-sixteen, slotAt-afterAll}
+use Rattle.queue.proofs.CallsLaws.{last-cutShort, slotAt-cutShort}
 use Rattle.queue.proofs.StayLaws.{inTurn-stay, slotAt-doneIn, moved-wakes}
 -- The code meets its contracts.
 pub use Rattle.queue.proofs.slots.begin.Met.{met as begin-meets-its-contract}
@@ -74,15 +76,23 @@ refusals q = record {
   kept-turn = turned-kept q;
 }
 
--- ---- 2. What a call that is not refused does.
+-- ---- 2. A call that no refusal meets is accepted, and does what it is for.
 pub record Acceptances (q : Queue) : Type 0 where
+  -- A book is added if some slot is free: if s is the lowest of them, the answer is s.
+  pub add-accepted : (n s : ℕ) → s < 16 → isFree (slotAt q s) ≡ true
+      → ((i : ℕ) → i < s → isFree (slotAt q i) ≡ false) → addReply (added q n .answer) ≡ reply 0 (s ∷ [])
   -- A new book takes the lowest free slot.
   pub add-free : (n s : ℕ) → added q n .answer ≡ At s → isFree (slotAt q s) ≡ true
   pub add-lowest : (n s i : ℕ) → added q n .answer ≡ At s → i < s → isFree (slotAt q i) ≡ false
   pub add-holds : (n s : ℕ) → length (q .slots) ≡ 16 → added q n .answer ≡ At s
       → slotAt (added q n .queue) s ≡ Book n
+  -- A book is removed if the slot holds one.
+  pub remove-accepted : (i : ℕ) → isFree (slotAt q i) ≡ false → removeReply (removed q i .answer) ≡ reply 0 []
   -- A removed book's slot is free, to be used again.
   pub remove-frees : (i : ℕ) → removed q i .answer ≡ Gone → slotAt (removed q i .queue) i ≡ Free
+  -- A turn with a budget of at least 1 serves a slot, if some slot i has records left.
+  pub turn-accepted : (b i : ℕ) → 1 ≤ b → 0 < leftIn (slotAt q i)
+      → (s : ℕ) × (m : ℕ) × (turnReply (turned q b .answer) ≡ reply 0 (s ∷ m ∷ []))
   -- A turn goes to the next slot with records left, going round from the one after the last served: if that
   -- is d places on, no slot before it in the round has any.
   pub turn-left : (b s m : ℕ) → turned q b .answer ≡ Served s m → 0 < leftIn (slotAt q s)
@@ -96,10 +106,13 @@ pub record Acceptances (q : Queue) : Type 0 where
 
 pub acceptances : (q : Queue) → Acceptances q
 acceptances q = record {
+  add-accepted = addReply-accepted q;
   add-free = λ n s a. added-lowest q n s a .free;
   add-lowest = λ n s i a. added-lowest q n s a .lowest i;
   add-holds = λ n s long a. added-lowest q n s a .holds long;
+  remove-accepted = removeReply-accepted q;
   remove-frees = λ i a. removed-from q i a .free;
+  turn-accepted = turnReply-accepted q;
   turn-left = λ b s m a. turned-next q b s m a .left;
   turn-next = turned-before q;
   turn-last = λ b s m a. turned-next q b s m a .last;
@@ -110,6 +123,15 @@ acceptances q = record {
 -- Every queue that calls make of the first has 16 slots, as `add-holds` and a book's stay ask.
 pub sixteen-slots : (xs : List Call) → length (afterAll emptyQueue xs .slots) ≡ 16
 sixteen-slots xs = length-afterAll emptyQueue xs ∙ length-emptyQueue
+
+-- The first round begins at slot 0: until a turn has come among the calls xs, the next serves the lowest slot
+-- with records left.
+pub first-round : (xs : List Call) → servings emptyQueue xs ≡ []
+    → let q = afterAll emptyQueue xs in
+    (b s : ℕ) → 1 ≤ b → 0 < leftIn (slotAt q s) → ((i : ℕ) → i < s → leftIn (slotAt q i) ≡ 0)
+    → turnReply (turned q b .answer) ≡ reply 0 (s ∷ min b (leftIn (slotAt q s)) ∷ [])
+first-round xs none =
+    turnReply-lowest (afterAll emptyQueue xs) (last-afterAll emptyQueue xs (ap length none))
 
 -- ---- 3. Whatever calls xs come after q, the book in slot s not being removed among them. `cut b` is a turn whose
 -- wake is cut after the place in the round was kept.

@@ -15,11 +15,11 @@ use Rattle.queue.specs.declared.reply.Refusal.the-variants.{NoBudget, No
 use Rattle.queue.specs.declared.reply.Turned.{Turned}
 use Rattle.queue.specs.declared.reply.Turned.the-variants.{NotTurned, Served}
 use Rattle.queue.specs.declared.reply.AfterTurn.{AfterTurn}
-use Rattle.queue.specs.Slots.{slotCount, slotAt, leftIn}
+use Rattle.queue.specs.Slots.{slotCount, emptyQueue, slotAt, leftIn}
 use Rattle.queue.specs.Reply.{turnReply}
 use Rattle.queue.specs.Round.{onward, dueAt, passedOver, nextUp, movedAt, served, turned}
-use Rattle.queue.proofs.LowestLaws.{lowest-none, lowest-true, lowest-false, lowest-le}
-use Rattle.queue.proofs.SlotsLaws.{isFree-left, slotAt-stored-taken}
+use Rattle.queue.proofs.LowestLaws.{lowest-unique, lowest-none, lowest-true, lowest-false, lowest-le}
+use Rattle.queue.proofs.SlotsLaws.{isFree-left, slotAt-lt, slotAt-stored-taken}
 use Rattle.queue.proofs.ReplyLaws.{reply-apart}
 
 -- What an answer `Served s m` says: s is the first in the round with records left, and m of them moved.
@@ -52,6 +52,11 @@ module _ (q : Queue) where
   unfolding onward
   onward-awayOf i l = omega arith
 
+  -- As long as the round stands as at the start, a slot's place is its number.
+  onward-start : q .last ≡ emptyQueue .last → (i : ℕ) → i < slotCount → onward q i ≡ i
+  unfolding onward emptyQueue
+  onward-start start i l = omega arith
+
   -- ---- the slot that a turn serves
   pub nextUp-onward : nextUp q ≡ onward q (passedOver q)
   unfolding nextUp
@@ -83,6 +88,17 @@ module _ (q : Queue) where
   passedOver-all : slotCount ≤ passedOver q → (i : ℕ) → i < slotCount → leftIn (slotAt q i) ≡ 0
   passedOver-all l i m = let none = passedOver-before (awayOf i) (omega arith) in rw (onward-awayOf i m) at none
 
+  passedOver-some : (i : ℕ) → 0 < leftIn (slotAt q i) → passedOver q < slotCount
+  passedOver-some i some =
+      let l = slotAt-lt q i (isFree-left (slotAt q i) some) in
+      omega (arith, passedOver-le (awayOf i) (rw (onward-awayOf i l) some))
+
+  passedOver-unique : (d : ℕ) → d < slotCount → 0 < leftIn (slotAt q (onward q d))
+      → ((j : ℕ) → j < d → leftIn (slotAt q (onward q j)) ≡ 0) → passedOver q ≡ d
+  unfolding passedOver dueAt
+  passedOver-unique d l some none =
+      lowest-unique (dueAt q) slotCount d l (lt-ltb _ _ some) (λ j m. omega (arith, le-ltb, none j m))
+
   -- ---- a turn, by cases
   pub turned-noBudget : (b : ℕ) → b ≡ 0 → turned q b ≡ record { answer = NotTurned NoBudget; queue = q }
   unfolding turned
@@ -110,6 +126,27 @@ module _ (q : Queue) where
       → turnReply (turned q b .answer) ≡ reply 0 (nextUp q ∷ movedAt q (nextUp q) b ∷ [])
   unfolding turnReply served
   turnReply-served b some l = ap (λ (r : AfterTurn). turnReply (r .answer)) (turned-served b some l)
+
+  -- ---- a turn that no refusal meets
+  pub turnReply-accepted : (b i : ℕ) → 1 ≤ b → 0 < leftIn (slotAt q i)
+      → (s : ℕ) × (m : ℕ) × (turnReply (turned q b .answer) ≡ reply 0 (s ∷ m ∷ []))
+  turnReply-accepted b i some left =
+      (nextUp q, movedAt q (nextUp q) b, turnReply-served b (λ none. omega arith) (passedOver-some i left))
+
+  -- In the first round it goes to the lowest slot with records left.
+  pub turnReply-lowest : q .last ≡ emptyQueue .last → (b s : ℕ) → 1 ≤ b → 0 < leftIn (slotAt q s)
+      → ((i : ℕ) → i < s → leftIn (slotAt q i) ≡ 0)
+      → turnReply (turned q b .answer) ≡ reply 0 (s ∷ min b (leftIn (slotAt q s)) ∷ [])
+  unfolding movedAt
+  turnReply-lowest start b s some left none =
+      let l = slotAt-lt q s (isFree-left (slotAt q s) left) in
+      let here : nextUp q ≡ s =
+      nextUp-onward
+      ∙ ap (onward q) (passedOver-unique s l (rw (onward-start start s l) left)
+      (λ i m. rw (onward-start start i (omega arith)) (none i m)))
+      ∙ onward-start start s l in
+      turnReply-served b (λ none. omega arith) (passedOver-some s left)
+      ∙ ap (λ (i : ℕ). reply 0 (i ∷ min b (leftIn (slotAt q i)) ∷ [])) here
 
   -- ---- what a turn answers
   -- Only a turn that goes to the next one up names a slot.
