@@ -133,8 +133,8 @@ pub first-round : (xs : List Call) → servings emptyQueue xs ≡ []
 first-round xs none =
     turnReply-lowest (afterAll emptyQueue xs) (last-afterAll emptyQueue xs (ap length none))
 
--- ---- 3. Whatever calls xs come after q, the book in slot s not being removed among them. `cut b` is a turn whose
--- wake is cut after the place in the round was kept.
+-- ---- 3. Whatever calls xs come after q, the book in slot s not being removed among them. `cut b` is a turn
+-- whose wake is cut after the place in the round was kept.
 pub record Fairness (q : Queue) (s : ℕ) (xs : List Call) : Type 0 where
   -- If it has records left, its turn comes within 16, those that are cut included.
   pub served : 0 < leftIn (slotAt q s) → 16 ≤ length (servings q xs) → List·Memᴰ s (take 16 (servings q xs))
@@ -155,7 +155,8 @@ fairness q s xs stays = record {
 
 -- ---- 4. An accepted book k with the head h, added with its n after a fresh start: it stands in slot s of
 -- q, each of its turns was matched by one saved wake with that turn's budget from its latest checkpoint, c
--- is that checkpoint now, and t the sum of the budgets. Turns whose wake was cut are among what came before.
+-- is that checkpoint now, and t the sum of the budgets. Turns that were undone or cut are among what came
+-- before.
 pub record EachBook (k : List ℕ) (h : Head) (s : ℕ) (q : Queue) (t : ℕ) (c : List ℕ) : Type 0 where
   -- Its count is n less the records done.
   pub count : slotAt q s ≡ Book (h .n - doneIn c)

@@ -25,10 +25,11 @@ pub data Stay (k : List ℕ) (n s : ℕ) : Queue → ℕ → List ℕ → Type 0
   woken : {q : Queue} {t : ℕ} {c : List ℕ} {b m j : ℕ} {d : List ℕ}
       → Stay k n s q t c → turned q b .answer ≡ Served s m → Wakes k c b j d
       → Stay k n s (turned q b .queue) (t + b) d
-  -- A turn whose wake is cut, its own or another book's: the caller goes on from the queue before it.
-  cut : {q : Queue} {t : ℕ} {c : List ℕ} → Stay k n s q t c → (b : ℕ) → Stay k n s q t c
-  -- The same where the place in the round was kept before the wake: the round goes on.
-  lost : {q : Queue} {t : ℕ} {c : List ℕ} → Stay k n s q t c → (b : ℕ) → Stay k n s (cutShort q b) t c
+  -- A turn that is undone since its wake was cut, its own or another book's: the caller goes on from the
+  -- queue before it.
+  undone : {q : Queue} {t : ℕ} {c : List ℕ} → Stay k n s q t c → (b : ℕ) → Stay k n s q t c
+  -- A turn that is cut after the place in the round was kept: the round goes on.
+  cut : {q : Queue} {t : ℕ} {c : List ℕ} → Stay k n s q t c → (b : ℕ) → Stay k n s (cutShort q b) t c
   -- Any other call: it doesn't remove the book, and doesn't serve it.
   passed : {q : Queue} {t : ℕ} {c : List ℕ} → Stay k n s q t c
       → (x : Call) → (x ≡ remove s → ⊥) → (List·Memᴰ s (servedBy q x) → ⊥)
