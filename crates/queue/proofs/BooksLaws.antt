@@ -26,15 +26,9 @@ use Rattle.queue.proofs.ReplyLaws.{reply-apart}
 
 -- What an answer `At s` says: the slot was the lowest free one, and holds the book now.
 pub record AddedAt (q : Queue) (n s : ℕ) : Type 0 where
-  pub below : s < slotCount
   pub free : isFree (slotAt q s) ≡ true
   pub lowest : (i : ℕ) → i < s → isFree (slotAt q i) ≡ false
   pub holds : length (q .slots) ≡ slotCount → slotAt (added q n .queue) s ≡ Book n
-
--- What an answer `Gone` says: the slot held a book, and is free.
-pub record RemovedFrom (q : Queue) (i : ℕ) : Type 0 where
-  pub held : isFree (slotAt q i) ≡ false
-  pub free : slotAt (removed q i .queue) i ≡ Free
 
 module _ (q : Queue) where
   -- ---- the lowest free slot
@@ -87,7 +81,6 @@ module _ (q : Queue) where
       let answer : At (lowestFree q) ≡ At s = sym (ap (λ (r : AfterAdd). r .answer) e) ∙ a in
       let here : lowestFree q ≡ s = cc in
       record {
-        below = omega arith;
         free = rw here at (lowestFree-free l);
         lowest = λ i m. lowestFree-taken i (omega arith);
         holds =
@@ -139,20 +132,18 @@ module _ (q : Queue) where
   unfolding freeAt
   removeReply-accepted = removeReply-gone
 
-  pub removed-from : (i : ℕ) → removed q i .answer ≡ Gone → RemovedFrom q i
+  -- What an answer `Gone` says: the slot is free.
+  pub removed-free : (i : ℕ) → removed q i .answer ≡ Gone → slotAt (removed q i .queue) i ≡ Free
   unfolding freeAt
-  removed-from i a =
+  removed-free i a =
       if-test (freeAt q i)
       (λ free.
       let answer : NotRemoved Empty ≡ Gone = sym (ap (λ (r : AfterRemove). r .answer) (removed-empty i free)) ∙ a in
       let never : _≡_ {A = ℕ} 0 1 = cc in
       absurd (omega arith))
-      (λ taken. record {
-        held = taken;
-        free =
-            ap (λ (r : AfterRemove). slotAt (r .queue) i) (removed-gone i taken)
-            ∙ slotAt-stored-taken q i Free taken;
-      })
+      (λ taken.
+      ap (λ (r : AfterRemove). slotAt (r .queue) i) (removed-gone i taken)
+      ∙ slotAt-stored-taken q i Free taken)
 
   pub removeReply-51 : (i : ℕ)
       → (removeReply (removed q i .answer) ≡ reply 51 []) ↔ (i < slotCount → isFree (slotAt q i) ≡ true)

@@ -31,7 +31,7 @@ use Rattle.queue.specs.Calls.{Call, remove, turn, cut, after, servings, 
 use Rattle.queue.specs.Stay.{Stay}
 use Rattle.queue.proofs.SlotsLaws.{length-emptyQueue}
 use Rattle.queue.proofs.BooksLaws.{addReply-accepted, added-lowest, addReply-50, added-kept}
-use Rattle.queue.proofs.BooksLaws.{removeReply-accepted, removed-from, removeReply-51, removed-kept}
+use Rattle.queue.proofs.BooksLaws.{removeReply-accepted, removed-free, removeReply-51, removed-kept}
 use Rattle.queue.proofs.RoundLaws.{turnReply-accepted, turnReply-lowest, turned-next, turned-before}
 use Rattle.queue.proofs.RoundLaws.{turnReply-52, turnReply-53, turned-kept}
 use Rattle.queue.proofs.CallsLaws.{last-afterAll, length-afterAll, servings-sixteen, slotAt-afterAll}
@@ -111,7 +111,7 @@ acceptances q = record {
   add-lowest = λ n s i a. added-lowest q n s a .lowest i;
   add-holds = λ n s long a. added-lowest q n s a .holds long;
   remove-accepted = removeReply-accepted q;
-  remove-frees = λ i a. removed-from q i a .free;
+  remove-frees = removed-free q;
   turn-accepted = turnReply-accepted q;
   turn-left = λ b s m a. turned-next q b s m a .left;
   turn-next = turned-before q;

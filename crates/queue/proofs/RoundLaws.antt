@@ -39,11 +39,6 @@ module _ (q : Queue) where
   unfolding onward
   onward-lt k = omega arith
 
-  -- Two places of one round that are one slot are one place.
-  pub onward-inj : (j k : ℕ) → j < slotCount → k < slotCount → onward q j ≡ onward q k → j ≡ k
-  unfolding onward
-  onward-inj j k l m e = omega arith
-
   -- How far on slot i is in the round.
   abbrev pub awayOf : ℕ → ℕ
   awayOf i = (i + 15 * (q .last + 1)) % 16

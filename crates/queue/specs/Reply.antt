@@ -5,7 +5,7 @@
 --     removeReply a          the reply that a removal's answer stands for
 --     turnReply a            the reply that a turn's answer stands for: the slot, and the records moved
 --
--- Each is one-to-one: proofs/ReplyLaws.antt. Definitions only.
+-- Laws: proofs/ReplyLaws.antt. Definitions only.
 use Prim.Native.Nat.{ℕ}
 use mathlib.Core.List.{[], _∷_}
 use Rattle.job.specs.Reply.{Reply, reply}
