@@ -3,7 +3,7 @@ ghost use mathlib.Core.Path.{_≡_};
 ghost use Prim.Native.Nat.{_<_};
 ghost use Rattle.queue.specs.Slots.{slotCount, emptyQueue, slotAt, isFree, leftIn, stored, freeAt};
 
-pub(crate) const SLOT_COUNT: usize = 16;
+pub const SLOT_COUNT: usize = 16;
 
 // As if the last slot had been served, so that the first round begins at slot 0.
 const LAST_AT_START: u8 = 15;
