@@ -1,6 +1,6 @@
 -- The bytes before a byte and after it, and two runs compared, byte by byte. Assumes nothing.
 use Prim.Native.Nat.{ℕ, suc, _+_, _-_, _<_, _≤_}
-use mathlib.Core.Bool.{Bool, true, false, _&&_}
+use mathlib.Core.Bool.{Bool, true, false}
 use mathlib.Core.List.{List, [], _∷_}
 use mathlib.Core.Path.{_≡_, refl, sym, ap, ap₂, subst, _∙_}
 use native.Mathlib.Numerals.{add-one}
@@ -9,8 +9,10 @@ use lib.Dec.{T, eqb}
 use lib.ListN.{length, getD, take, drop, length-drop, drop-of-length-le}
 use lib.Seq.{take-all, drop-cons}
 use borrow.Author.Tests.{eq-eqb, ne-eqb, eqb-true, ltb-true, ltb-false}
+use Rattle.choice.specs.Tests.{_also_}
+use Rattle.choice.proofs.Splitting.{if-test, if-eq}
+use Rattle.choice.proofs.TestsLaws.{choose-t, choose-f, also-t, also-f}
 use Rattle.roster.specs.Bytes.{span, rest, has, same}
-use Rattle.roster.proofs.TestsLaws.{cond-t, cond-f, and-t, and-f, if-test, if-eq}
 
 -- The byte at i is next.
 pub drop-next : (xs : List ℕ) (i : ℕ) → i < length xs → drop i xs ≡ getD xs i 0 ∷ drop (i + 1) xs
@@ -19,11 +21,11 @@ drop-next xs i h = rw (add-one, drop-cons xs i 0)
 -- ---- the bytes before the first b
 pub span-zero : (b x : ℕ) (xs : List ℕ) → x ≡ b → span b (x ∷ xs) ≡ 0
 unfolding span
-span-zero b x xs e = cond-t _ (eq-eqb x b e) refl
+span-zero b x xs e = choose-t _ (eq-eqb x b e) refl
 
 pub span-suc : (b x : ℕ) (xs : List ℕ) → (x ≡ b → ⊥) → span b (x ∷ xs) ≡ suc (span b xs)
 unfolding span
-span-suc b x xs n = cond-f _ (ne-eqb x b n) refl
+span-suc b x xs n = choose-f _ (ne-eqb x b n) refl
 
 pub span-nil : (b : ℕ) → span b [] ≡ 0
 unfolding span
@@ -94,13 +96,13 @@ same→eq [] (y ∷ ys) h = absurd (subst T (sym h) tt)
 same→eq (x ∷ xs) [] h = absurd (subst T (sym h) tt)
 same→eq (x ∷ xs) (y ∷ ys) h =
     if-test (eqb x y)
-    (λ e. ap₂ {A = ℕ} {B = List ℕ} (λ z zs. z ∷ zs) (eqb-true x y e) (same→eq xs ys (sym (and-t e refl) ∙ h)))
-    (λ e. absurd (subst T (sym h ∙ and-f (same xs ys) e) tt))
+    (λ e. ap₂ {A = ℕ} {B = List ℕ} (λ z zs. z ∷ zs) (eqb-true x y e) (same→eq xs ys (sym (also-t e refl) ∙ h)))
+    (λ e. absurd (subst T (sym h ∙ also-f (same xs ys) e) tt))
 
 pub same-refl : (xs : List ℕ) → same xs xs ≡ true
 unfolding same
 same-refl [] = refl
-same-refl (x ∷ xs) = and-t (eq-eqb x x refl) (same-refl xs)
+same-refl (x ∷ xs) = also-t (eq-eqb x x refl) (same-refl xs)
 
 pub same-length : (xs ys : List ℕ) → (length xs ≡ length ys → ⊥) → false ≡ same xs ys
 same-length xs ys n =
@@ -108,16 +110,16 @@ same-length xs ys n =
 
 module _ {r : Bool} (xs ys : List ℕ) (i : ℕ) (whole : same (drop i xs) (drop i ys) ≡ r) where
   module _ (left : i < length xs) (right : i < length ys) where
-    next : (eqb (getD xs i 0) (getD ys i 0) && same (drop (i + 1) xs) (drop (i + 1) ys)) ≡ r
+    next : (eqb (getD xs i 0) (getD ys i 0) also same (drop (i + 1) xs) (drop (i + 1) ys)) ≡ r
     unfolding same
     next = sym (ap₂ same (drop-next xs i left) (drop-next ys i right)) ∙ whole
 
     pub same-next : getD xs i 0 ≡ getD ys i 0 → same (drop (i + 1) xs) (drop (i + 1) ys) ≡ r
-    same-next e = sym (and-t (eq-eqb (getD xs i 0) (getD ys i 0) e) refl) ∙ next
+    same-next e = sym (also-t (eq-eqb (getD xs i 0) (getD ys i 0) e) refl) ∙ next
 
     pub same-other : (getD xs i 0 ≡ getD ys i 0 → ⊥) → false ≡ r
     same-other n =
-        sym (and-f (same (drop (i + 1) xs) (drop (i + 1) ys)) (ne-eqb (getD xs i 0) (getD ys i 0) n)) ∙ next
+        sym (also-f (same (drop (i + 1) xs) (drop (i + 1) ys)) (ne-eqb (getD xs i 0) (getD ys i 0) n)) ∙ next
 
   pub same-end : length xs ≤ i → length ys ≤ i → true ≡ r
   unfolding same

@@ -1,18 +1,20 @@
 -- A list is judged line by line. Assumes nothing.
 use Prim.Native.Nat.{ℕ, suc, _+_, _<_, _≤_}
-use mathlib.Core.Bool.{true, false, cond}
+use mathlib.Core.Bool.{true, false}
 use mathlib.Core.List.{List, [], _∷_}
 use mathlib.Core.Path.{_≡_, refl, sym, ap, _∙_}
 use native.Mathlib.Omega.{arith}
 use lib.Dec.{ltb}
 use lib.ListN.{length}
 use borrow.Author.Tests.{lt-ltb, le-ltb}
+use Rattle.choice.specs.Tests.{choose}
+use Rattle.choice.proofs.Splitting.{if-test}
+use Rattle.choice.proofs.TestsLaws.{choose-t, choose-f}
 use Rattle.roster.specs.declared.plants.Listed.{Listed}
 use Rattle.roster.specs.declared.plants.Listed.the-variants.{Plants, Wrong, Again, Many}
 use Rattle.roster.specs.Bytes.{front, rest, has}
 use Rattle.roster.specs.Lines.{newline, Split, split, linesOf}
 use Rattle.roster.specs.Plants.{mostPlants, isPlant, namedBefore, judgedFrom}
-use Rattle.roster.proofs.TestsLaws.{cond-t, cond-f, if-test}
 use Rattle.roster.proofs.BytesLaws.{has→lt, has→le}
 use Rattle.roster.proofs.LinesLaws.{split-ended, split-unended}
 
@@ -20,23 +22,23 @@ use Rattle.roster.proofs.LinesLaws.{split-ended, split-unended}
 module _ (cs : List (List ℕ)) (i : ℕ) (l : List ℕ) (ls : List (List ℕ)) (u : List ℕ) where
   judgedFrom-many : mostPlants ≤ i → judgedFrom cs i (l ∷ ls) u ≡ Many
   unfolding judgedFrom
-  judgedFrom-many h = cond-f _ (le-ltb i mostPlants h) refl
+  judgedFrom-many h = choose-f _ (le-ltb i mostPlants h) refl
 
   module _ (few : i < mostPlants) where
     judgedFrom-wrong : isPlant l ≡ false → judgedFrom cs i (l ∷ ls) u ≡ Wrong i
     unfolding judgedFrom
-    judgedFrom-wrong h = cond-t Many (lt-ltb i mostPlants few) (cond-f _ h refl)
+    judgedFrom-wrong h = choose-t Many (lt-ltb i mostPlants few) (choose-f _ h refl)
 
     module _ (plant : isPlant l ≡ true) where
       judgedFrom-again : namedBefore cs i l ≡ true → judgedFrom cs i (l ∷ ls) u ≡ Again i
       unfolding judgedFrom
       judgedFrom-again h =
-          cond-t Many (lt-ltb i mostPlants few) (cond-t (Wrong i) plant (cond-t _ h refl))
+          choose-t Many (lt-ltb i mostPlants few) (choose-t (Wrong i) plant (choose-t _ h refl))
 
       judgedFrom-next : namedBefore cs i l ≡ false → judgedFrom cs i (l ∷ ls) u ≡ judgedFrom cs (suc i) ls u
       unfolding judgedFrom
       judgedFrom-next h =
-          cond-t Many (lt-ltb i mostPlants few) (cond-t (Wrong i) plant (cond-f (Again i) h refl))
+          choose-t Many (lt-ltb i mostPlants few) (choose-t (Wrong i) plant (choose-f (Again i) h refl))
 
 -- ---- no line more
 judgedFrom-done : (cs : List (List ℕ)) (i : ℕ) → Plants i ≡ judgedFrom cs i [] []
@@ -44,7 +46,7 @@ unfolding judgedFrom
 judgedFrom-done cs i = refl
 
 judgedFrom-tail : (cs : List (List ℕ)) (i : ℕ) (t : List ℕ) → 0 < length t
-    → judgedFrom cs i [] t ≡ cond (ltb i mostPlants) (Wrong i) Many
+    → judgedFrom cs i [] t ≡ choose (ltb i mostPlants) (Wrong i) Many
 unfolding judgedFrom
 judgedFrom-tail cs i [] l = absurd (omega arith)
 judgedFrom-tail cs i (x ∷ t) l = refl
@@ -66,11 +68,11 @@ module _ {r : Listed} (cs : List (List ℕ)) (i : ℕ) (t : List ℕ)
         empty [] z = refl
         empty (x ∷ t) z = absurd (omega arith)
 
-    unended : has newline t ≡ false → 0 < length t → cond (ltb i mostPlants) (Wrong i) Many ≡ r
+    unended : has newline t ≡ false → 0 < length t → choose (ltb i mostPlants) (Wrong i) Many ≡ r
     unended h some = sym (judgedFrom-tail cs i t some) ∙ read-as (split-unended t (has→le newline t h))
 
     pub judged-unended : has newline t ≡ false → 0 < length t → i < mostPlants → Wrong i ≡ r
-    judged-unended h some few = sym (cond-t Many (lt-ltb i mostPlants few) refl) ∙ unended h some
+    judged-unended h some few = sym (choose-t Many (lt-ltb i mostPlants few) refl) ∙ unended h some
 
     line : has newline t ≡ true
         → judgedFrom cs i (front newline t ∷ linesOf (rest newline t)) (split (rest newline t) .unended) ≡ r
@@ -80,7 +82,7 @@ module _ {r : Listed} (cs : List (List ℕ)) (i : ℕ) (t : List ℕ)
     judged-many some full =
         if-test (has newline t)
         (λ h. sym (judgedFrom-many cs i _ _ _ full) ∙ line h)
-        (λ h. sym (cond-f (Wrong i) (le-ltb i mostPlants full) refl) ∙ unended h some)
+        (λ h. sym (choose-f (Wrong i) (le-ltb i mostPlants full) refl) ∙ unended h some)
 
     module _ (h : has newline t ≡ true) (few : i < mostPlants) where
       pub judged-wrong : isPlant (front newline t) ≡ false → Wrong i ≡ r

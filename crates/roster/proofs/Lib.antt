@@ -1,5 +1,4 @@
--- The argument, from tests to the promise: lines, plants, the place in the round; then uniqueness.
-pub mod TestsLaws
+-- The argument, from bytes to the promise: lines, plants, the place in the round; then uniqueness.
 pub mod BytesLaws
 pub mod LinesLaws
 pub mod PlantsLaws

@@ -7,9 +7,10 @@ use native.Mathlib.Omega.{arith}
 use lib.ListN.{length, getD, take, drop, length-append, length-drop, take-append-drop}
 use lib.Seq.{drop-nil, getD-drop, take-append-seam}
 use borrow.Author.Tests.{eq-eqb, ne-eqb}
+use Rattle.choice.proofs.Splitting.{if-test, if-lt, if-eq}
+use Rattle.choice.proofs.TestsLaws.{choose-t, choose-f}
 use Rattle.roster.specs.Bytes.{span, front, rest, has}
 use Rattle.roster.specs.Lines.{newline, Split, led, split, linesOf, lineAt, after, through}
-use Rattle.roster.proofs.TestsLaws.{cond-t, cond-f, if-test, if-lt, if-eq}
 use Rattle.roster.proofs.BytesLaws.{has→le, has→lt, rest-none, span-nil, span-suc, span-zero}
 
 -- ---- a text by its first line
@@ -21,11 +22,11 @@ noLine u = record { lines = []; unended = u }
 
 split-newline : (x : ℕ) (u : List ℕ) → x ≡ newline → split (x ∷ u) ≡ withLine [] (split u)
 unfolding split
-split-newline x u e = cond-t _ (eq-eqb x newline e) refl
+split-newline x u e = choose-t _ (eq-eqb x newline e) refl
 
 split-byte : (x : ℕ) (u : List ℕ) → (x ≡ newline → ⊥) → split (x ∷ u) ≡ led x (split u .lines) (split u .unended)
 unfolding split
-split-byte x u n = cond-f _ (ne-eqb x newline n) refl
+split-byte x u n = choose-f _ (ne-eqb x newline n) refl
 
 -- The line of t up to its first newline, and any text u after it.
 split-line : (t u : List ℕ) → span newline t < length t

@@ -7,13 +7,14 @@ use mathlib.Core.Path.{_≡_, refl, sym, ap, ap₂, _∙_}
 use native.Mathlib.Omega.{arith}
 use lib.ListN.{length, getD, take, drop}
 use lib.Seq.{take-suc}
+use Rattle.choice.proofs.Splitting.{if-test, if-lt}
+use Rattle.choice.proofs.TestsLaws.{choose-f}
 use Rattle.roster.specs.declared.plants.Part.the-variants.{Line}
 use Rattle.roster.specs.declared.plants.Listed.the-variants.{Plants}
 use Rattle.roster.specs.Bytes.{front, rest, has, same}
 use Rattle.roster.specs.Lines.{newline, Split, linesOf, lineAt, after, through}
 use Rattle.roster.specs.Plants.{mostPlants, checkpointOf, partOf, indexFrom, judged}
 use Rattle.roster.specs.Place.{kept, none, placeFrom, placed}
-use Rattle.roster.proofs.TestsLaws.{cond-f, if-test, if-lt}
 use Rattle.roster.proofs.BytesLaws.{has→lt, has→le, same→eq}
 use Rattle.roster.proofs.LinesLaws.{split-ended, split-unended, lines-after, lines-through, lines-append, unended-after}
 use Rattle.roster.proofs.PlantsLaws.{first, if-among}
@@ -64,7 +65,7 @@ index-absent j n w [] out = refl
 index-absent j n w (x ∷ ws) out =
     if-test (same x w)
     (λ t. absurd (out (List·Memᴰ·head (sym (same→eq x w t)))))
-    (λ f. cond-f j f (index-absent (suc j) n w ws (λ h. out (List·Memᴰ·tail h))))
+    (λ f. choose-f j f (index-absent (suc j) n w ws (λ h. out (List·Memᴰ·tail h))))
 
 placeFrom-absent : (p : ℕ) (ls ks : List (List ℕ)) → ((l : List ℕ) → List·Memᴰ l ks → List·Memᴰ l ls → ⊥)
     → placeFrom p ls ks ≡ p

@@ -1,6 +1,6 @@
 -- What a list is told of, line by line, and what a right list is. Assumes nothing.
 use Prim.Native.Nat.{ℕ, zero, suc, _+_, _<_, _≤_, zero-le}
-use mathlib.Core.Bool.{Bool, true, false, _&&_}
+use mathlib.Core.Bool.{Bool, true, false}
 use mathlib.Core.List.{List, [], _∷_, map}
 use mathlib.Core.Path.{_≡_, refl, sym, ap, _∙_}
 use native.Mathlib.Omega.{arith}
@@ -8,25 +8,27 @@ use lib.Dec.{ltb}
 use lib.ListN.{length, getD, drop, drop-of-length-le, List·getD-map}
 use lib.Seq.{drop-nil}
 use borrow.Author.Tests.{lt-ltb, le-ltb}
+use Rattle.choice.specs.Tests.{_also_}
+use Rattle.choice.proofs.Splitting.{if-test}
+use Rattle.choice.proofs.TestsLaws.{worked-out, choose-t, choose-f, also-t, also-f}
 use Rattle.roster.specs.Bytes.{span, front, rest, has, same}
 use Rattle.roster.specs.Lines.{newline, Split, linesOf}
 use Rattle.roster.specs.Plants.{space, visible, isWord, bookOf, checkpointOf, isPlant, indexFrom}
-use Rattle.roster.proofs.TestsLaws.{cond-t, cond-f, and-t, and-f, if-test}
 use Rattle.roster.proofs.BytesLaws.{drop-next, has→lt, has→le, same→eq, same-refl}
 use Rattle.roster.proofs.LinesLaws.{split-ended, split-unended}
 
 -- ---- a word's bytes
 module _ {r : Bool} (w : List ℕ) (i : ℕ) (whole : visible (drop i w) ≡ r) where
   module _ (there : i < length w) where
-    next : (ltb 32 (getD w i 0) && visible (drop (i + 1) w)) ≡ r
+    next : (ltb 32 (getD w i 0) also visible (drop (i + 1) w)) ≡ r
     unfolding visible
     next = sym (ap visible (drop-next w i there)) ∙ whole
 
     pub visible-low : getD w i 0 ≤ 32 → false ≡ r
-    visible-low l = sym (and-f (visible (drop (i + 1) w)) (le-ltb 32 (getD w i 0) l)) ∙ next
+    visible-low l = sym (also-f (visible (drop (i + 1) w)) (le-ltb 32 (getD w i 0) l)) ∙ next
 
     pub visible-next : 32 < getD w i 0 → visible (drop (i + 1) w) ≡ r
-    visible-next l = sym (and-t (lt-ltb 32 (getD w i 0) l) refl) ∙ next
+    visible-next l = sym (also-t (lt-ltb 32 (getD w i 0) l) refl) ∙ next
 
   pub visible-end : length w ≤ i → true ≡ r
   unfolding visible
@@ -35,7 +37,7 @@ module _ {r : Bool} (w : List ℕ) (i : ℕ) (whole : visible (drop i w) ≡ r) 
 -- ---- a plant's line
 pub isPlant-nil : isPlant [] ≡ false
 unfolding isPlant isWord bookOf front span
-isPlant-nil = refl
+isPlant-nil = simp worked-out
 
 -- ---- where a word first stands
 -- What is left of a list, of whose lines f takes a part.
@@ -48,7 +50,7 @@ module _ {r : ℕ} (j n : ℕ) (w : List ℕ) (f : List ℕ → List ℕ) (t : L
 
       pub index-here : same (f (front newline t)) w ≡ true → j ≡ r
       unfolding indexFrom
-      index-here e = sym (cond-t _ e refl) ∙ line
+      index-here e = sym (choose-t _ e refl) ∙ line
 
       pub index-next : same (f (front newline t)) w ≡ false
           → indexFrom (j + 1) n w (map f (linesOf (rest newline t))) ≡ r
@@ -56,7 +58,7 @@ module _ {r : ℕ} (j n : ℕ) (w : List ℕ) (f : List ℕ → List ℕ) (t : L
       index-next e =
           let on : j + 1 ≡ suc j = omega arith in
           ap (λ (k : ℕ). indexFrom k n w (map f (linesOf (rest newline t)))) on
-          ∙ sym (cond-f j e refl)
+          ∙ sym (choose-f j e refl)
           ∙ line
 
     pub index-end : has newline t ≡ false → n ≡ r
@@ -72,12 +74,12 @@ unfolding indexFrom
 if-among j n w [] out found = out refl
 if-among j n w (x ∷ ws) out found =
     if-test (same x w)
-    (λ t. let here : j ≡ j + 0 = omega arith in found 0 (omega arith) (same→eq x w t) (cond-t _ t here))
+    (λ t. let here : j ≡ j + 0 = omega arith in found 0 (omega arith) (same→eq x w t) (choose-t _ t here))
     (λ f. if-among (suc j) n w ws
-    (λ e. out (cond-f j f e))
+    (λ e. out (choose-f j f e))
     (λ k l e q.
     let there : suc j + k ≡ j + suc k = omega arith in
-    found (suc k) (omega arith) e (cond-f j f (q ∙ there))))
+    found (suc k) (omega arith) e (choose-f j f (q ∙ there))))
 
 -- w is number k of ws, and first stands at `at`.
 pub record First (j n : ℕ) (w : List ℕ) (ws : List (List ℕ)) (k : ℕ) : Type 0 where
@@ -90,7 +92,7 @@ first-here : (j n : ℕ) (w x : List ℕ) (ws : List (List ℕ)) (k : ℕ) → s
 unfolding indexFrom
 first-here j n w x ws k t =
     let here : j ≡ j + 0 = omega arith in
-    record { at = 0; early = zero-le; has-it = same→eq x w t; index-is = cond-t _ t here }
+    record { at = 0; early = zero-le; has-it = same→eq x w t; index-is = choose-t _ t here }
 
 first-there : (j n : ℕ) (w x : List ℕ) (ws : List (List ℕ)) (k : ℕ) → same x w ≡ false
     → First (suc j) n w ws k → First j n w (x ∷ ws) (suc k)
@@ -98,7 +100,7 @@ unfolding indexFrom
 first-there j n w x ws k f r =
     let there : suc j + r .at ≡ j + suc (r .at) = omega arith in
     let early = r .early in
-    record { at = suc (r .at); early = omega arith; has-it = r .has-it; index-is = cond-f j f (r .index-is ∙ there) }
+    record { at = suc (r .at); early = omega arith; has-it = r .has-it; index-is = choose-f j f (r .index-is ∙ there) }
 
 pub first : (j n : ℕ) (w : List ℕ) (ws : List (List ℕ)) (k : ℕ) → k < length ws → getD ws k [] ≡ w → First j n w ws k
 first j n w [] k l e = absurd (omega arith)

@@ -8,13 +8,13 @@ use mathlib.Core.Path.{_≡_, refl, sym, ap, subst, _∙_}
 use native.Mathlib.Omega.{arith}
 use lib.ListN.{length, getD, length-map, length-drop}
 use borrow.Author.Tests.{lt-ltb, ltb-true}
+use Rattle.choice.proofs.Splitting.{if-test, if-lt}
 use Rattle.roster.specs.declared.plants.Listed.{Listed}
 use Rattle.roster.specs.declared.plants.Listed.the-variants.{Plants, Wrong, Again, Many}
 use Rattle.roster.specs.Bytes.{rest, has}
 use Rattle.roster.specs.Lines.{newline, split, linesOf, lineAt, after}
 use Rattle.roster.specs.Plants.{mostPlants, checkpointOf, isPlant, namedBefore, judgedFrom, judged}
 use Rattle.roster.specs.Right.{RightUpTo}
-use Rattle.roster.proofs.TestsLaws.{if-test, if-lt}
 use Rattle.roster.proofs.BytesLaws.{has→lt}
 use Rattle.roster.proofs.LinesLaws.{Whole, lines-after, unended-after, after-suc, has-after, lines-some, lineAt-ended, lineAt-none}
 use Rattle.roster.proofs.PlantsLaws.{isPlant-nil, first, if-among, getD-checkpoint}

@@ -8,14 +8,15 @@
 --
 -- Laws: proofs/BytesLaws.antt. Definitions only.
 use Prim.Native.Nat.{ℕ, suc}
-use mathlib.Core.Bool.{Bool, true, false, cond, _&&_}
+use mathlib.Core.Bool.{Bool, true, false}
 use mathlib.Core.List.{List, [], _∷_}
 use lib.Dec.{ltb, eqb}
 use lib.ListN.{length, take, drop}
+use Rattle.choice.specs.Tests.{_also_, choose}
 
 unfoldable pub span : ℕ → List ℕ → ℕ
 span b [] = 0
-span b (x ∷ xs) = cond (eqb x b) 0 (suc (span b xs))
+span b (x ∷ xs) = choose (eqb x b) 0 (suc (span b xs))
 
 unfoldable pub front : ℕ → List ℕ → List ℕ
 front b xs = take (span b xs) xs
@@ -30,4 +31,4 @@ unfoldable pub same : List ℕ → List ℕ → Bool
 same [] [] = true
 same [] (y ∷ ys) = false
 same (x ∷ xs) [] = false
-same (x ∷ xs) (y ∷ ys) = eqb x y && same xs ys
+same (x ∷ xs) (y ∷ ys) = eqb x y also same xs ys

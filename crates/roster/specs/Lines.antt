@@ -11,10 +11,10 @@
 --
 -- Laws: proofs/LinesLaws.antt. Definitions only.
 use Prim.Native.Nat.{ℕ, zero, suc}
-use mathlib.Core.Bool.{cond}
 use mathlib.Core.List.{List, [], _∷_, _++_}
 use lib.Dec.{eqb}
 use lib.ListN.{getD, take}
+use Rattle.choice.specs.Tests.{choose}
 use Rattle.roster.specs.Bytes.{span, rest}
 
 abbrev pub newline : ℕ
@@ -31,7 +31,7 @@ led x (l ∷ ls) u = record { lines = (x ∷ l) ∷ ls; unended = u }
 unfoldable pub split : List ℕ → Split
 split [] = record { lines = []; unended = [] }
 split (x ∷ t) =
-    cond (eqb x newline)
+    choose (eqb x newline)
     (record { lines = [] ∷ split t .lines; unended = split t .unended })
     (led x (split t .lines) (split t .unended))
 

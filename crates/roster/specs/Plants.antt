@@ -18,10 +18,11 @@
 --
 -- Laws: proofs/PlantsLaws.antt, proofs/JudgedLaws.antt, proofs/ToldLaws.antt. Definitions only.
 use Prim.Native.Nat.{ℕ, suc}
-use mathlib.Core.Bool.{Bool, true, cond, _&&_}
+use mathlib.Core.Bool.{Bool, true}
 use mathlib.Core.List.{List, [], _∷_, map}
 use lib.Dec.{ltb, leb}
 use lib.ListN.{length}
+use Rattle.choice.specs.Tests.{_also_, choose}
 use Rattle.roster.specs.declared.plants.Part.{Part}
 use Rattle.roster.specs.declared.plants.Part.the-variants.{Line, Checkpoint}
 use Rattle.roster.specs.declared.plants.Listed.{Listed}
@@ -43,10 +44,10 @@ space = 32
 
 unfoldable pub visible : List ℕ → Bool
 visible [] = true
-visible (b ∷ w) = ltb 32 b && visible w
+visible (b ∷ w) = ltb 32 b also visible w
 
 unfoldable pub isWord : ℕ → List ℕ → Bool
-isWord m w = leb 1 (length w) && leb (length w) m && visible w
+isWord m w = leb 1 (length w) also leb (length w) m also visible w
 
 unfoldable pub bookOf : List ℕ → List ℕ
 bookOf l = front space l
@@ -57,7 +58,7 @@ checkpointOf l = rest space l
 -- A line with no space names an empty CHECKPOINT, and one with a second space has it in its CHECKPOINT: neither
 -- is a plant's.
 unfoldable pub isPlant : List ℕ → Bool
-isPlant l = isWord longestBook (bookOf l) && isWord longestCheckpoint (checkpointOf l)
+isPlant l = isWord longestBook (bookOf l) also isWord longestCheckpoint (checkpointOf l)
 
 abbrev pub partOf : Part → List ℕ → List ℕ
 partOf Line l = l
@@ -65,18 +66,18 @@ partOf Checkpoint l = checkpointOf l
 
 unfoldable pub indexFrom : ℕ → ℕ → List ℕ → List (List ℕ) → ℕ
 indexFrom j n w [] = n
-indexFrom j n w (x ∷ ws) = cond (same x w) j (indexFrom (suc j) n w ws)
+indexFrom j n w (x ∷ ws) = choose (same x w) j (indexFrom (suc j) n w ws)
 
 unfoldable pub namedBefore : List (List ℕ) → ℕ → List ℕ → Bool
 namedBefore cs i l = ltb (indexFrom 0 i (checkpointOf l) cs) i
 
 unfoldable pub judgedFrom : List (List ℕ) → ℕ → List (List ℕ) → List ℕ → Listed
 judgedFrom cs i [] [] = Plants i
-judgedFrom cs i [] (x ∷ u) = cond (ltb i mostPlants) (Wrong i) Many
+judgedFrom cs i [] (x ∷ u) = choose (ltb i mostPlants) (Wrong i) Many
 judgedFrom cs i (l ∷ ls) u =
-    cond (ltb i mostPlants)
-    (cond (isPlant l)
-    (cond (namedBefore cs i l) (Again i) (judgedFrom cs (suc i) ls u))
+    choose (ltb i mostPlants)
+    (choose (isPlant l)
+    (choose (namedBefore cs i l) (Again i) (judgedFrom cs (suc i) ls u))
     (Wrong i))
     Many
 

@@ -1,7 +1,7 @@
 -- What is left after i lines begins with line i, if a line is left. Assumes nothing.
 use mathlib.Core.Path.{_∙_}
 use borrow.Author.Needs.{needs}
-use Rattle.roster.proofs.TestsLaws.{is}
+use Rattle.choice.proofs.TestsLaws.{is}
 use Rattle.roster.proofs.LinesLaws.{lineAt-ended, lineAt-none}
 use Rattle.roster.proofs.lines.take_line.Statement.{statement}
 use Rattle.roster.proofs.lines.take_line.Tie as tie

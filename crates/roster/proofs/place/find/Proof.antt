@@ -2,9 +2,9 @@
 use mathlib.Core.Path.{_≡_, refl}
 use lib.ListN.{length}
 use borrow.Author.Needs.{needs}
+use Rattle.choice.proofs.TestsLaws.{is}
 use Rattle.roster.specs.Lines.{newline, linesOf}
 use Rattle.roster.specs.Place.{placeFrom, placed}
-use Rattle.roster.proofs.TestsLaws.{is}
 use Rattle.roster.proofs.BytesLaws.{rest-lt}
 use Rattle.roster.proofs.PlaceLaws.{place-next, place-end}
 use Rattle.roster.proofs.place.find.Statement.{statement}

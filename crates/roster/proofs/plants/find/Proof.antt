@@ -6,10 +6,10 @@ use mathlib.Core.Path.{_≡_, refl, ap, _∙_}
 use native.Mathlib.Omega.{arith}
 use lib.ListN.{length}
 use borrow.Author.Needs.{needs}
+use Rattle.choice.proofs.TestsLaws.{is}
 use Rattle.roster.specs.Bytes.{front, has, same}
 use Rattle.roster.specs.Lines.{newline, linesOf}
 use Rattle.roster.specs.Plants.{partOf, indexFrom}
-use Rattle.roster.proofs.TestsLaws.{is}
 use Rattle.roster.proofs.BytesLaws.{rest-lt}
 use Rattle.roster.proofs.PlantsLaws.{index-here, index-next, index-end}
 use Rattle.roster.proofs.plants.find.Statement.{statement}

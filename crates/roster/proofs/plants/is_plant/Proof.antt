@@ -1,7 +1,7 @@
 -- The two words are those of the definition. Assumes nothing.
-use mathlib.Core.Bool.{_&&_}
-use mathlib.Core.Path.{ap, ap₂, _∙_}
+use mathlib.Core.Path.{ap, _∙_}
 use borrow.Author.Needs.{needs}
+use Rattle.choice.proofs.TestsLaws.{both}
 use Rattle.roster.specs.Plants.{longestBook, longestCheckpoint, isWord, isPlant}
 use Rattle.roster.proofs.plants.is_plant.Statement.{statement}
 use Rattle.roster.proofs.plants.is_plant.Tie as tie
@@ -22,7 +22,7 @@ returns : tie.Need-returns
 unfolding isPlant
 returns c =
     let book = c .before .before in
-    ap₂ _&&_
+    both
     (book .is-word .ensures ∙ ap (isWord longestBook) (book .before .take-book .ensures))
     (c .is-word2 .ensures ∙ ap (isWord longestCheckpoint) (c .before .take-checkpoint .ensures))
 

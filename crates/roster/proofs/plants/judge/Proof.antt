@@ -6,10 +6,10 @@ use mathlib.Core.Path.{_≡_, refl, ap, sym, _∙_}
 use native.Mathlib.Omega.{arith}
 use lib.ListN.{length}
 use borrow.Author.Needs.{needs}
+use Rattle.choice.proofs.TestsLaws.{is, is-not, is-so}
 use Rattle.roster.specs.Bytes.{front, has}
 use Rattle.roster.specs.Lines.{newline, split, linesOf}
 use Rattle.roster.specs.Plants.{mostPlants, checkpointOf, isPlant, namedBefore, judgedFrom, judged}
-use Rattle.roster.proofs.TestsLaws.{is, is-not, is-so}
 use Rattle.roster.proofs.BytesLaws.{rest-lt}
 use Rattle.roster.proofs.JudgedLaws.{judged-end, judged-unended, judged-many, judged-wrong, judged-again, judged-next}
 use Rattle.roster.proofs.plants.judge.Statement.{statement}
