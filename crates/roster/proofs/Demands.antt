@@ -1,7 +1,7 @@
 -- What `roster` promises, as theorems. Read this file first.
 --
 -- t and u are lists of plants, i and j lines of them counted from 0, k any bytes that may have been saved.
--- The code gives `judged t`, `lineAt i t`, `bookOf` and `checkpointOf` of a line, `after i t` and `through i t`,
+-- The code gives `verdictOn t`, `lineAt i t`, `bookOf` and `checkpointOf` of a line, `after i t` and `through i t`,
 -- and `placed t k`: those are its contracts, taken over below with their proofs. A program that serves plant i
 -- saves `kept i t`, which is `after (suc i) t` and then `through (suc i) t`.
 --
@@ -14,11 +14,11 @@ use mathlib.Core.Path.{_≡_, refl}
 use lib.ListN.{length}
 use Rattle.roster.specs.declared.plants.Listed.the-variants.{Plants, Wrong, Again, Many}
 use Rattle.roster.specs.Lines.{linesOf, lineAt, after, through}
-use Rattle.roster.specs.Plants.{checkpointOf, isPlant, judged}
+use Rattle.roster.specs.Plants.{checkpointOf, isPlant, verdictOn}
 use Rattle.roster.specs.Right.{RightUpTo}
 use Rattle.roster.specs.Place.{kept, placed}
 use Rattle.roster.proofs.LinesLaws.{through-after}
-use Rattle.roster.proofs.ToldLaws.{judged↔says}
+use Rattle.roster.proofs.ToldLaws.{verdictOn↔says}
 use Rattle.roster.proofs.PlaceLaws.{placed-last, placed-none, placed-kept, placed-lt}
 -- The code meets its contracts.
 pub use Rattle.roster.proofs.lines.take_line.Met.{met as take-line-meets-its-contract}
@@ -33,31 +33,31 @@ pub use Rattle.roster.proofs.place.find.Met.{met as find-meets-its-cont
 -- lines, at most 16, are plants' lines and name i CHECKPOINTs.
 pub record Told (t : List ℕ) : Type 0 where
   -- It is right: nothing stands after n right lines.
-  pub right : (n : ℕ) → (judged t ≡ Plants n) ↔ (RightUpTo t n × (after n t ≡ []))
+  pub right : (n : ℕ) → (verdictOn t ≡ Plants n) ↔ (RightUpTo t n × (after n t ≡ []))
   -- Else the first fault is told. What stands after i right lines is no plant's line; unended text is no line.
   pub wrong : (i : ℕ)
-      → (judged t ≡ Wrong i)
+      → (verdictOn t ≡ Wrong i)
       ↔ (RightUpTo t i × (i < 16) × (0 < length (after i t)) × (isPlant (lineAt i t) ≡ false))
   -- It is one, but some line j before it names the same CHECKPOINT.
   pub again : (i : ℕ)
-      → (judged t ≡ Again i)
+      → (verdictOn t ≡ Again i)
       ↔ (RightUpTo t i
       × (i < 16)
       × (isPlant (lineAt i t) ≡ true)
       × ((j : ℕ) × (j < i) × (checkpointOf (lineAt j t) ≡ checkpointOf (lineAt i t))))
   -- Something stands after 16 right lines.
-  pub many : (judged t ≡ Many) ↔ (RightUpTo t 16 × (0 < length (after 16 t)))
+  pub many : (verdictOn t ≡ Many) ↔ (RightUpTo t 16 × (0 < length (after 16 t)))
 
 pub told : (t : List ℕ) → Told t
 told t = record {
-  right = λ n. judged↔says t (Plants n);
-  wrong = λ i. judged↔says t (Wrong i);
-  again = λ i. judged↔says t (Again i);
-  many = judged↔says t Many;
+  right = λ n. verdictOn↔says t (Plants n);
+  wrong = λ i. verdictOn↔says t (Wrong i);
+  again = λ i. verdictOn↔says t (Again i);
+  many = verdictOn↔says t Many;
 }
 
 -- ---- 2. After a kill the round goes on behind the plant that was being served.
-pub goes-on : (t : List ℕ) (n : ℕ) → judged t ≡ Plants n → (i : ℕ) → i < n → placed t (kept i t) ≡ i
+pub goes-on : (t : List ℕ) (n : ℕ) → verdictOn t ≡ Plants n → (i : ℕ) → i < n → placed t (kept i t) ≡ i
 goes-on t n e i l = placed-kept t n e i l t n e i l refl
 
 -- ---- 3. The list may have been edited meanwhile. Of a list u of m plants, whatever bytes k were kept:
@@ -71,7 +71,7 @@ pub record Place (u : List ℕ) (m : ℕ) (k : List ℕ) : Type 0 where
   -- The place is a slot of the queue.
   pub slot : placed u k < 16
 
-pub place : (u : List ℕ) (m : ℕ) → judged u ≡ Plants m → (k : List ℕ) → Place u m k
+pub place : (u : List ℕ) (m : ℕ) → verdictOn u ≡ Plants m → (k : List ℕ) → Place u m k
 place u m e k = record {
   last-listed = placed-last u m e k;
   none-listed = placed-none u k;
@@ -79,8 +79,8 @@ place u m e k = record {
 }
 
 -- So the plant that was being served as line i of t is found where it stands now.
-pub goes-on-behind : (t : List ℕ) (n : ℕ) → judged t ≡ Plants n → (i : ℕ) → i < n
-    → (u : List ℕ) (m : ℕ) → judged u ≡ Plants m → (j : ℕ) → j < m
+pub goes-on-behind : (t : List ℕ) (n : ℕ) → verdictOn t ≡ Plants n → (i : ℕ) → i < n
+    → (u : List ℕ) (m : ℕ) → verdictOn u ≡ Plants m → (j : ℕ) → j < m
     → lineAt j u ≡ lineAt i t → placed u (kept i t) ≡ j
 goes-on-behind = placed-kept
 

@@ -2,7 +2,7 @@
 pub mod BytesLaws
 pub mod LinesLaws
 pub mod PlantsLaws
-pub mod JudgedLaws
+pub mod VerdictLaws
 pub mod ToldLaws
 pub mod PlaceLaws
 pub mod Demands

@@ -13,12 +13,12 @@ use Rattle.roster.specs.declared.plants.Part.the-variants.{Line}
 use Rattle.roster.specs.declared.plants.Listed.the-variants.{Plants}
 use Rattle.roster.specs.Bytes.{front, rest, has, same}
 use Rattle.roster.specs.Lines.{newline, Split, linesOf, lineAt, after, through}
-use Rattle.roster.specs.Plants.{mostPlants, checkpointOf, partOf, indexFrom, judged}
+use Rattle.roster.specs.Plants.{mostPlants, checkpointOf, partOf, indexFrom, verdictOn}
 use Rattle.roster.specs.Place.{kept, none, placeFrom, placed}
 use Rattle.roster.proofs.BytesLaws.{has→lt, has→le, same→eq}
 use Rattle.roster.proofs.LinesLaws.{split-ended, split-unended, lines-after, lines-through, lines-append, unended-after}
 use Rattle.roster.proofs.PlantsLaws.{first, if-among}
-use Rattle.roster.proofs.ToldLaws.{judged-upTo, judged-count, judged-whole}
+use Rattle.roster.proofs.ToldLaws.{verdictOn-upTo, verdictOn-count, verdictOn-whole}
 
 -- ---- one line more of a kept text, of which t is left
 whole-lines : (ls : List (List ℕ)) → map (partOf Line) ls ≡ ls
@@ -42,15 +42,15 @@ module _ {r : ℕ} (p : ℕ) (ls : List (List ℕ)) (t : List ℕ) (whole : plac
 
 -- ---- a plant's line in a right list
 -- A right list's line first stands where it stands.
-index-right : (t : List ℕ) (n : ℕ) → judged t ≡ Plants n → (p i : ℕ) → i < n
+index-right : (t : List ℕ) (n : ℕ) → verdictOn t ≡ Plants n → (p i : ℕ) → i < n
     → indexFrom 0 p (lineAt i t) (linesOf t) ≡ i
 unfolding lineAt
 index-right t n e p i l =
-    let all = judged-count t n e in
+    let all = verdictOn-count t n e in
     let line = first 0 p (getD (linesOf t) i []) (linesOf t) i (omega arith) refl in
     let early = line .early in
     if-lt (line .at) i
-    (λ h. absurd (judged-upTo t n e .apart (line .at) i h l (ap checkpointOf (line .has-it))))
+    (λ h. absurd (verdictOn-upTo t n e .apart (line .at) i h l (ap checkpointOf (line .has-it))))
     (λ h. omega (arith, line .index-is))
 
 -- ---- several lines
@@ -92,7 +92,7 @@ pub placed-none : (u k : List ℕ) → ((l : List ℕ) → List·Memᴰ l (lines
 unfolding placed
 placed-none u k out = placeFrom-absent none (linesOf u) (linesOf k) out
 
-pub placed-last : (u : List ℕ) (m : ℕ) → judged u ≡ Plants m
+pub placed-last : (u : List ℕ) (m : ℕ) → verdictOn u ≡ Plants m
     → (k : List ℕ) (before gone : List (List ℕ)) (line : List ℕ) → linesOf k ≡ before ++ line ∷ gone
     → ((l : List ℕ) → List·Memᴰ l gone → List·Memᴰ l (linesOf u) → ⊥)
     → (j : ℕ) → j < m → lineAt j u ≡ line → placed u k ≡ j
@@ -104,19 +104,19 @@ placed-last u m f k before gone line e out j h same-line =
     ∙ index-right u m f (placeFrom none (linesOf u) before) j h
 
 -- ---- the kept text
-lines-kept : (t : List ℕ) (n : ℕ) → judged t ≡ Plants n → (i : ℕ) → i < n
+lines-kept : (t : List ℕ) (n : ℕ) → verdictOn t ≡ Plants n → (i : ℕ) → i < n
     → linesOf (kept i t) ≡ drop (suc i) (linesOf t) ++ take i (linesOf t) ++ lineAt i t ∷ []
 unfolding kept lineAt
 lines-kept t n e i l =
     let ls = linesOf t in
-    let all = judged-count t n e in
-    lines-append (after (suc i) t) (through (suc i) t) (unended-after (suc i) t (omega arith) ∙ judged-whole t n e)
+    let all = verdictOn-count t n e in
+    lines-append (after (suc i) t) (through (suc i) t) (unended-after (suc i) t (omega arith) ∙ verdictOn-whole t n e)
     ∙ ap₂ _++_ (lines-after (suc i) t) (lines-through (suc i) t (omega arith) ∙ take-suc ls i [] (omega arith))
     ∙ sym (append-assoc (drop (suc i) ls) (take i ls) (getD ls i [] ∷ []))
 
 -- The list may have changed meanwhile from t to u: the plant is found where it now stands.
-pub placed-kept : (t : List ℕ) (n : ℕ) → judged t ≡ Plants n → (i : ℕ) → i < n
-    → (u : List ℕ) (m : ℕ) → judged u ≡ Plants m → (j : ℕ) → j < m
+pub placed-kept : (t : List ℕ) (n : ℕ) → verdictOn t ≡ Plants n → (i : ℕ) → i < n
+    → (u : List ℕ) (m : ℕ) → verdictOn u ≡ Plants m → (j : ℕ) → j < m
     → lineAt j u ≡ lineAt i t → placed u (kept i t) ≡ j
 placed-kept t n e i l u m f =
     placed-last u m f (kept i t) (drop (suc i) (linesOf t) ++ take i (linesOf t)) [] (lineAt i t)
@@ -134,8 +134,8 @@ placeFrom-lt b p ls [] most l = l
 placeFrom-lt b p ls (k ∷ ks) most l =
     placeFrom-lt b (indexFrom 0 p k ls) ls ks most (index-lt b 0 p k ls (omega arith) l)
 
-pub placed-lt : (t : List ℕ) (n : ℕ) → judged t ≡ Plants n → (k : List ℕ) → placed t k < mostPlants
+pub placed-lt : (t : List ℕ) (n : ℕ) → verdictOn t ≡ Plants n → (k : List ℕ) → placed t k < mostPlants
 unfolding placed
 placed-lt t n e k =
     placeFrom-lt mostPlants none (linesOf t) (linesOf k)
-    (omega (arith, judged-count t n e, judged-upTo t n e .few)) (omega arith)
+    (omega (arith, verdictOn-count t n e, verdictOn-upTo t n e .few)) (omega arith)

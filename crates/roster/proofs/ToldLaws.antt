@@ -13,12 +13,12 @@ use Rattle.roster.specs.declared.plants.Listed.{Listed}
 use Rattle.roster.specs.declared.plants.Listed.the-variants.{Plants, Wrong, Again, Many}
 use Rattle.roster.specs.Bytes.{rest, has}
 use Rattle.roster.specs.Lines.{newline, split, linesOf, lineAt, after}
-use Rattle.roster.specs.Plants.{mostPlants, checkpointOf, isPlant, namedBefore, judgedFrom, judged}
+use Rattle.roster.specs.Plants.{mostPlants, checkpointOf, isPlant, namedBefore, verdictFrom, verdictOn}
 use Rattle.roster.specs.Right.{RightUpTo}
 use Rattle.roster.proofs.BytesLaws.{has→lt}
 use Rattle.roster.proofs.LinesLaws.{Whole, lines-after, unended-after, after-suc, has-after, lines-some, lineAt-ended, lineAt-none}
 use Rattle.roster.proofs.PlantsLaws.{isPlant-nil, first, if-among, getD-checkpoint}
-use Rattle.roster.proofs.JudgedLaws.{judged-end, judged-unended, judged-many, judged-wrong, judged-again, judged-next}
+use Rattle.roster.proofs.VerdictLaws.{verdictOn-end, verdictOn-unended, verdictOn-many, verdictOn-wrong, verdictOn-again, verdictOn-next}
 
 -- What each answer says of a list. What isn't a line is no plant's: unended text is told as a wrong line.
 abbrev pub Says : List ℕ → Listed → Type 0
@@ -36,7 +36,7 @@ checkpoints t = map checkpointOf (linesOf t)
 
 -- What stands after i lines says what is told of the whole.
 abbrev Left : List ℕ → ℕ → Type 0
-Left t i = judgedFrom (checkpoints t) i (linesOf (after i t)) (split (after i t) .unended) ≡ judged t
+Left t i = verdictFrom (checkpoints t) i (linesOf (after i t)) (split (after i t) .unended) ≡ verdictOn t
 
 -- ---- a CHECKPOINT named before
 module _ (t : List ℕ) (i : ℕ) where
@@ -99,7 +99,7 @@ upTo-suc t i r there few plant new = record {
 }
 
 left-zero : (t : List ℕ) → Left t 0
-unfolding judged after
+unfolding verdictOn after
 left-zero t = refl
 
 left-suc : (t : List ℕ) (i : ℕ) → Left t i → i < length (linesOf t) → i < mostPlants
@@ -109,9 +109,9 @@ left-suc t i left there few plant new =
     let line = lineAt-ended i t refl h in
     let on : suc i ≡ i + 1 = omega arith in
     let rested = rest newline (after i t) in
-    ap (λ (u : List ℕ). judgedFrom (checkpoints t) (suc i) (linesOf u) (split u .unended)) (after-suc i t)
-    ∙ ap (λ (k : ℕ). judgedFrom (checkpoints t) k (linesOf rested) (split rested .unended)) on
-    ∙ judged-next (checkpoints t) i (after i t) left h few (ap isPlant line ∙ plant)
+    ap (λ (u : List ℕ). verdictFrom (checkpoints t) (suc i) (linesOf u) (split u .unended)) (after-suc i t)
+    ∙ ap (λ (k : ℕ). verdictFrom (checkpoints t) k (linesOf rested) (split rested .unended)) on
+    ∙ verdictOn-next (checkpoints t) i (after i t) left h few (ap isPlant line ∙ plant)
     (ap (namedBefore (checkpoints t) i) line ∙ namedBefore-apart t i new)
 
 left-upTo : (t : List ℕ) (i : ℕ) → RightUpTo t i → Left t i
@@ -124,7 +124,7 @@ left-upTo t (suc i) r =
 -- ---- the answer is true
 -- Line i is there.
 says-line : (t : List ℕ) (i : ℕ) → RightUpTo t i → Left t i → i < mostPlants → has newline (after i t) ≡ true
-    → (RightUpTo t (suc i) → Left t (suc i) → Says t (judged t)) → Says t (judged t)
+    → (RightUpTo t (suc i) → Left t (suc i) → Says t (verdictOn t)) → Says t (verdictOn t)
 says-line t i r left few h more =
     let there = lines-some i t h in
     let line = lineAt-ended i t refl h in
@@ -133,7 +133,7 @@ says-line t i r left few h more =
     if-test (namedBefore (checkpoints t) i (lineAt i t))
     (λ named.
     subst (Says t)
-    (judged-again (checkpoints t) i (after i t) left h few (ap isPlant line ∙ plant)
+    (verdictOn-again (checkpoints t) i (after i t) left h few (ap isPlant line ∙ plant)
     (ap (namedBefore (checkpoints t) i) line ∙ named))
     (r, few, plant, namedBefore→named t i named))
     (λ new.
@@ -141,7 +141,7 @@ says-line t i r left few h more =
     more (upTo-suc t i r there few plant out) (left-suc t i left there few plant out)))
     (λ other.
     subst (Says t)
-    (judged-wrong (checkpoints t) i (after i t) left h few (ap isPlant line ∙ other))
+    (verdictOn-wrong (checkpoints t) i (after i t) left h few (ap isPlant line ∙ other))
     (r, few, omega (arith, has→lt newline (after i t) h), other))
 
 empty : (t : List ℕ) → length t ≤ 0 → t ≡ []
@@ -153,7 +153,7 @@ plant-none : (t : List ℕ) (i : ℕ) → has newline (after i t) ≡ false → 
 plant-none t i h = ap isPlant (sym (lineAt-none i t refl h)) ∙ isPlant-nil
 
 says-at : (t : List ℕ) (i : ℕ) → RightUpTo t i → Left t i
-    → (i < mostPlants → RightUpTo t (suc i) → Left t (suc i) → Says t (judged t)) → Says t (judged t)
+    → (i < mostPlants → RightUpTo t (suc i) → Left t (suc i) → Says t (verdictOn t)) → Says t (verdictOn t)
 says-at t i r left more =
     if-lt 0 (length (after i t))
     (λ some.
@@ -163,65 +163,65 @@ says-at t i r left more =
     (λ h. says-line t i r left few h (more few))
     (λ h.
     subst (Says t)
-    (judged-unended (checkpoints t) i (after i t) left h some few)
+    (verdictOn-unended (checkpoints t) i (after i t) left h some few)
     (r, few, some, plant-none t i h)))
     (λ full.
     let last : i ≡ mostPlants = omega (arith, r .few) in
     subst (Says t)
-    (judged-many (checkpoints t) i (after i t) left some full)
+    (verdictOn-many (checkpoints t) i (after i t) left some full)
     (subst (λ (k : ℕ). RightUpTo t k × (0 < length (after k t))) last (r, some))))
-    (λ none. subst (Says t) (judged-end (checkpoints t) i (after i t) left none) (r, empty (after i t) none))
+    (λ none. subst (Says t) (verdictOn-end (checkpoints t) i (after i t) left none) (r, empty (after i t) none))
 
 -- At most f lines more are passed.
-says-from : (t : List ℕ) (f i : ℕ) → i + f ≡ mostPlants → RightUpTo t i → Left t i → Says t (judged t)
+says-from : (t : List ℕ) (f i : ℕ) → i + f ≡ mostPlants → RightUpTo t i → Left t i → Says t (verdictOn t)
 says-from t zero i all r left = says-at t i r left (λ few. absurd (omega arith))
 says-from t (suc f) i all r left = says-at t i r left (λ few. says-from t f (suc i) (omega arith))
 
-says-judged : (t : List ℕ) → Says t (judged t)
-says-judged t = says-from t mostPlants 0 (omega arith) (upTo-zero t) (left-zero t)
+says-verdictOn : (t : List ℕ) → Says t (verdictOn t)
+says-verdictOn t = says-from t mostPlants 0 (omega arith) (upTo-zero t) (left-zero t)
 
 -- ---- the answer that is true is told
-judged-says : (t : List ℕ) (r : Listed) → Says t r → judged t ≡ r
-judged-says t (Plants n) (r, e) =
-    sym (judged-end (checkpoints t) n (after n t) (left-upTo t n r) (omega (arith, ap length e)))
-judged-says t (Wrong i) (r, few, some, other) =
+verdictOn-says : (t : List ℕ) (r : Listed) → Says t r → verdictOn t ≡ r
+verdictOn-says t (Plants n) (r, e) =
+    sym (verdictOn-end (checkpoints t) n (after n t) (left-upTo t n r) (omega (arith, ap length e)))
+verdictOn-says t (Wrong i) (r, few, some, other) =
     let left = left-upTo t i r in
     if-test (has newline (after i t))
-    (λ h. sym (judged-wrong (checkpoints t) i (after i t) left h few (ap isPlant (lineAt-ended i t refl h) ∙ other)))
-    (λ h. sym (judged-unended (checkpoints t) i (after i t) left h some few))
-judged-says t (Again i) (r, few, plant, named) =
+    (λ h. sym (verdictOn-wrong (checkpoints t) i (after i t) left h few (ap isPlant (lineAt-ended i t refl h) ∙ other)))
+    (λ h. sym (verdictOn-unended (checkpoints t) i (after i t) left h some few))
+verdictOn-says t (Again i) (r, few, plant, named) =
     if-test (has newline (after i t))
     (λ h.
     let line = lineAt-ended i t refl h in
-    sym (judged-again (checkpoints t) i (after i t) (left-upTo t i r) h few (ap isPlant line ∙ plant)
+    sym (verdictOn-again (checkpoints t) i (after i t) (left-upTo t i r) h few (ap isPlant line ∙ plant)
     (ap (namedBefore (checkpoints t) i) line ∙ named→namedBefore t i (lines-some i t h) named)))
     (λ h. absurd (false≢true (sym (plant-none t i h) ∙ plant)))
-judged-says t Many (r, some) =
-    sym (judged-many (checkpoints t) mostPlants (after mostPlants t) (left-upTo t mostPlants r) some (omega arith))
+verdictOn-says t Many (r, some) =
+    sym (verdictOn-many (checkpoints t) mostPlants (after mostPlants t) (left-upTo t mostPlants r) some (omega arith))
 
-pub judged↔says : (t : List ℕ) (r : Listed) → (judged t ≡ r) ↔ Says t r
-judged↔says t r = (λ e. subst (Says t) e (says-judged t), judged-says t r)
+pub verdictOn↔says : (t : List ℕ) (r : Listed) → (verdictOn t ≡ r) ↔ Says t r
+verdictOn↔says t r = (λ e. subst (Says t) e (says-verdictOn t), verdictOn-says t r)
 
 -- ---- a list t of n plants
-module _ (t : List ℕ) (n : ℕ) (e : judged t ≡ Plants n) where
+module _ (t : List ℕ) (n : ℕ) (e : verdictOn t ≡ Plants n) where
   says : Says t (Plants n)
-  says = judged↔says t (Plants n) .0 e
+  says = verdictOn↔says t (Plants n) .0 e
 
-  pub judged-upTo : RightUpTo t n
-  judged-upTo = says .0
+  pub verdictOn-upTo : RightUpTo t n
+  verdictOn-upTo = says .0
 
-  pub judged-count : n ≡ length (linesOf t)
-  judged-count =
-      let there = judged-upTo .there in
+  pub verdictOn-count : n ≡ length (linesOf t)
+  verdictOn-count =
+      let there = verdictOn-upTo .there in
       let none : length (linesOf (after n t)) ≡ 0 = ap (λ (u : List ℕ). length (linesOf u)) (says .1) ∙ no-lines in
       omega (arith, ap length (lines-after n t), length-drop n (linesOf t))
     where
       no-lines : length (linesOf []) ≡ 0
       no-lines = unfold split in refl
 
-  pub judged-whole : Whole t
-  judged-whole =
-      sym (unended-after n t (judged-upTo .there))
+  pub verdictOn-whole : Whole t
+  verdictOn-whole =
+      sym (unended-after n t (verdictOn-upTo .there))
       ∙ ap (λ (u : List ℕ). split u .unended) (says .1)
       ∙ nothing
     where

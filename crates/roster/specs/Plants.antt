@@ -1,8 +1,8 @@
 -- What makes a list of plants right, and which fault is told. RULES, "List of plants".
 --
 --     mostPlants                 16
---     longestBook                4,095
---     longestCheckpoint          4,088
+--     longestBookPath            4,095
+--     longestCheckpointPath      4,088
 --     space                      the byte between BOOK and CHECKPOINT
 --     visible w                  every byte of w is above 32
 --     isWord m w                 w is a word of at most m bytes
@@ -12,11 +12,11 @@
 --     partOf p l                 the whole line l, or its CHECKPOINT
 --     indexFrom j n w ws         where w first stands in ws, whose first is number j; n, if it doesn't
 --     namedBefore cs i l         a line before line i names the CHECKPOINT of l, cs being those of the whole list
---     judgedFrom cs i ls u       what is told of the lines ls, the first of them line i of the list, and of the
+--     verdictFrom cs i ls u      what is told of the lines ls, the first of them line i of the list, and of the
 --                                unended u after them, cs being the CHECKPOINTs of the whole list
---     judged t                   what is told of the list t
+--     verdictOn t                what is told of the list t
 --
--- Laws: proofs/PlantsLaws.antt, proofs/JudgedLaws.antt, proofs/ToldLaws.antt. Definitions only.
+-- Laws: proofs/PlantsLaws.antt, proofs/VerdictLaws.antt, proofs/ToldLaws.antt. Definitions only.
 use Prim.Native.Nat.{ℕ, suc}
 use mathlib.Core.Bool.{Bool, true}
 use mathlib.Core.List.{List, [], _∷_, map}
@@ -33,11 +33,11 @@ use Rattle.roster.specs.Lines.{split, linesOf}
 abbrev pub mostPlants : ℕ
 mostPlants = 16
 
-abbrev pub longestBook : ℕ
-longestBook = 4095
+abbrev pub longestBookPath : ℕ
+longestBookPath = 4095
 
-abbrev pub longestCheckpoint : ℕ
-longestCheckpoint = 4088
+abbrev pub longestCheckpointPath : ℕ
+longestCheckpointPath = 4088
 
 abbrev pub space : ℕ
 space = 32
@@ -58,7 +58,7 @@ checkpointOf l = rest space l
 -- A line with no space names an empty CHECKPOINT, and one with a second space has it in its CHECKPOINT: neither
 -- is a plant's.
 unfoldable pub isPlant : List ℕ → Bool
-isPlant l = isWord longestBook (bookOf l) also isWord longestCheckpoint (checkpointOf l)
+isPlant l = isWord longestBookPath (bookOf l) also isWord longestCheckpointPath (checkpointOf l)
 
 abbrev pub partOf : Part → List ℕ → List ℕ
 partOf Line l = l
@@ -71,15 +71,15 @@ indexFrom j n w (x ∷ ws) = choose (same x w) j (indexFrom (suc j) n w ws)
 unfoldable pub namedBefore : List (List ℕ) → ℕ → List ℕ → Bool
 namedBefore cs i l = ltb (indexFrom 0 i (checkpointOf l) cs) i
 
-unfoldable pub judgedFrom : List (List ℕ) → ℕ → List (List ℕ) → List ℕ → Listed
-judgedFrom cs i [] [] = Plants i
-judgedFrom cs i [] (x ∷ u) = choose (ltb i mostPlants) (Wrong i) Many
-judgedFrom cs i (l ∷ ls) u =
+unfoldable pub verdictFrom : List (List ℕ) → ℕ → List (List ℕ) → List ℕ → Listed
+verdictFrom cs i [] [] = Plants i
+verdictFrom cs i [] (x ∷ u) = choose (ltb i mostPlants) (Wrong i) Many
+verdictFrom cs i (l ∷ ls) u =
     choose (ltb i mostPlants)
     (choose (isPlant l)
-    (choose (namedBefore cs i l) (Again i) (judgedFrom cs (suc i) ls u))
+    (choose (namedBefore cs i l) (Again i) (verdictFrom cs (suc i) ls u))
     (Wrong i))
     Many
 
-unfoldable pub judged : List ℕ → Listed
-judged t = judgedFrom (map checkpointOf (linesOf t)) 0 (linesOf t) (split t .unended)
+unfoldable pub verdictOn : List ℕ → Listed
+verdictOn t = verdictFrom (map checkpointOf (linesOf t)) 0 (linesOf t) (split t .unended)

@@ -4,7 +4,7 @@ use crate::lines;
 ghost use mathlib.Core.Path.{_≡_};
 ghost use mathlib.Core.List.{map};
 ghost use Rattle.roster.specs.Lines.{linesOf};
-ghost use Rattle.roster.specs.Plants.{visible, isWord, bookOf, checkpointOf, isPlant, partOf, indexFrom, namedBefore, judged};
+ghost use Rattle.roster.specs.Plants.{visible, isWord, bookOf, checkpointOf, isPlant, partOf, indexFrom, namedBefore, verdictOn};
 
 pub enum Listed {
     // So many plants, one a line.
@@ -25,15 +25,15 @@ pub(crate) enum Part {
 
 const MOST_PLANTS: u8 = 16;
 
-const LONGEST_BOOK: usize = 4095;
+const LONGEST_BOOK_PATH: usize = 4095;
 
-const LONGEST_CHECKPOINT: usize = 4088;
+const LONGEST_CHECKPOINT_PATH: usize = 4088;
 
 const SPACE: u8 = 32;
 
-// Judges a list: how many plants it names, or its first fault.
+// The verdict on a list: how many plants it names, or its first fault.
 pub fn judge(list: &[u8]) -> Listed
-    ensures judged { λ r. ⌜ r ≡ judged (now (list .entry)) ⌝ }
+    ensures verdict { λ r. ⌜ r ≡ verdictOn (now (list .entry)) ⌝ }
 {
     let mut left = list;
     let mut i: u8 = 0;
@@ -110,8 +110,8 @@ fn take_part(line: &[u8], part: Part) -> &[u8]
 fn is_plant(line: &[u8]) -> bool
     ensures plant { λ r. ⌜ r ≡ isPlant (now (line .entry)) ⌝ }
 {
-    let book = is_word(take_book(line), LONGEST_BOOK);
-    let checkpoint = is_word(take_checkpoint(line), LONGEST_CHECKPOINT);
+    let book = is_word(take_book(line), LONGEST_BOOK_PATH);
+    let checkpoint = is_word(take_checkpoint(line), LONGEST_CHECKPOINT_PATH);
     book & checkpoint
 }
 

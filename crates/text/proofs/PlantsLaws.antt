@@ -1,4 +1,4 @@
--- What is told of a judged list, and how long it is at most. Assumes nothing.
+-- What is told of each verdict on a list, and how long it is at most. Assumes nothing.
 use Prim.Native.Nat.{ℕ, _+_}
 use mathlib.Core.List.{[], _++_}
 use mathlib.Core.Path.{_≡_, ap}

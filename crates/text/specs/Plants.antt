@@ -1,6 +1,6 @@
 -- What an operator is told of a wrong list of plants, behind the list's name. RULES, "List of plants".
 --
---     faultText x    the line of a list that was judged x, its own lines counted from 1; nothing of one that is
+--     faultText x    the line for the verdict x on a list, whose lines are counted from 1; nothing if it is
 --                    right
 --
 -- Laws: proofs/PlantsLaws.antt. Definitions only.

@@ -2,7 +2,7 @@
 use mathlib.Core.Path.{ap, _∙_}
 use borrow.Author.Needs.{needs}
 use Rattle.choice.proofs.TestsLaws.{both}
-use Rattle.roster.specs.Plants.{longestBook, longestCheckpoint, isWord, isPlant}
+use Rattle.roster.specs.Plants.{longestBookPath, longestCheckpointPath, isWord, isPlant}
 use Rattle.roster.proofs.plants.is_plant.Statement.{statement}
 use Rattle.roster.proofs.plants.is_plant.Tie as tie
 
@@ -23,8 +23,8 @@ unfolding isPlant
 returns c =
     let book = c .before .before in
     both
-    (book .is-word .ensures ∙ ap (isWord longestBook) (book .before .take-book .ensures))
-    (c .is-word2 .ensures ∙ ap (isWord longestCheckpoint) (c .before .take-checkpoint .ensures))
+    (book .is-word .ensures ∙ ap (isWord longestBookPath) (book .before .take-book .ensures))
+    (c .is-word2 .ensures ∙ ap (isWord longestCheckpointPath) (c .before .take-checkpoint .ensures))
 
 pub is-plant-spec : {M : Type 1} → statement M
 is-plant-spec =

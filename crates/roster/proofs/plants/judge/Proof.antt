@@ -9,16 +9,16 @@ use borrow.Author.Needs.{needs}
 use Rattle.choice.proofs.TestsLaws.{is, is-not, is-so}
 use Rattle.roster.specs.Bytes.{front, has}
 use Rattle.roster.specs.Lines.{newline, split, linesOf}
-use Rattle.roster.specs.Plants.{mostPlants, checkpointOf, isPlant, namedBefore, judgedFrom, judged}
+use Rattle.roster.specs.Plants.{mostPlants, checkpointOf, isPlant, namedBefore, verdictFrom, verdictOn}
 use Rattle.roster.proofs.BytesLaws.{rest-lt}
-use Rattle.roster.proofs.JudgedLaws.{judged-end, judged-unended, judged-many, judged-wrong, judged-again, judged-next}
+use Rattle.roster.proofs.VerdictLaws.{verdictOn-end, verdictOn-unended, verdictOn-many, verdictOn-wrong, verdictOn-again, verdictOn-next}
 use Rattle.roster.proofs.plants.judge.Statement.{statement}
 use Rattle.roster.proofs.plants.judge.Tie as tie
 
 abbrev Inv-loop : tie.InvT-loop
 Inv-loop list left₀ i₀ left i =
     (i ≤ mostPlants)
-    × (judgedFrom (map checkpointOf (linesOf list)) i (linesOf left) (split left .unended) ≡ judged list)
+    × (verdictFrom (map checkpointOf (linesOf list)) i (linesOf left) (split left .unended) ≡ verdictOn list)
 
 abbrev μ-loop : tie.MeasureT-loop
 μ-loop list left₀ i₀ left i = length left
@@ -64,14 +64,14 @@ named c =
     ∙ ap (namedBefore (checkpoints c) (index (head c))) (c .before .before .before .take-front .ensures)
 
 loop-holds : tie.Need-loop-holds Inv-loop μ-loop
-unfolding judged
+unfolding verdictOn
 loop-holds c = (zero-le, refl)
 
 returns : tie.Need-returns Inv-loop μ-loop
 returns c =
     let at = c .before .before .loop in
     let a = c .before .before .before .before .args in
-    judged-many _ (at .i) (at .left .now) (at .inv .1) (c .before .loop-test .taken) (omega arith)
+    verdictOn-many _ (at .i) (at .left .now) (at .inv .1) (c .before .loop-test .taken) (omega arith)
 
 has-byte-requires : tie.Need-has-byte-requires Inv-loop μ-loop
 has-byte-requires c κs = search needs
@@ -80,7 +80,7 @@ returns-2 : tie.Need-returns-2 Inv-loop μ-loop
 returns-2 c =
     let at = c .before .before .before .before .loop in
     let most = at .inv .0 in
-    judged-unended _ (at .i) (at .left .now) (at .inv .1)
+    verdictOn-unended _ (at .i) (at .left .now) (at .inv .1)
     (is-not (c .before .has-byte .ensures) (c .if2 .taken)) (search needs) (omega arith)
 
 take-front-requires : tie.Need-take-front-requires Inv-loop μ-loop
@@ -93,7 +93,7 @@ returns-3 : tie.Need-returns-3 Inv-loop μ-loop
 returns-3 c =
     let line = c .before .before in
     let at = line .before .before .before .before .before .loop in
-    judged-wrong _ (at .i) (at .left .now) (at .inv .1) (ended (line .before)) (few (line .before))
+    verdictOn-wrong _ (at .i) (at .left .now) (at .inv .1) (ended (line .before)) (few (line .before))
     (ap isPlant (sym (line .take-front .ensures)) ∙ is-not (c .before .is-plant .ensures) (c .if3 .taken))
 
 is-named-before-requires : tie.Need-is-named-before-requires Inv-loop μ-loop
@@ -103,7 +103,7 @@ returns-4 : tie.Need-returns-4 Inv-loop μ-loop
 returns-4 c =
     let here = c .before in
     let at = head here .before .before .before .before .loop in
-    judged-again _ (at .i) (at .left .now) (at .inv .1) (ended (head here)) (few (head here)) (plant here)
+    verdictOn-again _ (at .i) (at .left .now) (at .inv .1) (ended (head here)) (few (head here)) (plant here)
     (is (named here) (c .if4 .taken))
 
 take-rest-requires : tie.Need-take-rest-requires Inv-loop μ-loop
@@ -126,16 +126,16 @@ loop-again c =
     let low = few line in
     let at = line .before .before .before .before .loop in (
       omega arith,
-      ap (λ (t : List ℕ). judgedFrom (checkpoints here) (at .i + 1) (linesOf t) (split t .unended))
+      ap (λ (t : List ℕ). verdictFrom (checkpoints here) (at .i + 1) (linesOf t) (split t .unended))
           (c .take-rest .ensures)
-          ∙ judged-next _ (at .i) (at .left .now) (at .inv .1) (ended line) low (plant here)
+          ∙ verdictOn-next _ (at .i) (at .left .now) (at .inv .1) (ended line) low (plant here)
           (is (named here) (c .before .if4 .left)),
     )
 
 returns-5 : tie.Need-returns-5 Inv-loop μ-loop
 returns-5 c =
     let at = c .before .loop in
-    judged-end _ (at .i) (at .left .now) (at .inv .1) (c .loop-test .left)
+    verdictOn-end _ (at .i) (at .left .now) (at .inv .1) (c .loop-test .left)
 
 pub judge-spec : {M : Type 1} → statement M
 judge-spec =
