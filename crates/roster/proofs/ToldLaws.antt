@@ -11,7 +11,7 @@ use borrow.Author.Tests.{lt-ltb, ltb-true}
 use Rattle.choice.proofs.Splitting.{if-test, if-lt}
 use Rattle.roster.specs.declared.plants.Listed.{Listed}
 use Rattle.roster.specs.declared.plants.Listed.the-variants.{Plants, Wrong, Again, Many}
-use Rattle.roster.specs.Bytes.{rest, has}
+use Rattle.roster.specs.Bytes.{has}
 use Rattle.roster.specs.Lines.{newline, split, linesOf, lineAt, after}
 use Rattle.roster.specs.Plants.{mostPlants, checkpointOf, isPlant, namedBefore, verdictFrom, verdictOn}
 use Rattle.roster.specs.Right.{RightUpTo}
@@ -106,13 +106,10 @@ left-suc : (t : List ℕ) (i : ℕ) → Left t i → i < length (linesOf t) → 
     → isPlant (lineAt i t) ≡ true → (Named t i → ⊥) → Left t (suc i)
 left-suc t i left there few plant new =
     let h = has-after i t there in
-    let line = lineAt-ended i t refl h in
     let on : suc i ≡ i + 1 = omega arith in
-    let rested = rest newline (after i t) in
-    ap (λ (u : List ℕ). verdictFrom (checkpoints t) (suc i) (linesOf u) (split u .unended)) (after-suc i t)
-    ∙ ap (λ (k : ℕ). verdictFrom (checkpoints t) k (linesOf rested) (split rested .unended)) on
-    ∙ verdictOn-next (checkpoints t) i (after i t) left h few (ap isPlant line ∙ plant)
-    (ap (namedBefore (checkpoints t) i) line ∙ namedBefore-apart t i new)
+    ap (λ (k : ℕ). verdictFrom (checkpoints t) k (linesOf (after (suc i) t)) (split (after (suc i) t) .unended)) on
+    ∙ verdictOn-next (checkpoints t) i (after i t) left h (sym (lineAt-ended i t refl h)) few plant
+    (namedBefore-apart t i new) (after-suc i t)
 
 left-upTo : (t : List ℕ) (i : ℕ) → RightUpTo t i → Left t i
 left-upTo t zero r = left-zero t
@@ -127,21 +124,20 @@ says-line : (t : List ℕ) (i : ℕ) → RightUpTo t i → Left t i → i < most
     → (RightUpTo t (suc i) → Left t (suc i) → Says t (verdictOn t)) → Says t (verdictOn t)
 says-line t i r left few h more =
     let there = lines-some i t h in
-    let line = lineAt-ended i t refl h in
+    let line = sym (lineAt-ended i t refl h) in
     if-test (isPlant (lineAt i t))
     (λ plant.
     if-test (namedBefore (checkpoints t) i (lineAt i t))
     (λ named.
     subst (Says t)
-    (verdictOn-again (checkpoints t) i (after i t) left h few (ap isPlant line ∙ plant)
-    (ap (namedBefore (checkpoints t) i) line ∙ named))
+    (verdictOn-again (checkpoints t) i (after i t) left h line few plant named)
     (r, few, plant, namedBefore→named t i named))
     (λ new.
     let out : Named t i → ⊥ = λ n. false≢true (sym new ∙ named→namedBefore t i there n) in
     more (upTo-suc t i r there few plant out) (left-suc t i left there few plant out)))
     (λ other.
     subst (Says t)
-    (verdictOn-wrong (checkpoints t) i (after i t) left h few (ap isPlant line ∙ other))
+    (verdictOn-wrong (checkpoints t) i (after i t) left h line few other)
     (r, few, omega (arith, has→lt newline (after i t) h), other))
 
 empty : (t : List ℕ) → length t ≤ 0 → t ≡ []
@@ -187,14 +183,14 @@ verdictOn-says t (Plants n) (r, e) =
 verdictOn-says t (Wrong i) (r, few, some, other) =
     let left = left-upTo t i r in
     if-test (has newline (after i t))
-    (λ h. sym (verdictOn-wrong (checkpoints t) i (after i t) left h few (ap isPlant (lineAt-ended i t refl h) ∙ other)))
+    (λ h. sym (verdictOn-wrong (checkpoints t) i (after i t) left h (sym (lineAt-ended i t refl h)) few other))
     (λ h. sym (verdictOn-unended (checkpoints t) i (after i t) left h some few))
 verdictOn-says t (Again i) (r, few, plant, named) =
     if-test (has newline (after i t))
     (λ h.
-    let line = lineAt-ended i t refl h in
-    sym (verdictOn-again (checkpoints t) i (after i t) (left-upTo t i r) h few (ap isPlant line ∙ plant)
-    (ap (namedBefore (checkpoints t) i) line ∙ named→namedBefore t i (lines-some i t h) named)))
+    let line = sym (lineAt-ended i t refl h) in
+    let before = named→namedBefore t i (lines-some i t h) named in
+    sym (verdictOn-again (checkpoints t) i (after i t) (left-upTo t i r) h line few plant before))
     (λ h. absurd (false≢true (sym (plant-none t i h) ∙ plant)))
 verdictOn-says t Many (r, some) =
     sym (verdictOn-many (checkpoints t) mostPlants (after mostPlants t) (left-upTo t mostPlants r) some (omega arith))

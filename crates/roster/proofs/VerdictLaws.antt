@@ -2,7 +2,7 @@
 use Prim.Native.Nat.{ℕ, suc, _+_, _<_, _≤_}
 use mathlib.Core.Bool.{true, false}
 use mathlib.Core.List.{List, [], _∷_}
-use mathlib.Core.Path.{_≡_, refl, sym, ap, _∙_}
+use mathlib.Core.Path.{_≡_, refl, sym, ap, ap₂, _∙_}
 use native.Mathlib.Omega.{arith}
 use lib.Dec.{ltb}
 use lib.ListN.{length}
@@ -74,28 +74,34 @@ module _ {r : Listed} (cs : List (List ℕ)) (i : ℕ) (t : List ℕ)
     pub verdictOn-unended : has newline t ≡ false → 0 < length t → i < mostPlants → Wrong i ≡ r
     verdictOn-unended h some few = sym (choose-t Many (lt-ltb i mostPlants few) refl) ∙ unended h some
 
-    line : has newline t ≡ true
+    ended : has newline t ≡ true
         → verdictFrom cs i (front newline t ∷ linesOf (rest newline t)) (split (rest newline t) .unended) ≡ r
-    line h = read-as (split-ended t (has→lt newline t h))
+    ended h = read-as (split-ended t (has→lt newline t h))
 
     pub verdictOn-many : 0 < length t → mostPlants ≤ i → Many ≡ r
     verdictOn-many some full =
         if-test (has newline t)
-        (λ h. sym (verdictFrom-many cs i _ _ _ full) ∙ line h)
+        (λ h. sym (verdictFrom-many cs i _ _ _ full) ∙ ended h)
         (λ h. sym (choose-f (Wrong i) (le-ltb i mostPlants full) refl) ∙ unended h some)
 
-    module _ (h : has newline t ≡ true) (few : i < mostPlants) where
-      pub verdictOn-wrong : isPlant (front newline t) ≡ false → Wrong i ≡ r
-      verdictOn-wrong p = sym (verdictFrom-wrong cs i _ _ _ few p) ∙ line h
+    -- Its first line is l, and u stands after that.
+    module _ {l : List ℕ} (h : has newline t ≡ true) (first : l ≡ front newline t) (few : i < mostPlants) where
+      line : verdictFrom cs i (l ∷ linesOf (rest newline t)) (split (rest newline t) .unended) ≡ r
+      line =
+          ap (λ (l : List ℕ). verdictFrom cs i (l ∷ linesOf (rest newline t)) (split (rest newline t) .unended)) first
+          ∙ ended h
 
-      module _ (plant : isPlant (front newline t) ≡ true) where
-        pub verdictOn-again : namedBefore cs i (front newline t) ≡ true → Again i ≡ r
-        verdictOn-again l = sym (verdictFrom-again cs i _ _ _ few plant l) ∙ line h
+      pub verdictOn-wrong : isPlant l ≡ false → Wrong i ≡ r
+      verdictOn-wrong p = sym (verdictFrom-wrong cs i _ _ _ few p) ∙ line
 
-        pub verdictOn-next : namedBefore cs i (front newline t) ≡ false
-            → verdictFrom cs (i + 1) (linesOf (rest newline t)) (split (rest newline t) .unended) ≡ r
-        verdictOn-next l =
+      module _ (plant : isPlant l ≡ true) where
+        pub verdictOn-again : namedBefore cs i l ≡ true → Again i ≡ r
+        verdictOn-again p = sym (verdictFrom-again cs i _ _ _ few plant p) ∙ line
+
+        pub verdictOn-next : {u : List ℕ} → namedBefore cs i l ≡ false → u ≡ rest newline t
+            → verdictFrom cs (i + 1) (linesOf u) (split u .unended) ≡ r
+        verdictOn-next p e =
             let on : i + 1 ≡ suc i = omega arith in
-            ap (λ (k : ℕ). verdictFrom cs k (linesOf (rest newline t)) (split (rest newline t) .unended)) on
-            ∙ sym (verdictFrom-next cs i _ _ _ few plant l)
-            ∙ line h
+            ap₂ (λ (k : ℕ) (u : List ℕ). verdictFrom cs k (linesOf u) (split u .unended)) on e
+            ∙ sym (verdictFrom-next cs i _ _ _ few plant p)
+            ∙ line

@@ -1,15 +1,15 @@
 -- The lines passed are right, and what is left says what is told of the whole. Assumes nothing.
-use Prim.Native.Nat.{ℕ, _+_, _≤_, _<_, zero-le}
+use Prim.Native.Nat.{ℕ, _≤_, _<_, zero-le}
 use mathlib.Core.Bool.{true}
 use mathlib.Core.List.{List, map}
-use mathlib.Core.Path.{_≡_, refl, ap, sym, _∙_}
+use mathlib.Core.Path.{_≡_, refl}
 use native.Mathlib.Omega.{arith}
 use lib.ListN.{length}
 use borrow.Author.Needs.{needs}
 use Rattle.choice.proofs.TestsLaws.{is, is-not, is-so}
-use Rattle.roster.specs.Bytes.{front, has}
+use Rattle.roster.specs.Bytes.{has}
 use Rattle.roster.specs.Lines.{newline, split, linesOf}
-use Rattle.roster.specs.Plants.{mostPlants, checkpointOf, isPlant, namedBefore, verdictFrom, verdictOn}
+use Rattle.roster.specs.Plants.{mostPlants, checkpointOf, isPlant, verdictFrom, verdictOn}
 use Rattle.roster.proofs.BytesLaws.{rest-lt}
 use Rattle.roster.proofs.VerdictLaws.{verdictOn-end, verdictOn-unended, verdictOn-many, verdictOn-wrong, verdictOn-again, verdictOn-next}
 use Rattle.roster.proofs.plants.judge.Statement.{statement}
@@ -30,13 +30,10 @@ Head = tie.Else2 Inv-loop μ-loop
 abbrev left : Head → List ℕ
 left c = c .before .before .before .before .loop .left .now
 
-abbrev index : Head → ℕ
-index c = c .before .before .before .before .loop .i
-
 ended : (c : Head) → has newline (left c) ≡ true
 ended c = is-so (c .before .has-byte .ensures) (c .if2 .left)
 
-few : (c : Head) → index c < mostPlants
+few : (c : Head) → c .before .before .before .before .loop .i < mostPlants
 few c =
     let most = c .before .before .before .before .loop .inv .0 in
     omega arith
@@ -48,20 +45,8 @@ Named = tie.After-is-named-before Inv-loop μ-loop
 abbrev head : Named → Head
 head c = c .before .before .before .before
 
-abbrev checkpoints : Named → List (List ℕ)
-checkpoints c = map checkpointOf (linesOf (head c .before .before .before .before .before .before .args .list .now))
-
-plant : (c : Named) → isPlant (front newline (left (head c))) ≡ true
-plant c =
-    let tested = c .before in
-    ap isPlant (sym (tested .before .before .take-front .ensures))
-    ∙ is-so (tested .before .is-plant .ensures) (tested .if3 .left)
-
-named : (c : Named)
-    → c .is-named-before .result ≡ namedBefore (checkpoints c) (index (head c)) (front newline (left (head c)))
-named c =
-    c .is-named-before .ensures
-    ∙ ap (namedBefore (checkpoints c) (index (head c))) (c .before .before .before .take-front .ensures)
+plant : (c : Named) → isPlant (c .before .before .before .take-front .result .now) ≡ true
+plant c = is-so (c .before .before .is-plant .ensures) (c .before .if3 .left)
 
 loop-holds : tie.Need-loop-holds Inv-loop μ-loop
 unfolding verdictOn
@@ -70,7 +55,6 @@ loop-holds c = (zero-le, refl)
 returns : tie.Need-returns Inv-loop μ-loop
 returns c =
     let at = c .before .before .loop in
-    let a = c .before .before .before .before .args in
     verdictOn-many _ (at .i) (at .left .now) (at .inv .1) (c .before .loop-test .taken) (omega arith)
 
 has-byte-requires : tie.Need-has-byte-requires Inv-loop μ-loop
@@ -93,8 +77,8 @@ returns-3 : tie.Need-returns-3 Inv-loop μ-loop
 returns-3 c =
     let line = c .before .before in
     let at = line .before .before .before .before .before .loop in
-    verdictOn-wrong _ (at .i) (at .left .now) (at .inv .1) (ended (line .before)) (few (line .before))
-    (ap isPlant (sym (line .take-front .ensures)) ∙ is-not (c .before .is-plant .ensures) (c .if3 .taken))
+    verdictOn-wrong _ (at .i) (at .left .now) (at .inv .1) (ended (line .before)) (line .take-front .ensures)
+    (few (line .before)) (is-not (c .before .is-plant .ensures) (c .if3 .taken))
 
 is-named-before-requires : tie.Need-is-named-before-requires Inv-loop μ-loop
 is-named-before-requires c κs = search needs
@@ -102,9 +86,10 @@ is-named-before-requires c κs = search needs
 returns-4 : tie.Need-returns-4 Inv-loop μ-loop
 returns-4 c =
     let here = c .before in
+    let line = here .before .before .before in
     let at = head here .before .before .before .before .loop in
-    verdictOn-again _ (at .i) (at .left .now) (at .inv .1) (ended (head here)) (few (head here)) (plant here)
-    (is (named here) (c .if4 .taken))
+    verdictOn-again _ (at .i) (at .left .now) (at .inv .1) (ended (head here)) (line .take-front .ensures)
+    (few (head here)) (plant here) (is (here .is-named-before .ensures) (c .if4 .taken))
 
 take-rest-requires : tie.Need-take-rest-requires Inv-loop μ-loop
 take-rest-requires c κs = search needs
@@ -122,14 +107,12 @@ loop-less c =
 loop-again : tie.Need-loop-again Inv-loop μ-loop
 loop-again c =
     let here = c .before .before in
-    let line = head here in
-    let low = few line in
-    let at = line .before .before .before .before .loop in (
+    let line = here .before .before .before in
+    let low = few (head here) in
+    let at = head here .before .before .before .before .loop in (
       omega arith,
-      ap (λ (t : List ℕ). verdictFrom (checkpoints here) (at .i + 1) (linesOf t) (split t .unended))
-          (c .take-rest .ensures)
-          ∙ verdictOn-next _ (at .i) (at .left .now) (at .inv .1) (ended line) low (plant here)
-          (is (named here) (c .before .if4 .left)),
+      verdictOn-next _ (at .i) (at .left .now) (at .inv .1) (ended (head here)) (line .take-front .ensures) low
+          (plant here) (is (here .is-named-before .ensures) (c .before .if4 .left)) (c .take-rest .ensures),
     )
 
 returns-5 : tie.Need-returns-5 Inv-loop μ-loop
