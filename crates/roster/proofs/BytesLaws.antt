@@ -18,6 +18,10 @@ use Rattle.roster.specs.Bytes.{span, rest, has, same}
 pub drop-next : (xs : List ℕ) (i : ℕ) → i < length xs → drop i xs ≡ getD xs i 0 ∷ drop (i + 1) xs
 drop-next xs i h = rw (add-one, drop-cons xs i 0)
 
+pub length-none : (xs : List ℕ) → length xs ≤ 0 → xs ≡ []
+length-none [] l = refl
+length-none (x ∷ xs) l = absurd (omega arith)
+
 -- ---- the bytes before the first b
 pub span-zero : (b x : ℕ) (xs : List ℕ) → x ≡ b → span b (x ∷ xs) ≡ 0
 unfolding span

@@ -11,7 +11,7 @@ use Rattle.choice.proofs.Splitting.{if-test, if-lt, if-eq}
 use Rattle.choice.proofs.TestsLaws.{choose-t, choose-f}
 use Rattle.roster.specs.Bytes.{span, front, rest, has}
 use Rattle.roster.specs.Lines.{newline, Split, led, split, linesOf, lineAt, after, through}
-use Rattle.roster.proofs.BytesLaws.{has→le, has→lt, rest-none, span-nil, span-suc, span-zero}
+use Rattle.roster.proofs.BytesLaws.{length-none, has→le, has→lt, rest-none, span-nil, span-suc, span-zero}
 
 -- ---- a text by its first line
 abbrev withLine : List ℕ → Split → Split
@@ -222,12 +222,8 @@ module _ {r : List ℕ} (n : ℕ) (t : List ℕ) (whole : after n t ≡ r) where
 
   pub after-empty : length t ≡ 0 → t ≡ r
   after-empty z =
-      let none = empty t z in
+      let none = length-none t (omega arith) in
       none ∙ sym (after-nil n) ∙ ap (after n) (sym none) ∙ whole
-    where
-      empty : (t : List ℕ) → length t ≡ 0 → t ≡ []
-      empty [] z = refl
-      empty (x ∷ t) z = absurd (omega arith)
 
 -- ---- line i
 first : (i : ℕ) (t : List ℕ) → getD (linesOf (after i t)) 0 [] ≡ getD (linesOf t) i []

@@ -1,8 +1,8 @@
 -- The answer is true of the list, and any answer that is true of it is the one told: the lines are passed while
 -- they are right, and the first that isn't stops the count. Assumes nothing.
-use Prim.Native.Nat.{ℕ, zero, suc, _+_, _<_, _≤_, zero-le}
+use Prim.Native.Nat.{ℕ, zero, suc, _+_, _<_, zero-le}
 use mathlib.Core.Bool.{true, false, false≢true}
-use mathlib.Core.List.{List, [], _∷_, map}
+use mathlib.Core.List.{List, [], map}
 use mathlib.Core.Logic.{_↔_}
 use mathlib.Core.Path.{_≡_, refl, sym, ap, subst, _∙_}
 use native.Mathlib.Omega.{arith}
@@ -15,7 +15,7 @@ use Rattle.roster.specs.Bytes.{has}
 use Rattle.roster.specs.Lines.{newline, split, linesOf, lineAt, after}
 use Rattle.roster.specs.Plants.{mostPlants, checkpointOf, isPlant, namedBefore, verdictFrom, verdictOn}
 use Rattle.roster.specs.Right.{RightUpTo}
-use Rattle.roster.proofs.BytesLaws.{has→lt}
+use Rattle.roster.proofs.BytesLaws.{length-none, has→lt}
 use Rattle.roster.proofs.LinesLaws.{Whole, lines-after, unended-after, after-suc, has-after, lines-some, lineAt-ended, lineAt-none}
 use Rattle.roster.proofs.PlantsLaws.{isPlant-nil, first, if-among, getD-checkpoint}
 use Rattle.roster.proofs.VerdictLaws.{verdictOn-end, verdictOn-unended, verdictOn-many, verdictOn-wrong, verdictOn-again, verdictOn-next}
@@ -140,10 +140,6 @@ says-line t i r left few h more =
     (verdictOn-wrong (checkpoints t) i (after i t) left h line few other)
     (r, few, omega (arith, has→lt newline (after i t) h), other))
 
-empty : (t : List ℕ) → length t ≤ 0 → t ≡ []
-empty [] z = refl
-empty (x ∷ t) z = absurd (omega arith)
-
 -- What isn't a line is no plant's.
 plant-none : (t : List ℕ) (i : ℕ) → has newline (after i t) ≡ false → isPlant (lineAt i t) ≡ false
 plant-none t i h = ap isPlant (sym (lineAt-none i t refl h)) ∙ isPlant-nil
@@ -166,7 +162,7 @@ says-at t i r left more =
     subst (Says t)
     (verdictOn-many (checkpoints t) i (after i t) left some full)
     (subst (λ (k : ℕ). RightUpTo t k × (0 < length (after k t))) last (r, some))))
-    (λ none. subst (Says t) (verdictOn-end (checkpoints t) i (after i t) left none) (r, empty (after i t) none))
+    (λ none. subst (Says t) (verdictOn-end (checkpoints t) i (after i t) left none) (r, length-none (after i t) none))
 
 -- At most f lines more are passed.
 says-from : (t : List ℕ) (f i : ℕ) → i + f ≡ mostPlants → RightUpTo t i → Left t i → Says t (verdictOn t)

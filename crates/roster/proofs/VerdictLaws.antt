@@ -15,7 +15,7 @@ use Rattle.roster.specs.declared.plants.Listed.the-variants.{Plants, Wro
 use Rattle.roster.specs.Bytes.{front, rest, has}
 use Rattle.roster.specs.Lines.{newline, Split, split, linesOf}
 use Rattle.roster.specs.Plants.{mostPlants, isPlant, namedBefore, verdictFrom}
-use Rattle.roster.proofs.BytesLaws.{has→lt, has→le}
+use Rattle.roster.proofs.BytesLaws.{length-none, has→lt, has→le}
 use Rattle.roster.proofs.LinesLaws.{split-ended, split-unended}
 
 -- ---- one line more: line i of a list is l
@@ -61,12 +61,8 @@ module _ {r : Listed} (cs : List (List ℕ)) (i : ℕ) (t : List ℕ)
     pub verdictOn-end : length t ≤ 0 → Plants i ≡ r
     verdictOn-end z =
         verdictFrom-done cs i
-        ∙ ap (verdictFrom cs i []) (sym (empty t z))
+        ∙ ap (verdictFrom cs i []) (sym (length-none t z))
         ∙ read-as (split-unended t (omega arith))
-      where
-        empty : (t : List ℕ) → length t ≤ 0 → t ≡ []
-        empty [] z = refl
-        empty (x ∷ t) z = absurd (omega arith)
 
     unended : has newline t ≡ false → 0 < length t → choose (ltb i mostPlants) (Wrong i) Many ≡ r
     unended h some = sym (verdictFrom-tail cs i t some) ∙ read-as (split-unended t (has→le newline t h))

@@ -8,27 +8,21 @@ use borrow.Author.Needs.{needs}
 use Rattle.roster.proofs.LinesLaws.{after-le, through-take}
 use Rattle.roster.proofs.lines.take_through.Statement.{statement}
 use Rattle.roster.proofs.lines.take_through.Tie as tie
-use Rattle.roster.proofs.lines.take_through.Reads as reads
-use Rattle.roster.proofs.lines.take_through.Lts as lts
 
--- src/lines.rt:82:9
 take-after-requires : tie.Need-take-after-requires
 take-after-requires c κs = search needs
 
--- src/lines.rt:83:13
 sub-n : tie.Need-sub-n
 sub-n c =
     let a = c .before .before .args in
     after-le (a .i) (a .text .now) (c .take-after .ensures)
 
--- src/lines.rt:84:5
 slice-aggregate-result : tie.Need-slice-aggregate-result
 slice-aggregate-result c =
     let text = c .before .before .before .args .text .now in
     let n = length text - length (c .before .take-after .result .now) in
     sym (length-take-le n text (omega arith))
 
--- src/lines.rt:79:1
 returns : tie.Need-returns
 returns c =
     let a = c .before .before .before .args in
