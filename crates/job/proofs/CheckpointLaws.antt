@@ -1,11 +1,11 @@
 -- Within what soundness allows, reading undoes writing, as writing undoes reading. Assumes nothing.
 use Prim.Native.Nat.{ℕ, _+_, _*_, _/_, _%_, _^_, _<_, _≤_}
 use mathlib.Core.Bool.{Bool, true}
-use mathlib.Core.List.{List, [], _++_}
+use mathlib.Core.List.{List, [], _∷_, _++_}
 use mathlib.Core.Path.{_≡_, refl, ap, sym, _∙_, subst}
 use native.Mathlib.Omega.{arith}
-use lib.Dec.{eqb, lit≤}
-use lib.ListN.{length, take, drop}
+use lib.Dec.{eqb, lit<, lit≤}
+use lib.ListN.{length, take, length-append}
 use lib.Seq.{take-add, take-all}
 use borrow.Author.Tests.{ltb-true, leb-true, eqb-true, lt-ltb, le-leb, eq-eqb, ne-eqb}
 use Rattle.choice.specs.Tests.{choose}
@@ -14,57 +14,47 @@ use Rattle.choice.proofs.TestsLaws.{also-t, also-iff, choose-t, choose-f}
 use Rattle.mass.specs.Ledger.{tonne}
 use Rattle.mass.proofs.LedgerLaws.{total-parts, ledgerOf-unique}
 use Rattle.rules.specs.declared.book.Head.{Head}
-use Rattle.rules.specs.Bytes.{byte, word}
-use Rattle.rules.proofs.BytesLaws.{word-drop, word-take}
+use Rattle.rules.specs.Bytes.{byte, word, bytesOf}
+use Rattle.rules.proofs.BytesLaws.{length-bytesOf, bytesOf-word}
 use Rattle.job.specs.declared.tally.Tally.{Tally}
 use Rattle.job.specs.State.{State, Light, FitFor}
 use Rattle.job.specs.Checkpoint.{doneIn, asideIn, indexIn, reasonIn, lengthIn, yearIn, tonnesIn, restIn, fossilAt, biomassAt, ch4At, n2oAt}
-use Rattle.job.specs.Checkpoint.{firstSound, ledgerSound, sound, decode, bytesOf, encode}
+use Rattle.job.specs.Checkpoint.{firstSound, ledgerSound, sound, decode, encode}
 use Rattle.job.specs.Tally.{ledgersOf, tallyOf, ledgerIn, tallyIn, stateOf}
-use Rattle.job.proofs.PutLaws.{word-bytesOf, bytesOf-word}
+use Rattle.job.proofs.PutLaws.{Number, word-laid}
 
 -- ---- a state, written
 pub length-encode : (h : Head) (s : State) → length (encode h s) ≡ 96
-unfolding encode bytesOf
-length-encode h s = refl
+unfolding encode
+length-encode h s = simp (length-append, length-bytesOf)
 
--- The number v stands in the n bytes of c from byte k on.
-field : (c : List ℕ) (k n v : ℕ) → take n (drop k c) ≡ bytesOf n v → v < 256 ^ n → word c k n ≡ v
-field c k n v e h =
-    sym (word-drop c k n)
-    ∙ sym (word-take (drop k c) n)
-    ∙ ap (λ (l : List ℕ). word l 0 n) e
-    ∙ word-bytesOf n v h
-
-pub lengthIn-encode : (h : Head) (s : State) → h .length < 2 ^ 32 → lengthIn (encode h s) ≡ h .length
-unfolding encode bytesOf
-lengthIn-encode h s l = field (encode h s) 80 4 (h .length) refl l
-
-pub yearIn-encode : (h : Head) (s : State) → h .year < 2 ^ 16 → yearIn (encode h s) ≡ h .year
-unfolding encode bytesOf
-yearIn-encode h s l = field (encode h s) 84 2 (h .year) refl l
-
-gap-encode : (h : Head) (s : State) → word (encode h s) 13 3 ≡ 0
-unfolding encode bytesOf
-gap-encode h s = field (encode h s) 13 3 0 refl (omega arith)
-
-blank-encode : (h : Head) (s : State) → word (encode h s) 86 10 ≡ 0
-unfolding encode bytesOf
-blank-encode h s = field (encode h s) 86 10 0 refl (omega arith)
+-- The numbers of a checkpoint, in its order.
+abbrev numbers : Head → State → List Number
+numbers h s =
+    (4, s .done) ∷ (4, s .aside) ∷ (4, s .index) ∷ (1, s .reason) ∷ (3, 0)
+    ∷ (8, s .fossil / tonne) ∷ (8, s .fossil % tonne)
+    ∷ (8, s .biomass / tonne) ∷ (8, s .biomass % tonne)
+    ∷ (8, s .ch4 / tonne) ∷ (8, s .ch4 % tonne)
+    ∷ (8, s .n2o / tonne) ∷ (8, s .n2o % tonne)
+    ∷ (4, h .length) ∷ (2, h .year) ∷ (10, 0) ∷ []
 
 -- The ledger at byte k stands for v.
 abbrev Holds : List ℕ → ℕ → ℕ → Type 0
 Holds c k v = (tonnesIn c k ≡ v / tonne) × (restIn c k ≡ v % tonne)
 
-record Says (s : State) (c : List ℕ) : Type 0 where
+record Says (h : Head) (s : State) (c : List ℕ) : Type 0 where
   done-is : doneIn c ≡ s .done
   aside-is : asideIn c ≡ s .aside
   index-is : indexIn c ≡ s .index
   reason-is : reasonIn c ≡ s .reason
+  gap-zero : word c 13 3 ≡ 0
   fossil-is : Holds c fossilAt (s .fossil)
   biomass-is : Holds c biomassAt (s .biomass)
   ch4-is : Holds c ch4At (s .ch4)
   n2o-is : Holds c n2oAt (s .n2o)
+  length-is : h .length < 2 ^ 32 → lengthIn c ≡ h .length
+  year-is : h .year < 2 ^ 16 → yearIn c ≡ h .year
+  blank-zero : word c 86 10 ≡ 0
 
 module _ (h : Head) (s : State) (fit : FitFor h s) (few : h .n ≤ 131072) where
   small-first : (s .index < 2 ^ 32) × (s .reason < 256)
@@ -72,29 +62,21 @@ module _ (h : Head) (s : State) (fit : FitFor h s) (few : h .n ≤ 131072) where
       (λ e. let f = fit .none-first e in omega arith)
       (λ e. let f = fit .some-first e in omega arith)
 
-  says-encode : Says s (encode h s)
-  unfolding encode bytesOf
-  says-encode = let c = encode h s in record {
-    done-is = field c 0 4 (s .done) refl (omega arith);
-    aside-is = field c 4 4 (s .aside) refl (omega arith);
-    index-is = field c 8 4 (s .index) refl (small-first .0);
-    reason-is = field c 12 1 (s .reason) refl (small-first .1);
-    fossil-is = (
-      field c 16 8 (s .fossil / tonne) refl (omega arith),
-      field c 24 8 (s .fossil % tonne) refl (omega arith),
-    );
-    biomass-is = (
-      field c 32 8 (s .biomass / tonne) refl (omega arith),
-      field c 40 8 (s .biomass % tonne) refl (omega arith),
-    );
-    ch4-is = (
-      field c 48 8 (s .ch4 / tonne) refl (omega arith),
-      field c 56 8 (s .ch4 % tonne) refl (omega arith),
-    );
-    n2o-is = (
-      field c 64 8 (s .n2o / tonne) refl (omega arith),
-      field c 72 8 (s .n2o % tonne) refl (omega arith),
-    );
+  says-encode : Says h s (encode h s)
+  unfolding encode
+  says-encode = let number = word-laid [] 0 (numbers h s) refl in record {
+    done-is = number 0 (lit< tt) (omega arith);
+    aside-is = number 1 (lit< tt) (omega arith);
+    index-is = number 2 (lit< tt) (small-first .0);
+    reason-is = number 3 (lit< tt) (small-first .1);
+    gap-zero = number 4 (lit< tt) (lit< tt);
+    fossil-is = (number 5 (lit< tt) (omega arith), number 6 (lit< tt) (omega arith));
+    biomass-is = (number 7 (lit< tt) (omega arith), number 8 (lit< tt) (omega arith));
+    ch4-is = (number 9 (lit< tt) (omega arith), number 10 (lit< tt) (omega arith));
+    n2o-is = (number 11 (lit< tt) (omega arith), number 12 (lit< tt) (omega arith));
+    length-is = number 13 (lit< tt);
+    year-is = number 14 (lit< tt);
+    blank-zero = number 15 (lit< tt) (lit< tt);
   }
 
   pub decode-encode : decode (encode h s) ≡ s
@@ -192,14 +174,14 @@ sound-encode h s fit few length year =
     let w = says-encode h s fit few in
     sound-soundFor h (encode h s) (record {
       fit = subst (FitFor h) (sym (decode-encode h s fit few)) fit;
-      length-is = lengthIn-encode h s length;
-      year-is = yearIn-encode h s year;
+      length-is = w .length-is length;
+      year-is = w .year-is year;
       fossil-canonical = omega (arith, w .fossil-is);
       biomass-canonical = omega (arith, w .biomass-is);
       ch4-canonical = omega (arith, w .ch4-is);
       n2o-canonical = omega (arith, w .n2o-is);
-      gap-zero = gap-encode h s;
-      blank-zero = blank-encode h s;
+      gap-zero = w .gap-zero;
+      blank-zero = w .blank-zero;
     })
 
 -- ---- a checkpoint, as the code holds it

@@ -1,61 +1,18 @@
 -- The bytes of a number, put one by one, and one number behind the other. Assumes nothing.
-use Prim.Native.Nat.{ℕ, zero, suc, _+_, _*_, _/_, _%_, _^_, _<_, _≤_}
-use mathlib.Core.List.{List, [], _∷_, _++_, append-nil}
+use Prim.Native.Nat.{ℕ, zero, suc, _+_, _/_, _%_, _^_, _<_, _≤_}
+use mathlib.Core.List.{List, [], _∷_, _++_, append-nil, append-assoc}
 use mathlib.Core.Path.{_≡_, refl, ap, ap₂, sym, _∙_}
-use native.Mathlib.Nat.{pow-suc, pow-succ', div-div-eq-div-mul, div-one, le-of-suc-le-suc}
+use native.Mathlib.Nat.{pow-suc, div-div-eq-div-mul, le-of-suc-le-suc}
 use native.Mathlib.Numerals.{add-one}
 use native.Mathlib.Omega.{arith}
-use lib.ListN.{length, take, drop, set, length-append, drop-of-length-le}
-use lib.Seq.{drop-cons, paste, paste-suc, take-all, take-length, take-at, drop-append-add, drop-drop}
-use Rattle.rules.specs.Bytes.{byte, word}
-use Rattle.rules.proofs.BytesLaws.{word-zero, word-suc, word-cons}
-use Rattle.job.specs.Checkpoint.{bytesOf}
+use lib.ListN.{length, getD, take, drop, set, length-append, drop-of-length-le}
+use lib.Seq.{paste, paste-suc, take-all, take-length, take-at, drop-at, drop-append-add, drop-drop}
+use Rattle.rules.specs.Bytes.{word, bytesOf}
+use Rattle.rules.proofs.BytesLaws.{word-drop, word-take, length-bytesOf, byte-bytesOf, word-bytesOf}
 
--- ---- the bytes of a number
-pub bytesOf-zero : (v : ℕ) → bytesOf 0 v ≡ []
-unfolding bytesOf
-bytesOf-zero v = refl
-
-pub bytesOf-suc : (n v : ℕ) → bytesOf (suc n) v ≡ v % 256 ∷ bytesOf n (v / 256)
-unfolding bytesOf
-bytesOf-suc n v = refl
-
-pub length-bytesOf : (n v : ℕ) → length (bytesOf n v) ≡ n
-unfolding bytesOf
-length-bytesOf zero v = refl
-length-bytesOf (suc n) v = ap suc (length-bytesOf n (v / 256))
-
-pub byte-bytesOf : (n v i : ℕ) → i < n → byte (bytesOf n v) i ≡ v / 256 ^ i % 256
-unfolding bytesOf
-byte-bytesOf zero v i h = omega arith
-byte-bytesOf (suc n) v zero h = ap (λ (m : ℕ). m % 256) (sym (div-one v))
-byte-bytesOf (suc n) v (suc i) h =
-    byte-bytesOf n (v / 256) i (le-of-suc-le-suc h)
-    ∙ ap (λ (m : ℕ). m % 256) (div-div-eq-div-mul v 256 (256 ^ i))
-    ∙ ap (λ (m : ℕ). v / m % 256) (sym (pow-succ' 256 i))
-
+-- ---- what is left of a number
 pub div-bytes : (v i : ℕ) → v / 256 ^ i / 256 ≡ v / 256 ^ suc i
 div-bytes v i = div-div-eq-div-mul v (256 ^ i) 256 ∙ ap (λ (m : ℕ). v / m) (sym (pow-suc 256 i))
-
-pub word-bytesOf : (n v : ℕ) → v < 256 ^ n → word (bytesOf n v) 0 n ≡ v
-unfolding bytesOf
-word-bytesOf zero v h = word-zero _ 0 ∙ omega arith
-word-bytesOf (suc n) v h =
-    word-suc _ 0 n
-    ∙ ap (λ (w : ℕ). v % 256 + 256 * w) (word-cons (v % 256) (bytesOf n (v / 256)) 0 n)
-    ∙ omega (arith, word-bytesOf n (v / 256) (omega arith))
-
-pub bytesOf-word : (c : List ℕ) (k n : ℕ) → ((i : ℕ) → byte c i < 256) → k + n ≤ length c
-    → bytesOf n (word c k n) ≡ take n (drop k c)
-unfolding bytesOf
-bytesOf-word c k zero b l = refl
-bytesOf-word c k (suc n) b l =
-    let low : word c k (suc n) % 256 ≡ byte c k = omega (arith, word-suc c k n, b k) in
-    let high : word c k (suc n) / 256 ≡ word c (k + 1) n = omega (arith, word-suc c k n, b k) in
-    let next : suc k ≡ k + 1 = omega arith in
-    let here = drop-cons c k 0 (omega arith) ∙ ap (λ (j : ℕ). byte c k ∷ drop j c) next in
-    ap₂ _∷_ low (ap (bytesOf n) high ∙ bytesOf-word c (k + 1) n b (omega arith))
-    ∙ ap (take (suc n)) (sym here)
 
 -- ---- one number: d has v put in its n bytes from `at` on
 module _ (d : List ℕ) (at n v : ℕ) where
@@ -106,6 +63,45 @@ wrote-all {d} {o} {p} {at} w h =
     w .whole
     ∙ ap (λ (l : List ℕ). p ++ l) (drop-of-length-le d {i = at} (omega arith))
     ∙ append-nil p
+
+-- ---- numbers one after the other, read: each is its width in bytes and its value
+abbrev pub Number : Type 0
+Number = ℕ × ℕ
+
+-- The numbers of fs behind the bytes p, and where the number i of them stands, the first at byte `at`.
+abbrev pub laid : List ℕ → List Number → List ℕ
+laid p [] = p
+laid p (f ∷ fs) = laid (p ++ bytesOf (f .0) (f .1)) fs
+
+abbrev pub placed : ℕ → List Number → ℕ → ℕ
+placed at fs zero = at
+placed at [] (suc i) = at
+placed at (f ∷ fs) (suc i) = placed (at + f .0) fs i
+
+laid-append : (p : List ℕ) (fs : List Number) → laid p fs ≡ p ++ laid [] fs
+laid-append p [] = sym (append-nil p)
+laid-append p (f ∷ fs) =
+    let b = bytesOf (f .0) (f .1) in
+    laid-append (p ++ b) fs ∙ append-assoc p b (laid [] fs) ∙ ap (λ (l : List ℕ). p ++ l) (sym (laid-append b fs))
+
+pub word-laid : (p : List ℕ) (at : ℕ) (fs : List Number) → length p ≡ at → (i : ℕ) → i < length fs →
+    let f = getD fs i (0, 0) in
+    f .1 < 256 ^ f .0 → word (laid p fs) (placed at fs i) (f .0) ≡ f .1
+word-laid p at [] e i h l = omega arith
+word-laid p at (f ∷ fs) e zero h l =
+    let n = f .0 in
+    let b = bytesOf n (f .1) in
+    let rest = laid [] fs in
+    ap (λ (c : List ℕ). word c at n) (laid-append (p ++ b) fs ∙ append-assoc p b rest)
+    ∙ sym (word-drop (p ++ (b ++ rest)) at n)
+    ∙ ap (λ (c : List ℕ). word c 0 n) (drop-at p (b ++ rest) at e)
+    ∙ sym (word-take (b ++ rest) n)
+    ∙ ap (λ (c : List ℕ). word c 0 n) (take-at b rest n (length-bytesOf n (f .1)))
+    ∙ word-bytesOf n (f .1) l
+word-laid p at (f ∷ fs) e (suc i) h l =
+    let b = bytesOf (f .0) (f .1) in
+    let behind = length-append p b ∙ ap₂ _+_ e (length-bytesOf (f .0) (f .1)) in
+    word-laid (p ++ b) (at + f .0) fs behind i (le-of-suc-le-suc h) l
 
 -- ---- a copy over a whole list
 pub copied-all : (s d : List ℕ) {r : List ℕ} → r ≡ take (length s) s ++ drop (length s) d

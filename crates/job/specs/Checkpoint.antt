@@ -9,18 +9,17 @@
 --     ledgerSound c k                the ledger at byte k is right
 --     sound h c                      c is sound for a book with the head h (else 31)
 --     decode c                       the state that c says
---     bytesOf n v                    v in n bytes, little-endian
 --     encode h s                     the checkpoint that says s, of a book with the head h
 --
 -- Laws: proofs/CheckpointLaws.antt. Definitions only.
-use Prim.Native.Nat.{ℕ, zero, suc, _+_, _*_, _/_, _%_}
+use Prim.Native.Nat.{ℕ, _+_, _*_, _/_, _%_}
 use mathlib.Core.Bool.{Bool}
-use mathlib.Core.List.{List, [], _∷_, _++_}
+use mathlib.Core.List.{List, _++_}
 use lib.Dec.{leb, ltb, eqb}
 use Rattle.choice.specs.Tests.{_also_, choose}
 use Rattle.mass.specs.Ledger.{tonne}
 use Rattle.rules.specs.declared.book.Head.{Head}
-use Rattle.rules.specs.Bytes.{word, zeros}
+use Rattle.rules.specs.Bytes.{word, zeros, bytesOf}
 use Rattle.rules.specs.Record.{lastReason}
 use Rattle.job.specs.State.{State}
 
@@ -106,10 +105,6 @@ decode c = record {
   ch4 = tonnesIn c ch4At * tonne + restIn c ch4At;
   n2o = tonnesIn c n2oAt * tonne + restIn c n2oAt;
 }
-
-unfoldable pub bytesOf : ℕ → ℕ → List ℕ
-bytesOf zero v = []
-bytesOf (suc n) v = v % 256 ∷ bytesOf n (v / 256)
 
 unfoldable pub encode : Head → State → List ℕ
 encode h s =

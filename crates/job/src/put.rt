@@ -4,7 +4,8 @@ ghost use mathlib.Core.List.{_++_};
 ghost use mathlib.Core.Path.{_≡_};
 ghost use Prim.Native.Nat.{_+_, _≤_};
 ghost use lib.ListN.{length, take, drop};
-ghost use Rattle.job.specs.Checkpoint.{checkpointSize, bytesOf};
+ghost use Rattle.rules.specs.Bytes.{bytesOf};
+ghost use Rattle.job.specs.Checkpoint.{checkpointSize};
 
 // The buffer with v in the n bytes from `at` on.
 pub(crate) fn put(b: [u8; SIZE], at: usize, n: usize, v: u64) -> [u8; SIZE]

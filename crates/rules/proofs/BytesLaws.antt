@@ -1,19 +1,20 @@
--- Words by their bytes and by their parts, and lines one by one. Assumes nothing.
-use Prim.Native.Nat.{ℕ, suc, zero, _+_, _-_, _*_, _^_, _<_, _≤_, zero-le}
+-- Words by their bytes and by their parts, the bytes of a number, and lines one by one. Assumes
+-- nothing.
+use Prim.Native.Nat.{ℕ, suc, zero, _+_, _-_, _*_, _/_, _%_, _^_, _<_, _≤_, zero-le}
 use mathlib.Core.Bool.{true, false}
 use mathlib.Core.List.{List, [], _∷_}
 use mathlib.Core.Path.{_≡_, refl, ap, ap₂, sym, _∙_, subst}
-use native.Mathlib.Nat.{sub-zero, zero-add, one-mul, mul-assoc, mul-pos, mul-zero, pow-le-pow-right, lt-of-lt-of-le}
+use native.Mathlib.Nat.{sub-zero, zero-add, one-mul, mul-assoc, mul-pos, mul-zero, div-one, div-div-eq-div-mul, pow-succ', pow-le-pow-right, lt-of-lt-of-le, le-of-suc-le-suc}
 use native.Mathlib.Omega.{arith}
 use lib.Dec.{eqb, lit<}
 use lib.ListN.{length, take, drop}
 use lib.Pow.{pow-add}
-use lib.Seq.{drop-drop}
+use lib.Seq.{drop-cons, drop-drop}
 use borrow.Author.Tests.{eq-eqb, ne-eqb}
 use Rattle.choice.specs.Tests.{_also_}
 use Rattle.choice.proofs.Splitting.{if-eq}
 use Rattle.choice.proofs.TestsLaws.{also-t, also-f}
-use Rattle.rules.specs.Bytes.{byte, word, zeros, line, lines}
+use Rattle.rules.specs.Bytes.{byte, word, zeros, bytesOf, line, lines}
 
 -- ---- reading a word from its last byte down
 module _ (s : List ℕ) (at n : ℕ) where
@@ -85,6 +86,49 @@ word-take l zero = refl
 word-take [] (suc n) = refl
 word-take (b ∷ l) (suc n) =
     ap (λ (v : ℕ). b + 256 * v) (word-cons b (take n l) 0 n ∙ word-take l n ∙ sym (word-cons b l 0 n))
+
+-- ---- the bytes of a number
+pub bytesOf-zero : (v : ℕ) → bytesOf 0 v ≡ []
+unfolding bytesOf
+bytesOf-zero v = refl
+
+pub bytesOf-suc : (n v : ℕ) → bytesOf (suc n) v ≡ v % 256 ∷ bytesOf n (v / 256)
+unfolding bytesOf
+bytesOf-suc n v = refl
+
+pub length-bytesOf : (n v : ℕ) → length (bytesOf n v) ≡ n
+unfolding bytesOf
+length-bytesOf zero v = refl
+length-bytesOf (suc n) v = ap suc (length-bytesOf n (v / 256))
+
+pub byte-bytesOf : (n v i : ℕ) → i < n → byte (bytesOf n v) i ≡ v / 256 ^ i % 256
+unfolding bytesOf
+byte-bytesOf zero v i h = omega arith
+byte-bytesOf (suc n) v zero h = ap (λ (m : ℕ). m % 256) (sym (div-one v))
+byte-bytesOf (suc n) v (suc i) h =
+    byte-bytesOf n (v / 256) i (le-of-suc-le-suc h)
+    ∙ ap (λ (m : ℕ). m % 256) (div-div-eq-div-mul v 256 (256 ^ i))
+    ∙ ap (λ (m : ℕ). v / m % 256) (sym (pow-succ' 256 i))
+
+pub word-bytesOf : (n v : ℕ) → v < 256 ^ n → word (bytesOf n v) 0 n ≡ v
+unfolding bytesOf
+word-bytesOf zero v h = word-zero _ 0 ∙ omega arith
+word-bytesOf (suc n) v h =
+    word-suc _ 0 n
+    ∙ ap (λ (w : ℕ). v % 256 + 256 * w) (word-cons (v % 256) (bytesOf n (v / 256)) 0 n)
+    ∙ omega (arith, word-bytesOf n (v / 256) (omega arith))
+
+pub bytesOf-word : (c : List ℕ) (k n : ℕ) → ((i : ℕ) → byte c i < 256) → k + n ≤ length c
+    → bytesOf n (word c k n) ≡ take n (drop k c)
+unfolding bytesOf
+bytesOf-word c k zero b l = refl
+bytesOf-word c k (suc n) b l =
+    let low : word c k (suc n) % 256 ≡ byte c k = omega (arith, word-suc c k n, b k) in
+    let high : word c k (suc n) / 256 ≡ word c (k + 1) n = omega (arith, word-suc c k n, b k) in
+    let next : suc k ≡ k + 1 = omega arith in
+    let here = drop-cons c k 0 (omega arith) ∙ ap (λ (j : ℕ). byte c k ∷ drop j c) next in
+    ap₂ _∷_ low (ap (bytesOf n) high ∙ bytesOf-word c (k + 1) n b (omega arith))
+    ∙ ap (take (suc n)) (sym here)
 
 -- ---- words by their parts
 pub word-add : (l : List ℕ) (k m n : ℕ) → word l k (m + n) ≡ word l k m + 256 ^ m * word l (k + m) n

@@ -1,6 +1,6 @@
 -- The sums worked by hand, P1 to P12, as one table under one claim: fuel 1 is a gas of 38,000 kJ, 50,000
 -- mg CO2, 900 µg CH4 and 90 µg N2O a MJ, and 1,000 m3 of it are burned in unit 1. Assumes nothing.
-use Prim.Native.Nat.{ℕ, suc, zero, _*_, _/_, _%_}
+use Prim.Native.Nat.{ℕ, _*_}
 use mathlib.Core.Bool.{true, false}
 use mathlib.Core.List.{List, [], _∷_, _++_}
 use mathlib.Core.Path.{_≡_, refl, ap, _∙_}
@@ -18,26 +18,21 @@ use Rattle.mass.proofs.Cases as mass
 use Rattle.rules.specs.declared.entry.Destination.the-variants.{Fossil}
 use Rattle.rules.specs.declared.record.Outcome.{Outcome}
 use Rattle.rules.specs.declared.record.Outcome.the-variants.{SetAside, Counted}
-use Rattle.rules.specs.Bytes.{word}
+use Rattle.rules.specs.Bytes.{word, bytesOf}
 use Rattle.rules.specs.Method.{methodOf}
 use Rattle.rules.specs.Entry.{heatInUse, co2By, destinationBy, fuelEntry, hourEntry}
 use Rattle.rules.specs.Record.{check, listed, fuelForm, hourForm, heatRange, carbonLimit, fuelRanges, hourRange, fuelJudged, fuelOutcome, hourRead, hourJudged, hourOutcome, outcomeOf}
 
 -- ---- lines
--- n bytes of x, little-endian
-abbrev bytes : ℕ → ℕ → List ℕ
-bytes zero x = []
-bytes (suc n) x = x % 256 ∷ bytes n (x / 256)
-
 -- a unit line by its flags and rating
 abbrev unit : ℕ → ℕ → List ℕ
-unit flags rating = bytes 2 1 ++ bytes 2 flags ++ bytes 4 rating ++ replicate 24 0
+unit flags rating = bytesOf 2 1 ++ bytesOf 2 flags ++ bytesOf 4 rating ++ replicate 24 0
 
 -- fuel 1, of a class
 abbrev fuel : ℕ → List ℕ
 fuel class =
-    bytes 2 1 ++ bytes 1 3 ++ bytes 1 class ++ bytes 4 38000
-    ++ bytes 4 50000 ++ bytes 4 900 ++ bytes 4 90 ++ replicate 12 0
+    bytesOf 2 1 ++ bytesOf 1 3 ++ bytesOf 1 class ++ bytesOf 4 38000
+    ++ bytesOf 4 50000 ++ bytesOf 4 900 ++ bytesOf 4 90 ++ replicate 12 0
 
 -- ---- records
 -- 1,000 m3 of fuel 1 burned in unit 1, by the unit's rating, the fuel's class, and the record's flags,
@@ -45,15 +40,15 @@ fuel class =
 abbrev pub burned : ℕ → ℕ → ℕ → ℕ → ℕ → Outcome
 burned rating class flags heat carbon =
     outcomeOf
-    (1 ∷ flags ∷ bytes 2 1 ++ bytes 2 1 ++ bytes 2 6
-    ++ bytes 4 1000 ++ bytes 4 heat ++ bytes 4 carbon ++ replicate 12 0)
+    (1 ∷ flags ∷ bytesOf 2 1 ++ bytesOf 2 1 ++ bytesOf 2 6
+    ++ bytesOf 4 1000 ++ bytesOf 4 heat ++ bytesOf 4 carbon ++ replicate 12 0)
     (unit 0 rating ∷ [])
     (fuel class ∷ [])
 
 -- an hour of unit 1, which has a monitor, by its two bit patterns
 abbrev pub measured : ℕ → ℕ → Outcome
 measured percent flow =
-    outcomeOf (2 ∷ 0 ∷ bytes 2 1 ++ bytes 2 0 ++ bytes 2 1 ++ bytes 4 percent ++ bytes 4 flow ++ replicate 16 0)
+    outcomeOf (2 ∷ 0 ∷ bytesOf 2 1 ++ bytesOf 2 0 ++ bytesOf 2 1 ++ bytesOf 4 percent ++ bytesOf 4 flow ++ replicate 16 0)
     (unit 1 2500 ∷ [])
     (fuel 1 ∷ [])
 
@@ -97,13 +92,13 @@ fuelled {m} p q r = λ i. Counted (record { method = m; destination = Fossil; co
 
 metered : {x : Hour} {r : Readings} {co2 : ℕ} → x ≡ Usable r → hourMass r ≡ record { 0 = co2 }
     → hourRead (unit 1 2500) x ≡ counted 0 co2 0 0
-unfolding hourRead hourEntry check
+unfolding bytesOf hourRead hourEntry check
 metered usable weighed =
     ap (hourRead (unit 1 2500)) usable ∙ choose-true _ _ ∙ fuelled weighed refl refl
 
 pub worked-sums : WorkedSums
 unfolding
-    outcomeOf check listed word
+    outcomeOf check listed word bytesOf
     fuelOutcome fuelForm fuelRanges heatRange carbonLimit fuelJudged methodOf fuelEntry destinationBy co2By heatInUse
     hourOutcome hourForm hourRange hourJudged
 worked-sums = record {

@@ -5,7 +5,7 @@ use mathlib.Core.List.{List, [], _∷_}
 use mathlib.Core.Path.{_≡_}
 use Rattle.choice.proofs.TestsLaws.{worked-out}
 use Rattle.rules.specs.declared.book.Head.{Head}
-use Rattle.rules.specs.Bytes.{word, lines, linesIn}
+use Rattle.rules.specs.Bytes.{word, bytesOf, lines, linesIn}
 use Rattle.rules.specs.Book.{lengthOk, startsOk, trailerOk, unitHeadOk, unitOk, kindClassOk, fuelHeadOk, fuelOk, linesOk, linesSound, headOf, accepted, opened}
 use Rattle.rules.specs.Record.{outcomeAt}
 use Rattle.rules.proofs.Cases.{counted, worked-sums}
@@ -33,7 +33,7 @@ unfolding
 opened-sampleBook = simp worked-out
 
 pub outcomeAt-sampleBook : outcomeAt sampleHead sampleBook 0 ≡ counted 1 1900000000000 34200000000 3420000000
-unfolding sampleBook outcomeAt linesIn lines
+unfolding sampleBook outcomeAt linesIn lines bytesOf
 outcomeAt-sampleBook = worked-sums .p1
 
 -- ---- a trailer alone, of the same year

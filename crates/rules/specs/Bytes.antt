@@ -3,13 +3,14 @@
 --     byte l k        byte k of l, counting from 0
 --     word l k n      the number of the n bytes of l from byte k on
 --     zeros l k n     these n bytes are all 0
+--     bytesOf n v     v in n bytes
 --     part a e s      the bytes of s from a up to e
 --     line k s        line k of s, counting from 0
 --     lines n s       the first n lines of s
 --     linesIn s       all lines of s
 --
 -- Laws: proofs/BytesLaws.antt. Definitions only.
-use Prim.Native.Nat.{ℕ, suc, zero, _+_, _-_, _*_, _/_}
+use Prim.Native.Nat.{ℕ, suc, zero, _+_, _-_, _*_, _/_, _%_}
 use mathlib.Core.Bool.{Bool}
 use mathlib.Core.List.{List, [], _∷_}
 use lib.Dec.{eqb}
@@ -24,6 +25,10 @@ word l k (suc n) = byte l k + 256 * word l (k + 1) n
 
 abbrev pub zeros : List ℕ → ℕ → ℕ → Bool
 zeros l k n = eqb (word l k n) 0
+
+unfoldable pub bytesOf : ℕ → ℕ → List ℕ
+bytesOf zero v = []
+bytesOf (suc n) v = v % 256 ∷ bytesOf n (v / 256)
 
 abbrev pub part : ℕ → ℕ → List ℕ → List ℕ
 part a e s = take (e - a) (drop a s)

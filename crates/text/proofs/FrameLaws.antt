@@ -14,11 +14,11 @@ use Rattle.choice.proofs.TestsLaws.{also-t, also-f, choose-t, choose-f}
 use Rattle.rules.specs.declared.book.Fault.{Fault}
 use Rattle.rules.specs.declared.reader.Seen.the-variants.{Refused, Missing, Record}
 use Rattle.rules.specs.declared.record.Outcome.{Outcome}
+use Rattle.rules.specs.Bytes.{bytesOf}
 use Rattle.rules.specs.Book.{faultNumber}
 use Rattle.rules.specs.Reader.{Sight, shown, sight}
+use Rattle.rules.proofs.BytesLaws.{length-bytesOf}
 use Rattle.rules.proofs.ReaderLaws.{sight-refused, sight-missing, sight-record}
-use Rattle.job.specs.Checkpoint.{bytesOf}
-use Rattle.job.proofs.PutLaws.{length-bytesOf}
 use Rattle.text.specs.declared.frame.Asked.the-variants.{Call, Stop}
 use Rattle.text.specs.declared.frame.Frame.{Frame}
 use Rattle.text.specs.declared.frame.Told.{Told}

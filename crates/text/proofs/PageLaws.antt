@@ -7,8 +7,8 @@ use lib.ListN.{length, getD, take, set, replicate, length-append}
 use lib.Seq.{take-suc, append-snoc, set-append-seam}
 use borrow.Author.Tests.{lt-ltb}
 use Rattle.choice.proofs.TestsLaws.{choose-t}
-use Rattle.job.specs.Checkpoint.{bytesOf}
-use Rattle.job.proofs.PutLaws.{bytesOf-zero, bytesOf-suc}
+use Rattle.rules.specs.Bytes.{bytesOf}
+use Rattle.rules.proofs.BytesLaws.{bytesOf-zero, bytesOf-suc}
 use Rattle.text.specs.declared.page.Page.{Page}
 use Rattle.text.specs.Page.{pageSize, blank, withByte, extended, pageOf}
 

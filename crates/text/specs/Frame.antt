@@ -32,9 +32,8 @@ use Rattle.choice.specs.Tests.{choose, _also_, _either_}
 use Rattle.rules.specs.declared.entry.Destination.{Destination}
 use Rattle.rules.specs.declared.entry.Destination.the-variants.{Fossil, Biomass, Nowhere}
 use Rattle.rules.specs.declared.record.Outcome.the-variants.{SetAside, Counted}
-use Rattle.rules.specs.Bytes.{word, zeros}
+use Rattle.rules.specs.Bytes.{word, zeros, bytesOf}
 use Rattle.rules.specs.Reader.{Sight, turnedAway, missing, shown}
-use Rattle.job.specs.Checkpoint.{bytesOf}
 use Rattle.text.specs.declared.frame.Frame.{Frame}
 use Rattle.text.specs.declared.frame.Asked.{Asked}
 use Rattle.text.specs.declared.frame.Asked.the-variants.{Call, Stop}

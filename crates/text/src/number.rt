@@ -3,7 +3,7 @@ use crate::page;
 use crate::page::Page;
 ghost use mathlib.Core.List.{_++_};
 ghost use mathlib.Core.Path.{_≡_};
-ghost use Rattle.job.specs.Checkpoint.{bytesOf};
+ghost use Rattle.rules.specs.Bytes.{bytesOf};
 ghost use Rattle.text.specs.Page.{extended};
 ghost use Rattle.text.specs.Words as words;
 

@@ -7,7 +7,7 @@ use native.Mathlib.Omega.{arith}
 use lib.ListN.{length, length-set}
 use lib.Seq.{paste, paste-zero}
 use borrow.Author.Needs.{needs}
-use Rattle.job.specs.Checkpoint.{bytesOf}
+use Rattle.rules.specs.Bytes.{bytesOf}
 use Rattle.job.proofs.PutLaws.{div-bytes, put-next, put-all}
 use Rattle.job.proofs.put.put_in.Statement.{statement}
 use Rattle.job.proofs.put.put_in.Tie as tie

@@ -2,7 +2,7 @@
 use Prim.Native.Nat.{ℕ}
 use mathlib.Core.Path.{ap, _∙_}
 use borrow.Author.Needs.{needs}
-use Rattle.job.specs.Checkpoint.{bytesOf}
+use Rattle.rules.specs.Bytes.{bytesOf}
 use Rattle.text.specs.Page.{extended}
 use Rattle.text.specs.Frame.{changePart}
 use Rattle.text.proofs.PageLaws.{extended-more}

@@ -5,7 +5,7 @@ use mathlib.Core.Path.{_≡_, ap}
 use native.Mathlib.Nat.{sub-zero}
 use native.Mathlib.Omega.{arith}
 use borrow.Author.Needs.{needs}
-use Rattle.job.specs.Checkpoint.{bytesOf}
+use Rattle.rules.specs.Bytes.{bytesOf}
 use Rattle.text.specs.Page.{extended}
 use Rattle.text.proofs.PageLaws.{extended-bytes-next, extended-bytes-last}
 use Rattle.text.proofs.number.say_bytes.Statement.{statement}
