@@ -11,16 +11,17 @@ use borrow.Author.Tests.{ltb-true, leb-true, eqb-true, lt-ltb, le-leb, eq-eqb, n
 use Rattle.choice.specs.Tests.{choose}
 use Rattle.choice.proofs.Splitting.{if-eq}
 use Rattle.choice.proofs.TestsLaws.{also-t, also-iff, choose-t, choose-f}
-use Rattle.mass.specs.Ledger.{tonne}
+use Rattle.mass.specs.Ledger.{tonne, tonnesEach, recordsForeseen}
 use Rattle.mass.proofs.LedgerLaws.{total-parts, ledgerOf-unique}
 use Rattle.rules.specs.declared.book.Head.{Head}
 use Rattle.rules.specs.Bytes.{byte, word, bytesOf}
 use Rattle.rules.proofs.BytesLaws.{length-bytesOf, bytesOf-word}
 use Rattle.job.specs.declared.tally.Tally.{Tally}
-use Rattle.job.specs.State.{State, Light, FitFor}
+use Rattle.job.specs.State.{State, ledgersOf}
+use Rattle.job.specs.Bounds.{FitFor}
 use Rattle.job.specs.Checkpoint.{doneIn, asideIn, indexIn, reasonIn, lengthIn, yearIn, tonnesIn, restIn, fossilAt, biomassAt, ch4At, n2oAt}
 use Rattle.job.specs.Checkpoint.{firstSound, ledgerSound, sound, decode, encode}
-use Rattle.job.specs.Tally.{ledgersOf, tallyOf, ledgerIn, tallyIn, stateOf}
+use Rattle.job.specs.Tally.{tallyOf, ledgerIn, tallyIn, stateOf}
 use Rattle.job.proofs.PutLaws.{Number, word-laid}
 
 -- ---- a state, written
@@ -56,7 +57,7 @@ record Says (h : Head) (s : State) (c : List ℕ) : Type 0 where
   year-is : h .year < 2 ^ 16 → yearIn c ≡ h .year
   blank-zero : word c 86 10 ≡ 0
 
-module _ (h : Head) (s : State) (fit : FitFor h s) (few : h .n ≤ 131072) where
+module _ (h : Head) (s : State) (fit : FitFor h s) (few : h .n ≤ recordsForeseen) where
   small-first : (s .index < 2 ^ 32) × (s .reason < 256)
   small-first = if-eq (s .aside) 0
       (λ e. let f = fit .none-first e in omega arith)
@@ -124,10 +125,10 @@ soundFor-sound h c e =
         aside-le = omega (arith, leb-true);
         none-first = λ z. let f = simp also-iff at (first .0 z) in omega (arith, eqb-true);
         some-first = λ z. let f = simp also-iff at (first .1 z) in omega (arith, ltb-true, leb-true);
-        fossil-light = omega (arith, ltb-true, leb-true);
-        biomass-light = omega (arith, ltb-true, leb-true);
-        ch4-light = omega (arith, ltb-true, leb-true);
-        n2o-light = omega (arith, ltb-true, leb-true);
+        fossil-le = omega (arith, ltb-true, leb-true);
+        biomass-le = omega (arith, ltb-true, leb-true);
+        ch4-le = omega (arith, ltb-true, leb-true);
+        n2o-le = omega (arith, ltb-true, leb-true);
       };
       length-is = omega (arith, eqb-true);
       year-is = omega (arith, eqb-true);
@@ -147,7 +148,7 @@ firstSound-fit h c fit = if-eq (asideIn c) 0
     choose-f _ (ne-eqb _ 0 z) (simp also-iff (omega (arith, lt-ltb, le-leb))))
 
 ledgerSound-fit : (c : List ℕ) (k : ℕ) → restIn c k < tonne
-    → Light (decode c) (tonnesIn c k * tonne + restIn c k) → ledgerSound c k ≡ true
+    → (tonnesIn c k * tonne + restIn c k) / tonne ≤ tonnesEach * decode c .done → ledgerSound c k ≡ true
 unfolding ledgerSound decode
 ledgerSound-fit c k r l = simp also-iff (omega (arith, lt-ltb, le-leb))
 
@@ -155,10 +156,10 @@ pub sound-soundFor : (h : Head) (c : List ℕ) → SoundFor h c → sound h c �
 unfolding sound decode
 sound-soundFor h c f =
     let w = f .fit in
-    let fossil = ledgerSound-fit c fossilAt (f .fossil-canonical) (w .fossil-light) in
-    let biomass = ledgerSound-fit c biomassAt (f .biomass-canonical) (w .biomass-light) in
-    let ch4 = ledgerSound-fit c ch4At (f .ch4-canonical) (w .ch4-light) in
-    let n2o = ledgerSound-fit c n2oAt (f .n2o-canonical) (w .n2o-light) in
+    let fossil = ledgerSound-fit c fossilAt (f .fossil-canonical) (w .fossil-le) in
+    let biomass = ledgerSound-fit c biomassAt (f .biomass-canonical) (w .biomass-le) in
+    let ch4 = ledgerSound-fit c ch4At (f .ch4-canonical) (w .ch4-le) in
+    let n2o = ledgerSound-fit c n2oAt (f .n2o-canonical) (w .n2o-le) in
     let head = also-t (eq-eqb _ _ (f .length-is)) (eq-eqb _ _ (f .year-is)) in
     let place = also-t (also-t head (le-leb _ _ (w .done-le))) (le-leb _ _ (w .aside-le)) in
     let co2 = also-t (also-t (also-t place (firstSound-fit h c w)) fossil) biomass in
@@ -168,7 +169,7 @@ sound-soundFor h c f =
 pub fitFor-sound : (h : Head) (c : List ℕ) → sound h c ≡ true → FitFor h (decode c)
 fitFor-sound h c e = soundFor-sound h c e .fit
 
-pub sound-encode : (h : Head) (s : State) → FitFor h s → h .n ≤ 131072 → h .length < 2 ^ 32
+pub sound-encode : (h : Head) (s : State) → FitFor h s → h .n ≤ recordsForeseen → h .length < 2 ^ 32
     → h .year < 2 ^ 16 → sound h (encode h s) ≡ true
 sound-encode h s fit few length year =
     let w = says-encode h s fit few in

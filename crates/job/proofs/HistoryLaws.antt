@@ -11,7 +11,8 @@ use Rattle.choice.proofs.Splitting.{if-eq}
 use Rattle.rules.specs.declared.book.Head.{Head}
 use Rattle.rules.specs.Book.{accepted, opened}
 use Rattle.rules.proofs.BookLaws.{accepted-facts}
-use Rattle.job.specs.State.{State, run, first, FitFor}
+use Rattle.job.specs.State.{State, run, first}
+use Rattle.job.specs.Bounds.{FitFor}
 use Rattle.job.specs.Checkpoint.{checkpointSize, doneIn, asideIn, indexIn, reasonIn, sound, decode, encode}
 use Rattle.job.specs.Reply.{reply}
 use Rattle.job.specs.Wake.{moves, freshReply, freshBytes, wakeReply, wakeBytes}

@@ -1,11 +1,12 @@
 -- What one record does to a pile, whether its masses are summed or carried. Assumes nothing.
-use Prim.Native.Nat.{ℕ, _+_, _-_, _*_, _<_, _≤_}
+use Prim.Native.Nat.{ℕ, _+_, _-_, _*_, _/_, _<_, _≤_}
 use mathlib.Core.List.{List}
 use mathlib.Core.Path.{_≡_, sym, ap, _∙_, subst}
-use native.Mathlib.Nat.{le-of-eq, lt-of-le-of-lt, add-zero}
+use native.Mathlib.Nat.{add-zero}
 use native.Mathlib.Numerals.{add-one}
 use native.Mathlib.Omega.{arith}
 use lib.ListN.{length}
+use Rattle.mass.specs.Ledger.{tonne, tonnesEach, recordsForeseen}
 use Rattle.mass.specs.Figures.{AllSound}
 use Rattle.rules.specs.declared.book.Head.{Head}
 use Rattle.rules.specs.declared.entry.Entry.{Entry}
@@ -14,13 +15,12 @@ use Rattle.rules.specs.declared.record.Outcome.the-variants.{SetAside, Counted}
 use Rattle.rules.specs.Book.{opened, accepted}
 use Rattle.rules.specs.Record.{outcomeAt}
 use Rattle.rules.proofs.BookLaws.{accepted-facts}
-use Rattle.rules.proofs.RecordLaws.{Within}
 use Rattle.job.specs.declared.tally.Masses.{Masses}
 use Rattle.job.specs.declared.tally.Tally.{Tally}
-use Rattle.job.specs.State.{State, after, run, FitFor}
-use Rattle.job.specs.Tally.{ledgersOf, tallyOf, stateOf}
-use Rattle.job.specs.Pile.{stateWith, stepped, Fit, Low, Slight, Share}
-use Rattle.job.proofs.StateLaws.{small}
+use Rattle.job.specs.State.{State, after, run, ledgersOf}
+use Rattle.job.specs.Bounds.{FitFor, BoundedOutcome}
+use Rattle.job.specs.Tally.{tallyOf, stateOf}
+use Rattle.job.specs.Pile.{stateWith, stepped, Fit, Low, Share}
 use Rattle.job.proofs.TallyLaws.{stateOf-tallyOf, sound-ledgersOf, ledgersOf-after-aside}
 
 -- ---- what is added to a ledger
@@ -137,29 +137,18 @@ fit-low a b h l = record {
 }
 
 -- A record gives at most 4 × 10^18 of a ledger's unit.
-pub slight-within : (o : Outcome) → Within o → Slight o
-slight-within (SetAside k) w = record {
-  fossil-slight = omega arith;
-  biomass-slight = omega arith;
-  ch4-slight = omega arith;
-  n2o-slight = omega arith;
-}
-slight-within (Counted e) w = record {
-  fossil-slight = let l = small (Counted e) w .fossil-le in omega arith;
-  biomass-slight = let l = small (Counted e) w .biomass-le in omega arith;
-  ch4-slight = let l = w .ch4-le in omega arith;
-  n2o-slight = let l = w .n2o-le in omega arith;
-}
-
-thousandth : {m v : ℕ} → 1000 * m ≡ v → v < 1000 * 9223372036854775808 → m < 9223372036854775808
+thousandth : {m v : ℕ} → 1000 * m ≡ v → v ≤ tonnesEach * tonne → m < 9223372036854775808
 thousandth h l = omega arith
 
-pub low-share : (m : Masses) (e : Entry) → Share m e → Slight (Counted e) → Low m
+trace-lt : {m v : ℕ} → m ≡ v → v ≤ tonnesEach * (tonne / 1000) → m < 9223372036854775808
+trace-lt h l = omega arith
+
+pub low-share : (m : Masses) (e : Entry) → Share m e → BoundedOutcome (Counted e) → Low m
 low-share m e h s = record {
-  fossil-low = thousandth (h .fossil-is) (s .fossil-slight);
-  biomass-low = thousandth (h .biomass-is) (s .biomass-slight);
-  ch4-low = lt-of-le-of-lt (le-of-eq (h .ch4-is)) (s .ch4-slight);
-  n2o-low = lt-of-le-of-lt (le-of-eq (h .n2o-is)) (s .n2o-slight);
+  fossil-low = thousandth (h .fossil-is) (s .fossil-le);
+  biomass-low = thousandth (h .biomass-is) (s .biomass-le);
+  ch4-low = trace-lt (h .ch4-is) (s .ch4-le);
+  n2o-low = trace-lt (h .n2o-is) (s .n2o-le);
 }
 
 -- ---- a run begins with sound ledgers
@@ -167,7 +156,7 @@ pub sound-begun : {q : Tally} (h : Head) (k : List ℕ) (t : Tally) → opened k
     → FitFor h (stateOf t) → q ≡ t → AllSound (q .ledgers)
 sound-begun h k t o e f p =
     let book = accepted-facts k h o in
-    let few : h .n ≤ 131072 = omega arith in
+    let few : h .n ≤ recordsForeseen = omega arith in
     sound-carried (stateOf t) (p ∙ e) (sound-ledgersOf h (stateOf t) f few)
 
 -- ---- the parts of a book

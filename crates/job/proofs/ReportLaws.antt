@@ -17,9 +17,10 @@ use Rattle.rules.specs.declared.book.Head.{Head}
 use Rattle.rules.specs.Book.{Answer, refused, accepted, opened}
 use Rattle.rules.proofs.BookLaws.{accepted-facts}
 use Rattle.job.specs.declared.tally.Tally.{Tally}
-use Rattle.job.specs.State.{State, FitFor}
+use Rattle.job.specs.State.{State, ledgersOf}
+use Rattle.job.specs.Bounds.{FitFor}
 use Rattle.job.specs.Checkpoint.{checkpointSize, sound, decode, encode}
-use Rattle.job.specs.Tally.{ledgersOf, tallyIn, stateOf}
+use Rattle.job.specs.Tally.{tallyIn, stateOf}
 use Rattle.job.specs.Reply.{reply, figureValues}
 use Rattle.job.specs.Report.{warming, figuresAt, replyAt, reportReply, leftReply}
 use Rattle.job.specs.Wake.{ifOpen, admittedFor, admitted}

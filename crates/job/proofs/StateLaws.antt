@@ -3,13 +3,15 @@
 use Prim.Native.Nat.{ℕ, zero, suc, _+_, _*_, _/_, _<_, _≤_, zero-le}
 use mathlib.Core.List.{List}
 use mathlib.Core.Path.{_≡_, refl, sym, ap, _∙_, subst}
-use native.Mathlib.Nat.{add-zero, add-suc, not-suc-le-zero}
+use native.Mathlib.Nat.{le-trans, add-zero, add-suc, not-suc-le-zero}
 use native.Mathlib.Omega.{arith}
+use lib.Dec.{lit≤}
 use borrow.Author.Tests.{eq-eqb, ne-eqb}
 use Rattle.choice.proofs.Splitting.{if-lt, if-eq}
 use Rattle.choice.proofs.TestsLaws.{choose-t, choose-f}
 use Rattle.mass.specs.declared.Ug.{Ug}
-use Rattle.mass.specs.Ledger.{tonne}
+use Rattle.mass.specs.Ledger.{tonne, tonnesEach}
+use Rattle.mass.proofs.FuelLaws.{mostEach}
 use Rattle.rules.specs.declared.book.Head.{Head}
 use Rattle.rules.specs.declared.entry.Destination.{Destination}
 use Rattle.rules.specs.declared.entry.Destination.the-variants.{Fossil, Biomass, Nowhere}
@@ -18,7 +20,8 @@ use Rattle.rules.specs.declared.record.Outcome.the-variants.{SetAside, Counted}
 use Rattle.rules.specs.Book.{opened, accepted}
 use Rattle.rules.specs.Record.{lastReason, outcomeAt}
 use Rattle.rules.proofs.RecordLaws.{Within, within-outcomeAt}
-use Rattle.job.specs.State.{State, toFossil, toBiomass, fossilOf, biomassOf, ch4Of, n2oOf, asideOf, fresh, after, run, first, sumTo, FitFor}
+use Rattle.job.specs.State.{State, toFossil, toBiomass, fossilOf, biomassOf, ch4Of, n2oOf, asideOf, fresh, after, run, first, sumTo}
+use Rattle.job.specs.Bounds.{FitFor, BoundedOutcome}
 
 -- ---- how far a state is
 pub after-done : (s : State) (o : Outcome) → after s o .done ≡ s .done + 1
@@ -65,39 +68,34 @@ after-later s r e =
     let some = ne-eqb (s .aside) 0 e in
     (choose-f (s .done) some refl, choose-f r some refl)
 
--- ---- an outcome gives a ledger at most 4,000,000 t
-toFossil-le : (d : Destination) (x : Ug) → x .0 ≤ 4000000000000000000 → toFossil d x ≤ 4000000 * tonne
+-- ---- what an outcome gives to a ledger is bounded
+toFossil-le : (d : Destination) (x : Ug) → x .0 ≤ mostEach → toFossil d x ≤ tonnesEach * tonne
 toFossil-le Fossil x l = omega arith
 toFossil-le Biomass x l = zero-le
 toFossil-le Nowhere x l = zero-le
 
-toBiomass-le : (d : Destination) (x : Ug) → x .0 ≤ 4000000000000000000 → toBiomass d x ≤ 4000000 * tonne
+toBiomass-le : (d : Destination) (x : Ug) → x .0 ≤ mostEach → toBiomass d x ≤ tonnesEach * tonne
 toBiomass-le Fossil x l = zero-le
 toBiomass-le Biomass x l = omega arith
 toBiomass-le Nowhere x l = zero-le
 
-pub record Small (o : Outcome) : Type 0 where
-  pub fossil-le : fossilOf o ≤ 4000000 * tonne
-  pub biomass-le : biomassOf o ≤ 4000000 * tonne
-  pub ch4-le : ch4Of o ≤ 4000000 * tonne
-  pub n2o-le : n2oOf o ≤ 4000000 * tonne
-
-pub small : (o : Outcome) → Within o → Small o
-small (SetAside r) w = record {
-  fossil-le = omega arith;
-  biomass-le = omega arith;
-  ch4-le = omega arith;
-  n2o-le = omega arith;
+pub boundedOutcome-within : (o : Outcome) → Within o → BoundedOutcome o
+boundedOutcome-within (SetAside r) w = record {
+  fossil-le = zero-le;
+  biomass-le = zero-le;
+  ch4-le = zero-le;
+  n2o-le = zero-le;
 }
-small (Counted e) w = record {
+boundedOutcome-within (Counted e) w = record {
   fossil-le = toFossil-le (e .destination) (e .co2) (w .co2-le);
   biomass-le = toBiomass-le (e .destination) (e .co2) (w .co2-le);
-  ch4-le = let l = w .ch4-le in omega arith;
-  n2o-le = let l = w .n2o-le in omega arith;
+  ch4-le = w .ch4-le;
+  n2o-le = w .n2o-le;
 }
 
-light-more : (d v x : ℕ) → v / tonne ≤ 4000000 * d → x ≤ 4000000 * tonne → (v + x) / tonne ≤ 4000000 * (d + 1)
-light-more d v x h l = omega arith
+-- One record more may hold so much more.
+more-le : (d v x : ℕ) → v / tonne ≤ tonnesEach * d → x ≤ tonnesEach * tonne → (v + x) / tonne ≤ tonnesEach * (d + 1)
+more-le d v x h l = omega arith
 
 -- ---- a state within what a sound checkpoint allows
 pub fitFor-fresh : (h : Head) → FitFor h fresh
@@ -107,10 +105,10 @@ fitFor-fresh h = record {
   aside-le = zero-le;
   none-first = λ e. (refl, refl);
   some-first = λ e. absurd (e refl);
-  fossil-light = zero-le;
-  biomass-light = zero-le;
-  ch4-light = zero-le;
-  n2o-light = zero-le;
+  fossil-le = zero-le;
+  biomass-le = zero-le;
+  ch4-le = zero-le;
+  n2o-le = zero-le;
 }
 
 module _ {h : Head} {s : State} (f : FitFor h s) where
@@ -137,16 +135,16 @@ pub fitFor-after : (h : Head) (s : State) (o : Outcome) → s .done < h .n → W
     → FitFor h (after s o)
 unfolding after
 fitFor-after h s o l w f =
-    let x = small o w in
+    let x = boundedOutcome-within o w in
     record {
       done-le = omega arith;
       aside-le = aside-after f o;
       none-first = none-after f o;
       some-first = some-after f o w;
-      fossil-light = light-more (s .done) (s .fossil) (fossilOf o) (f .fossil-light) (x .fossil-le);
-      biomass-light = light-more (s .done) (s .biomass) (biomassOf o) (f .biomass-light) (x .biomass-le);
-      ch4-light = light-more (s .done) (s .ch4) (ch4Of o) (f .ch4-light) (x .ch4-le);
-      n2o-light = light-more (s .done) (s .n2o) (n2oOf o) (f .n2o-light) (x .n2o-le);
+      fossil-le = more-le (s .done) (s .fossil) (fossilOf o) (f .fossil-le) (x .fossil-le);
+      biomass-le = more-le (s .done) (s .biomass) (biomassOf o) (f .biomass-le) (x .biomass-le);
+      ch4-le = more-le (s .done) (s .ch4) (ch4Of o) (f .ch4-le) (le-trans (x .ch4-le) (lit≤ tt));
+      n2o-le = more-le (s .done) (s .n2o) (n2oOf o) (f .n2o-le) (le-trans (x .n2o-le) (lit≤ tt));
     }
 
 pub fitFor-run : (h : Head) (k : List ℕ) (s : State) (n : ℕ) → opened k ≡ accepted h → s .done + n ≤ h .n

@@ -6,7 +6,7 @@ use mathlib.Core.Path.{_≡_, sym, ap, _∙_, subst}
 use native.Mathlib.Nat.{add-zero}
 use native.Mathlib.Omega.{arith}
 use Rattle.mass.specs.declared.ledger.Ledger.{Ledger}
-use Rattle.mass.specs.Ledger.{tonne, total, Sound, ledgerOf, added}
+use Rattle.mass.specs.Ledger.{tonne, total, Sound, ledgerOf, added, tonnesEach, recordsForeseen}
 use Rattle.mass.specs.Figures.{AllSound}
 use Rattle.mass.proofs.LedgerLaws.{total-ledgerOf, ledgerOf-total, sound-ledgerOf, added-ledgerOf}
 use Rattle.rules.specs.declared.book.Head.{Head}
@@ -16,8 +16,9 @@ use Rattle.rules.specs.Book.{opened, accepted}
 use Rattle.rules.proofs.BookLaws.{accepted-facts}
 use Rattle.rules.proofs.RecordLaws.{Within}
 use Rattle.job.specs.declared.tally.Tally.{Tally}
-use Rattle.job.specs.State.{State, after, run, FitFor}
-use Rattle.job.specs.Tally.{ledgersOf, tallyOf, stateOf}
+use Rattle.job.specs.State.{State, after, run, ledgersOf}
+use Rattle.job.specs.Bounds.{FitFor}
+use Rattle.job.specs.Tally.{tallyOf, stateOf}
 use Rattle.job.proofs.StateLaws.{run-done, fitFor-after, fitFor-run}
 
 -- ---- tallies and states
@@ -34,16 +35,16 @@ stateOf-tallyOf s = λ i. record {
   n2o = total-ledgerOf (s .n2o) i;
 }
 
-light-sound : (n d v : ℕ) → v / tonne ≤ 4000000 * d → d ≤ n → n ≤ 131072 → Sound (ledgerOf v)
+light-sound : (n d v : ℕ) → v / tonne ≤ tonnesEach * d → d ≤ n → n ≤ recordsForeseen → Sound (ledgerOf v)
 light-sound n d v h l m = sound-ledgerOf v (omega arith)
 
-pub sound-ledgersOf : (h : Head) (s : State) → FitFor h s → h .n ≤ 131072 → AllSound (ledgersOf s)
+pub sound-ledgersOf : (h : Head) (s : State) → FitFor h s → h .n ≤ recordsForeseen → AllSound (ledgersOf s)
 unfolding ledgersOf
 sound-ledgersOf h s f l = record {
-  fossil-sound = light-sound (h .n) (s .done) (s .fossil) (f .fossil-light) (f .done-le) l;
-  biomass-sound = light-sound (h .n) (s .done) (s .biomass) (f .biomass-light) (f .done-le) l;
-  ch4-sound = light-sound (h .n) (s .done) (s .ch4) (f .ch4-light) (f .done-le) l;
-  n2o-sound = light-sound (h .n) (s .done) (s .n2o) (f .n2o-light) (f .done-le) l;
+  fossil-sound = light-sound (h .n) (s .done) (s .fossil) (f .fossil-le) (f .done-le) l;
+  biomass-sound = light-sound (h .n) (s .done) (s .biomass) (f .biomass-le) (f .done-le) l;
+  ch4-sound = light-sound (h .n) (s .done) (s .ch4) (f .ch4-le) (f .done-le) l;
+  n2o-sound = light-sound (h .n) (s .done) (s .n2o) (f .n2o-le) (f .done-le) l;
 }
 
 -- ---- one record
@@ -70,13 +71,13 @@ pub record Ready (h : Head) (s : State) : Type 0 where
   pub room : (s .done < 4294967295) × (s .aside < 4294967295)
   pub next-sound : (o : Outcome) → Within o → AllSound (ledgersOf (after s o))
 
-far : {a d n : ℕ} → a ≤ d → d < n → n ≤ 131072 → (d < 4294967295) × (a < 4294967295)
+far : {a d n : ℕ} → a ≤ d → d < n → n ≤ recordsForeseen → (d < 4294967295) × (a < 4294967295)
 far h l m = (omega arith, omega arith)
 
 pub ready : (h : Head) (k : List ℕ) (s : State) → opened k ≡ accepted h → FitFor h s → s .done < h .n → Ready h s
 ready h k s e f l =
     let book = accepted-facts k h e in
-    let few : h .n ≤ 131072 = omega arith in
+    let few : h .n ≤ recordsForeseen = omega arith in
     record {
       room = far (f .aside-le) l few;
       next-sound = λ o w. sound-ledgersOf h (after s o) (fitFor-after h s o l w f) few;

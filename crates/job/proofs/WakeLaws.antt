@@ -9,12 +9,14 @@ use lib.ListN.{length}
 use borrow.Author.Tests.{eq-eqb, ne-eqb}
 use Rattle.choice.specs.Tests.{choose}
 use Rattle.choice.proofs.TestsLaws.{choose-t, choose-f}
+use Rattle.mass.specs.Ledger.{recordsForeseen}
 use Rattle.mass.specs.Figures.{AllSound}
 use Rattle.rules.specs.declared.book.Head.{Head}
 use Rattle.rules.specs.Book.{Answer, refused, accepted, opened}
 use Rattle.rules.proofs.BookLaws.{accepted-facts}
 use Rattle.job.specs.declared.tally.Tally.{Tally}
-use Rattle.job.specs.State.{State, FitFor}
+use Rattle.job.specs.State.{State}
+use Rattle.job.specs.Bounds.{FitFor}
 use Rattle.job.specs.Checkpoint.{checkpointSize, sound}
 use Rattle.job.specs.Tally.{tallyOf}
 use Rattle.job.specs.Reply.{reply}
@@ -130,10 +132,10 @@ module _ {n : ℕ} {vs out : List ℕ} where
   wakeBytes-kept k c b = ifOpen-kept (admitted k c) _ _
 
 -- ---- a book that is accepted
-pub records-le : (k : List ℕ) (h : Head) → opened k ≡ accepted h → h .n ≤ 131072
+pub records-le : (k : List ℕ) (h : Head) → opened k ≡ accepted h → h .n ≤ recordsForeseen
 records-le k h e = let a = accepted-facts k h e in omega arith
 
-pub sound-tally : (h : Head) (s : State) {t : Tally} → h .n ≤ 131072 → t ≡ tallyOf s
+pub sound-tally : (h : Head) (s : State) {t : Tally} → h .n ≤ recordsForeseen → t ≡ tallyOf s
     → FitFor h s → AllSound (t .ledgers)
 unfolding tallyOf
 sound-tally h s few p f =

@@ -17,7 +17,7 @@ use mathlib.Core.Bool.{Bool}
 use mathlib.Core.List.{List, _++_}
 use lib.Dec.{leb, ltb, eqb}
 use Rattle.choice.specs.Tests.{_also_, choose}
-use Rattle.mass.specs.Ledger.{tonne}
+use Rattle.mass.specs.Ledger.{tonne, tonnesEach}
 use Rattle.rules.specs.declared.book.Head.{Head}
 use Rattle.rules.specs.Bytes.{word, zeros, bytesOf}
 use Rattle.rules.specs.Record.{lastReason}
@@ -77,7 +77,7 @@ firstSound c =
     (ltb (indexIn c) (doneIn c) also leb 1 (reasonIn c) also leb (reasonIn c) lastReason)
 
 unfoldable pub ledgerSound : List ℕ → ℕ → Bool
-ledgerSound c k = ltb (restIn c k) tonne also leb (tonnesIn c k) (4000000 * doneIn c)
+ledgerSound c k = ltb (restIn c k) tonne also leb (tonnesIn c k) (tonnesEach * doneIn c)
 
 unfoldable pub sound : Head → List ℕ → Bool
 sound h c =

@@ -1,6 +1,7 @@
 -- What a reader must believe of a job, in the order of RULES: its state, its checkpoint, its calls.
 pub mod State
 pub mod Checkpoint
+pub mod Bounds
 pub mod Tally
 pub mod Pile
 pub mod Reply

@@ -6,17 +6,15 @@
 --     stepped s       the state s with one record more done, which gives nothing
 --     Fit a b         each sum of the masses a and b fits 64 bits
 --     Low m           each of the masses m is below half of what 64 bits hold
---     Slight o        so is what the outcome o gives to each ledger
 --     Share m e       m is what the entry e gives to each ledger
 --
 -- Laws: proofs/PileLaws.antt. Definitions only.
 use Prim.Native.Nat.{_+_, _*_, _<_}
 use mathlib.Core.Path.{_≡_}
 use Rattle.rules.specs.declared.entry.Entry.{Entry}
-use Rattle.rules.specs.declared.record.Outcome.{Outcome}
 use Rattle.job.specs.declared.tally.Masses.{Masses}
 use Rattle.job.specs.declared.tally.Pile.{Pile}
-use Rattle.job.specs.State.{State, toFossil, toBiomass, fossilOf, biomassOf, ch4Of, n2oOf}
+use Rattle.job.specs.State.{State, toFossil, toBiomass}
 use Rattle.job.specs.Tally.{stateOf}
 
 unfoldable pub stateWith : State → Masses → State
@@ -57,13 +55,6 @@ pub record Low (m : Masses) : Type 0 where
   pub biomass-low : m .biomass .0 < 9223372036854775808
   pub ch4-low : m .ch4 .0 < 9223372036854775808
   pub n2o-low : m .n2o .0 < 9223372036854775808
-
--- In ng, of which CO2 has 1,000 in each of its µg.
-pub record Slight (o : Outcome) : Type 0 where
-  pub fossil-slight : fossilOf o < 1000 * 9223372036854775808
-  pub biomass-slight : biomassOf o < 1000 * 9223372036854775808
-  pub ch4-slight : ch4Of o < 9223372036854775808
-  pub n2o-slight : n2oOf o < 9223372036854775808
 
 pub record Share (m : Masses) (e : Entry) : Type 0 where
   pub fossil-is : 1000 * m .fossil .0 ≡ toFossil (e .destination) (e .co2)

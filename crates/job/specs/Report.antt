@@ -16,9 +16,8 @@ use Rattle.mass.specs.declared.figures.Figures.{Figures}
 use Rattle.mass.specs.declared.figures.Warming.{Warming}
 use Rattle.mass.specs.Figures.{figuresOf}
 use Rattle.rules.specs.declared.book.Head.{Head}
-use Rattle.job.specs.State.{State}
+use Rattle.job.specs.State.{State, ledgersOf}
 use Rattle.job.specs.Checkpoint.{decode}
-use Rattle.job.specs.Tally.{ledgersOf}
 use Rattle.job.specs.Reply.{Reply, reply, figureValues}
 use Rattle.job.specs.Wake.{ifOpen, admitted}
 

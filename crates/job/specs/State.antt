@@ -10,22 +10,22 @@
 --     run h k s n          the state after the next n records of the book k, from the place of s
 --     first h k n          what the first n records of the book k give
 --     sumTo f n            f 0 + .. + f (n - 1)
---     FitFor h s           the numbers of s are within what the soundness of a checkpoint allows
+--     ledgersOf s          the ledgers of a state, in tonnes and rest
 --
 -- Laws: proofs/StateLaws.antt. Definitions only.
-use Prim.Native.Nat.{ℕ, zero, suc, _+_, _*_, _/_, _<_, _≤_}
+use Prim.Native.Nat.{ℕ, zero, suc, _+_, _*_}
 use mathlib.Core.List.{List}
-use mathlib.Core.Path.{_≡_}
 use lib.Dec.{eqb}
 use Rattle.choice.specs.Tests.{choose}
 use Rattle.mass.specs.declared.Ug.{Ug}
-use Rattle.mass.specs.Ledger.{tonne}
+use Rattle.mass.specs.declared.ledger.Ledgers.{Ledgers}
+use Rattle.mass.specs.Ledger.{ledgerOf}
 use Rattle.rules.specs.declared.book.Head.{Head}
 use Rattle.rules.specs.declared.entry.Destination.{Destination}
 use Rattle.rules.specs.declared.entry.Destination.the-variants.{Fossil, Biomass, Nowhere}
 use Rattle.rules.specs.declared.record.Outcome.{Outcome}
 use Rattle.rules.specs.declared.record.Outcome.the-variants.{SetAside, Counted}
-use Rattle.rules.specs.Record.{lastReason, outcomeAt}
+use Rattle.rules.specs.Record.{outcomeAt}
 
 pub record State : Type 0 where
   pub done : ℕ
@@ -105,16 +105,10 @@ unfoldable pub sumTo : (ℕ → ℕ) → ℕ → ℕ
 sumTo f zero = 0
 sumTo f (suc n) = sumTo f n + f n
 
--- 4,000,000 t is the most that a record gives to a ledger.
-abbrev pub Light : State → ℕ → Type 0
-Light s v = v / tonne ≤ 4000000 * s .done
-
-pub record FitFor (h : Head) (s : State) : Type 0 where
-  pub done-le : s .done ≤ h .n
-  pub aside-le : s .aside ≤ s .done
-  pub none-first : s .aside ≡ 0 → (s .index ≡ 0) × (s .reason ≡ 0)
-  pub some-first : (s .aside ≡ 0 → ⊥) → (s .index < s .done) × (1 ≤ s .reason) × (s .reason ≤ lastReason)
-  pub fossil-light : Light s (s .fossil)
-  pub biomass-light : Light s (s .biomass)
-  pub ch4-light : Light s (s .ch4)
-  pub n2o-light : Light s (s .n2o)
+unfoldable pub ledgersOf : State → Ledgers
+ledgersOf s = record {
+  fossil = ledgerOf (s .fossil);
+  biomass = ledgerOf (s .biomass);
+  ch4 = ledgerOf (s .ch4);
+  n2o = ledgerOf (s .n2o);
+}

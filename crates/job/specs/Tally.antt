@@ -1,7 +1,6 @@
 -- How the code holds a state: four ledgers of tonnes and rest beside four numbers. This serves the
 -- code; the definitions of the calls don't need it.
 --
---     ledgersOf s    the ledgers of a state
 --     tallyOf s      a state, as the code holds it
 --     tallyIn c      what stands in the fields of a checkpoint, sound or not
 --     stateOf t      the state that t stands for
@@ -15,16 +14,8 @@ use Rattle.mass.specs.declared.ledger.Ledgers.{Ledgers}
 use Rattle.mass.specs.Ledger.{total, ledgerOf}
 use Rattle.job.specs.declared.tally.Masses.{Masses}
 use Rattle.job.specs.declared.tally.Tally.{Tally}
-use Rattle.job.specs.State.{State}
+use Rattle.job.specs.State.{State, ledgersOf}
 use Rattle.job.specs.Checkpoint.{doneIn, asideIn, indexIn, reasonIn, fossilAt, biomassAt, ch4At, n2oAt, tonnesIn, restIn}
-
-unfoldable pub ledgersOf : State → Ledgers
-ledgersOf s = record {
-  fossil = ledgerOf (s .fossil);
-  biomass = ledgerOf (s .biomass);
-  ch4 = ledgerOf (s .ch4);
-  n2o = ledgerOf (s .n2o);
-}
 
 unfoldable pub tallyOf : State → Tally
 tallyOf s = record {

@@ -54,7 +54,7 @@ const BLANK: usize = 86;
 const BLANK_TAIL: usize = 94;
 
 // The most that a record gives to a ledger.
-const TONNES_PER_RECORD: u64 = 4_000_000;
+const TONNES_EACH: u64 = 4_000_000;
 
 pub(crate) fn read(c: &[u8]) -> Tally
     requires whole { ⌜ length (now c) ≡ checkpointSize ⌝ }
@@ -150,7 +150,7 @@ fn is_ledger_sound(c: &[u8], at: usize) -> bool
     let rest = read_word(c, at + 8, 8);
     let tonnes = read_word(c, at, 8);
     let done = read_word(c, DONE, 4);
-    (rest < NG_PER_TONNE) & (tonnes <= TONNES_PER_RECORD * done)
+    (rest < NG_PER_TONNE) & (tonnes <= TONNES_EACH * done)
 }
 
 // Writes the checkpoint of a book with the head h that says t.

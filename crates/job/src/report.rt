@@ -14,7 +14,8 @@ use rules::book::Head;
 use rules::book::Opened;
 ghost use mathlib.Core.Path.{_≡_};
 ghost use Prim.Native.Nat.{_≤_};
-ghost use Rattle.job.specs.State.{FitFor};
+ghost use Rattle.mass.specs.Ledger.{recordsForeseen};
+ghost use Rattle.job.specs.Bounds.{FitFor};
 ghost use Rattle.job.specs.Tally.{tallyOf, stateOf};
 ghost use Rattle.job.specs.Reply.{reported, remaining};
 ghost use Rattle.job.specs.Report.{replyAt, reportReply, leftReply};
@@ -35,7 +36,7 @@ pub fn report(book: &[u8], from: &[u8]) -> Reported
 }
 
 fn report_open(h: Head, from: &[u8]) -> Reported
-    requires few { ⌜ h .n ≤ 131072 ⌝ }
+    requires few { ⌜ h .n ≤ recordsForeseen ⌝ }
     ensures reply { λ r. ⌜ reported r ≡ reportFor h (now (from .entry)) ⌝ }
 {
     match admission::admit(h, from) {
@@ -46,7 +47,7 @@ fn report_open(h: Head, from: &[u8]) -> Reported
 
 // A report of a state that is sound.
 fn report_at(h: Head, t: Tally) -> Reported
-    requires few { ⌜ h .n ≤ 131072 ⌝ }
+    requires few { ⌜ h .n ≤ recordsForeseen ⌝ }
     requires canonical { ⌜ t ≡ tallyOf (stateOf t) ⌝ }
     requires fit { ⌜ FitFor h (stateOf t) ⌝ }
     ensures reply { λ r. ⌜ reported r ≡ replyAt h (stateOf t) ⌝ }
@@ -76,7 +77,7 @@ pub fn count_left(book: &[u8], from: &[u8]) -> Remaining
 }
 
 fn count_left_open(h: Head, from: &[u8]) -> Remaining
-    requires few { ⌜ h .n ≤ 131072 ⌝ }
+    requires few { ⌜ h .n ≤ recordsForeseen ⌝ }
     ensures reply { λ r. ⌜ remaining r ≡ leftFor h (now (from .entry)) ⌝ }
 {
     match admission::admit(h, from) {

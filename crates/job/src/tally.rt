@@ -15,9 +15,10 @@ ghost use Prim.Native.Nat.{_+_, _*_, _<_, _≤_};
 ghost use Rattle.mass.specs.Figures.{AllSound};
 ghost use Rattle.rules.specs.Book.{opened, accepted};
 ghost use Rattle.rules.specs.Record.{outcomeAt};
-ghost use Rattle.job.specs.State.{toFossil, toBiomass, after, run, FitFor};
-ghost use Rattle.job.specs.Tally.{ledgersOf, tallyOf, stateOf, ledgersAfter};
-ghost use Rattle.job.specs.Pile.{stateWith, stateIn, stepped, Fit, Low, Slight, Share};
+ghost use Rattle.job.specs.State.{toFossil, toBiomass, after, run, ledgersOf};
+ghost use Rattle.job.specs.Bounds.{FitFor, BoundedOutcome};
+ghost use Rattle.job.specs.Tally.{tallyOf, stateOf, ledgersAfter};
+ghost use Rattle.job.specs.Pile.{stateWith, stateIn, stepped, Fit, Low, Share};
 
 pub struct Tally {
     pub done: u32,
@@ -164,7 +165,7 @@ fn are_low(m: Masses) -> bool
 fn add(p: Pile, o: Outcome) -> Pile
     requires sound { ⌜ AllSound (p .tally .ledgers) ⌝ }
     requires room { ⌜ (p .tally .done < 4294967295) × (p .tally .aside < 4294967295) ⌝ }
-    requires low { ⌜ Low (p .more) × Slight o ⌝ }
+    requires low { ⌜ Low (p .more) × BoundedOutcome o ⌝ }
     ensures after { λ r. ⌜ (stateIn r ≡ after (stateIn p) o) × AllSound (r .tally .ledgers) ⌝ }
 {
     match o {

@@ -1,5 +1,5 @@
 -- No mass of fuel passes 4,000,000 t, so that 64 bits hold it. Assumes nothing.
-use Prim.Native.Nat.{ℕ, _*_, _≤_}
+use Prim.Native.Nat.{ℕ, _*_, _/_, _≤_}
 use native.Mathlib.Nat.{mul-le-mul, mul-le-mul-right, le-trans}
 use lib.Dec.{lit≤}
 use Rattle.mass.specs.declared.fuel.Amount.{Amount}
@@ -7,9 +7,14 @@ use Rattle.mass.specs.declared.fuel.Heat.{Heat}
 use Rattle.mass.specs.declared.fuel.Carbon.{Carbon}
 use Rattle.mass.specs.declared.fuel.Co2Factor.{Co2Factor}
 use Rattle.mass.specs.declared.fuel.TraceFactor.{TraceFactor}
+use Rattle.mass.specs.Ledger.{tonne, tonnesEach}
 use Rattle.mass.specs.Fuel.{HeatInReach, CarbonInReach, co2OfHeat, co2OfCarbon, traceOfHeat}
 
-pub heat-product-le : {a h x : ℕ} → HeatInReach a h x → a * h * x ≤ 4000000000000000000
+-- In µg of CO2; CH4 and N2O come to no more ng.
+abbrev pub mostEach : ℕ
+mostEach = tonnesEach * (tonne / 1000)
+
+pub heat-product-le : {a h x : ℕ} → HeatInReach a h x → a * h * x ≤ mostEach
 heat-product-le r = mul-le-mul (mul-le-mul (r .amount-le) (r .heat-le)) (r .factor-le)
 
 pub heat-le : {a h x : ℕ} → HeatInReach a h x → a * h ≤ 20000000000000
@@ -22,16 +27,16 @@ pub carbon-product-le : {a c : ℕ} → CarbonInReach a c → a * c * 3664 ≤ 1
 carbon-product-le r = mul-le-mul-right 3664 (carbon-le r)
 
 pub co2OfHeat-le : (a : Amount) (h : Heat) (x : Co2Factor) → HeatInReach (a .0) (h .0) (x .0)
-    → co2OfHeat a h x .0 ≤ 4000000000000000000
+    → co2OfHeat a h x .0 ≤ mostEach
 unfolding co2OfHeat
 co2OfHeat-le a h x = heat-product-le
 
 pub co2OfCarbon-le : (a : Amount) (c : Carbon) → CarbonInReach (a .0) (c .0)
-    → co2OfCarbon a c .0 ≤ 4000000000000000000
+    → co2OfCarbon a c .0 ≤ mostEach
 unfolding co2OfCarbon
 co2OfCarbon-le a c r = le-trans (carbon-product-le r) (lit≤ tt)
 
 pub traceOfHeat-le : (a : Amount) (h : Heat) (x : TraceFactor) → HeatInReach (a .0) (h .0) (x .0)
-    → traceOfHeat a h x .0 ≤ 4000000000000000000
+    → traceOfHeat a h x .0 ≤ mostEach
 unfolding traceOfHeat
 traceOfHeat-le a h x = heat-product-le

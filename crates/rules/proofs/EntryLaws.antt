@@ -12,7 +12,7 @@ use Rattle.mass.specs.declared.Ug.{Ug}
 use Rattle.mass.specs.declared.hour.Readings.{Readings}
 use Rattle.mass.specs.Fuel.{HeatInReach, CarbonInReach}
 use Rattle.mass.specs.Hour.{InRange}
-use Rattle.mass.proofs.FuelLaws.{co2OfHeat-le, co2OfCarbon-le, traceOfHeat-le}
+use Rattle.mass.proofs.FuelLaws.{mostEach, co2OfHeat-le, co2OfCarbon-le, traceOfHeat-le}
 use Rattle.mass.proofs.HourLaws.{hourMass-le}
 use Rattle.rules.specs.declared.entry.Entry.{Entry}
 use Rattle.rules.specs.Fields.{fuelKind, defaultHeat, co2Factor, ch4Factor, n2oFactor, heatMeasured, amount, carbon}
@@ -60,13 +60,13 @@ reach l f h k =
       by-carbon = record { amount-le = amount-in; carbon-le = le-trans carbon-in (carbonLimit-le f) };
     }
 
--- ---- no entry gives a ledger more than 4,000,000 t: CO2 in µg, the others in ng
+-- ---- no entry gives a ledger more than one record can
 pub record Bounded (e : Entry) : Type 0 where
-  pub co2-le : e .co2 .0 ≤ 4000000000000000000
-  pub ch4-le : e .ch4 .0 ≤ 4000000000000000000
-  pub n2o-le : e .n2o .0 ≤ 4000000000000000000
+  pub co2-le : e .co2 .0 ≤ mostEach
+  pub ch4-le : e .ch4 .0 ≤ mostEach
+  pub n2o-le : e .n2o .0 ≤ mostEach
 
-co2By-le : (m : ℕ) (l f : List ℕ) → Reach l f → co2By m l f .0 ≤ 4000000000000000000
+co2By-le : (m : ℕ) (l f : List ℕ) → Reach l f → co2By m l f .0 ≤ mostEach
 unfolding co2By
 co2By-le m l f r =
     if-choose Few (eqb m 4) (λ monitored. zero-le) (λ not-4.
@@ -74,7 +74,7 @@ co2By-le m l f r =
     co2OfHeat-le _ _ _ (r .by-co2)))
   where
     Few : Ug → Type 0
-    Few x = x .0 ≤ 4000000000000000000
+    Few x = x .0 ≤ mostEach
 
 pub bounded-fuelEntry : (l u f : List ℕ) → fuelRanges l f ≡ true → fuelOk f ≡ true → Bounded (fuelEntry l u f)
 unfolding fuelEntry

@@ -31,7 +31,7 @@ pub check-f : {t : Bool} (k : ℕ) (x : Outcome) → t ≡ false → check t k x
 unfolding check
 check-f k x p = choose-f _ p refl
 
--- ---- a reason from 1 to the last, or an entry of at most 4,000,000 t
+-- ---- a reason from 1 to the last, or an entry that is bounded
 abbrev pub Within : Outcome → Type 0
 Within (SetAside k) = (1 ≤ k) × (k ≤ lastReason)
 Within (Counted e) = Bounded e

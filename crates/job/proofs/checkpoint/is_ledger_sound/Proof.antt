@@ -3,7 +3,7 @@ use Prim.Native.Nat.{_*_}
 use lib.Dec.{ltb, leb}
 use borrow.Author.Needs.{needs}
 use Rattle.choice.proofs.TestsLaws.{both}
-use Rattle.mass.specs.Ledger.{tonne}
+use Rattle.mass.specs.Ledger.{tonne, tonnesEach}
 use Rattle.job.specs.Checkpoint.{ledgerSound}
 use Rattle.job.proofs.checkpoint.is_ledger_sound.Statement.{statement}
 use Rattle.job.proofs.checkpoint.is_ledger_sound.Tie as tie
@@ -29,7 +29,7 @@ returns c =
     let rest = c .before .before .read-word .ensures .0 in
     let tonnes = c .before .read-word2 .ensures .0 in
     let done = c .read-word3 .ensures .0 in
-    both (λ i. ltb (rest i) tonne) (λ i. leb (tonnes i) (4000000 * done i))
+    both (λ i. ltb (rest i) tonne) (λ i. leb (tonnes i) (tonnesEach * done i))
 
 pub is-ledger-sound-spec : {M : Type 1} → statement M
 is-ledger-sound-spec =

@@ -2,7 +2,8 @@
 use mathlib.Core.Path.{sym, _∙_, subst}
 use borrow.Author.Needs.{needs}
 use Rattle.mass.specs.Figures.{AllSound}
-use Rattle.job.specs.Pile.{stateIn, Slight}
+use Rattle.job.specs.Bounds.{BoundedOutcome}
+use Rattle.job.specs.Pile.{stateIn}
 use Rattle.job.proofs.PileLaws.{stateWith-share, fit-low, low-share}
 use Rattle.job.proofs.tally.add.Statement.{statement}
 use Rattle.job.proofs.tally.add.Tie as tie
@@ -23,8 +24,8 @@ heap-requires : tie.Need-heap-requires
 heap-requires c κs =
     let start = c .before .before .before .before in
     let low = start .pre .1 .1 in
-    let slight = subst Slight (c .before .before .o2 .given .1) (low .1) in
-    let given = low-share (c .share .result) _ (c .share .ensures) slight in
+    let bounded = subst BoundedOutcome (c .before .before .o2 .given .1) (low .1) in
+    let given = low-share (c .share .result) _ (c .share .ensures) bounded in
     (fit-low (start .args .p .more) (c .share .result) (low .0) given, start .pre .1 .0 .0)
 
 returns : tie.Need-returns

@@ -1,6 +1,7 @@
 -- The ledgers get what the pile holds for them, and nothing else changes. Assumes nothing.
 use borrow.Author.Needs.{needs}
-use Rattle.job.specs.Tally.{ledgersOf, tallyOf, stateOf, ledgersAfter}
+use Rattle.job.specs.State.{ledgersOf}
+use Rattle.job.specs.Tally.{tallyOf, stateOf, ledgersAfter}
 use Rattle.job.specs.Pile.{stateWith, stateIn}
 use Rattle.job.proofs.tally.settle.Statement.{statement}
 use Rattle.job.proofs.tally.settle.Tie as tie

@@ -1,14 +1,14 @@
 -- The record at the pile's place is judged and added, which is what one record more means. What a
--- record gives is slight, so that the pile had room for it. Assumes nothing.
+-- record gives is bounded, so that the pile had room for it. Assumes nothing.
 use mathlib.Core.Path.{sym, ap, _∙_, subst}
 use borrow.Author.Needs.{needs}
 use Rattle.mass.specs.Figures.{AllSound}
 use Rattle.rules.proofs.RecordLaws.{Within, within-outcomeAt}
-use Rattle.job.specs.State.{State, after}
-use Rattle.job.specs.Tally.{ledgersOf, stateOf}
+use Rattle.job.specs.State.{State, after, ledgersOf}
+use Rattle.job.specs.Tally.{stateOf}
 use Rattle.job.specs.Pile.{stateWith, stateIn}
 use Rattle.job.proofs.TallyLaws.{Ready, ready}
-use Rattle.job.proofs.PileLaws.{slight-within}
+use Rattle.job.proofs.StateLaws.{boundedOutcome-within}
 use Rattle.job.proofs.tally.take_next.Statement.{statement}
 use Rattle.job.proofs.tally.take_next.Tie as tie
 
@@ -32,7 +32,7 @@ add-requires : tie.Need-add-requires
 unfolding stateIn stateWith stateOf
 add-requires c κs =
     let held = start c .pre .1 .1 in
-    (held .0, (is-ready (start c) .room, (held .1, slight-within _ (judged c))))
+    (held .0, (is-ready (start c) .room, (held .1, boundedOutcome-within _ (judged c))))
 
 make-room-requires : tie.Need-make-room-requires
 make-room-requires c κs = (

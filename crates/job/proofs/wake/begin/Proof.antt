@@ -1,7 +1,7 @@
 -- Each of the four ledgers is the empty one. Assumes nothing.
 use borrow.Author.Needs.{needs}
-use Rattle.job.specs.State.{fresh}
-use Rattle.job.specs.Tally.{ledgersOf, tallyOf}
+use Rattle.job.specs.State.{fresh, ledgersOf}
+use Rattle.job.specs.Tally.{tallyOf}
 use Rattle.job.proofs.wake.begin.Statement.{statement}
 use Rattle.job.proofs.wake.begin.Tie as tie
 
