@@ -23,11 +23,12 @@ use Rattle.rules.specs.Book.{lengthOk, trailerOk, unitOk, fuelOk, linesSound, t
 use Rattle.rules.specs.Record.{outcomeAt}
 use Rattle.rules.specs.Reader.{shown, sightAt}
 use Rattle.rules.specs.Right.{RightLines}
+use Rattle.rules.specs.Reason.{Reasons}
 use Rattle.rules.proofs.BookLaws.{opened-number}
 use Rattle.rules.proofs.NumberLaws.{opened-20, opened-21, opened-22, opened-23, opened-accepted}
 use Rattle.rules.proofs.RightLaws.{linesSound-rightLines}
 use Rattle.rules.proofs.ReaderLaws.{sightAt-shown}
-use Rattle.rules.proofs.ReasonLaws.{Reasons, reasons-outcomeAt}
+use Rattle.rules.proofs.ReasonLaws.{reasons-outcomeAt}
 use Rattle.job.specs.State.{State, fossilOf, biomassOf, ch4Of, n2oOf, asideOf, fresh, run, first, sumTo}
 use Rattle.job.specs.Checkpoint.{checkpointSize, doneIn, asideIn, indexIn, reasonIn, sound, decode, encode}
 use Rattle.job.specs.Reply.{reply}

@@ -4,7 +4,6 @@
 use Prim.Native.Nat.{ℕ, _+_, _<_, _≤_}
 use mathlib.Core.Bool.{Bool, true, false}
 use mathlib.Core.List.{List}
-use mathlib.Core.Logic.{_↔_}
 use mathlib.Core.Path.{_≡_, refl, sym, ap, ap₂, _∙_, subst}
 use native.Mathlib.Omega.{arith}
 use lib.Dec.{T, eqb, ltb, lit≤}
@@ -26,23 +25,9 @@ use Rattle.rules.specs.Book.{unitOk, fuelOk, linesSound, unitLines, fuel
 use Rattle.rules.specs.Method.{methodOf}
 use Rattle.rules.specs.Entry.{heatInUse, fuelEntry, hourEntry}
 use Rattle.rules.specs.Record.{lastReason, check, fuelForm, hourForm, fuelRanges, hourRange, fuelJudged, fuelOutcome, hourRead, hourJudged, hourOutcome, outcomeOf, outcomeAt}
-use Rattle.rules.specs.Reason.{FuelRecord, MonitorHour, Listed, Applies}
+use Rattle.rules.specs.Reason.{FuelRecord, MonitorHour, Listed, Applies, Reasons}
 use Rattle.rules.proofs.BookLaws.{accepted-facts}
 use Rattle.rules.proofs.ListedLaws.{if-listed, Once, once-linesOk}
-
--- ---- what is promised of the outcome o of a record l
-pub record Reasons (l : List ℕ) (units fuels : List (List ℕ)) (o : Outcome) : Type 0 where
-  -- It is set aside with reason k exactly when k applies and none before it does.
-  pub set-aside : (k : ℕ) → (o ≡ SetAside k)
-      ↔ (Applies l units fuels k × ((j : ℕ) → j < k → Applies l units fuels j → ⊥))
-  -- It counts exactly when none applies.
-  pub counts : ((e : Entry) × (o ≡ Counted e)) ↔ ((k : ℕ) → Applies l units fuels k → ⊥)
-  -- A fuel record that counts gives what it is worth by the listed lines of its unit and its fuel,
-  pub gives-fuel : (e : Entry) (u f : List ℕ) → o ≡ Counted e → FuelRecord l → Listed (unitNumber l) units u
-      → Listed (fuelNumber l) fuels f → e ≡ fuelEntry l u f
-  -- and an hour what its readings are worth.
-  pub gives-hour : (e : Entry) (r : Readings) → o ≡ Counted e → MonitorHour l
-      → hourOf (percentBits l) (flowBits l) ≡ Usable r → e ≡ hourEntry r
 
 clash : {t : Bool} → t ≡ true → t ≡ false → ⊥
 clash p q = subst T (sym p ∙ q) tt

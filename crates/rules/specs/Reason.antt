@@ -5,20 +5,27 @@
 --     Listed x ls a                  a is a line of ls and has the number x
 --     Lacks x ls                     no line of ls has it
 --     Applies l units fuels k        reason k applies; each case is a ground for it
+--     Reasons l units fuels o        o is the outcome that the reasons leave: the first that applies, or what
+--                                    the record is worth if none does
 --
 -- A ground that asks for the record's unit or fuel goes by its listed line. Numbers of listed lines rise,
 -- so that there is one such line at most.
 -- Laws: proofs/ReasonLaws.antt. Definitions only.
-use Prim.Native.Nat.{ℕ}
+use Prim.Native.Nat.{ℕ, _<_}
 use mathlib.Core.Bool.{false}
 use mathlib.Core.List.{List, List·Memᴰ}
+use mathlib.Core.Logic.{_↔_}
 use mathlib.Core.Path.{_≡_}
 use lib.Ieee.{Float}
-use Rattle.mass.specs.declared.hour.Hour.the-variants.{Unusable}
+use Rattle.mass.specs.declared.hour.Readings.{Readings}
+use Rattle.mass.specs.declared.hour.Hour.the-variants.{Usable, Unusable}
 use Rattle.mass.specs.Hour.{hourOf}
+use Rattle.rules.specs.declared.entry.Entry.{Entry}
+use Rattle.rules.specs.declared.record.Outcome.{Outcome}
+use Rattle.rules.specs.declared.record.Outcome.the-variants.{SetAside, Counted}
 use Rattle.rules.specs.Fields.{number, monitored, kind, unitNumber, fuelNumber, percentBits, flowBits}
 use Rattle.rules.specs.Method.{methodOf}
-use Rattle.rules.specs.Entry.{heatInUse}
+use Rattle.rules.specs.Entry.{heatInUse, fuelEntry, hourEntry}
 use Rattle.rules.specs.Record.{fuelForm, hourForm, fuelRanges, hourRange}
 
 abbrev pub FuelRecord : List ℕ → Type 0
@@ -59,3 +66,16 @@ pub data Applies (l : List ℕ) (units fuels : List (List ℕ)) : ℕ → Type 0
   -- 7: no heat in use.
   noHeat : (f : List ℕ) → FuelRecord l → Listed (fuelNumber l) fuels f → heatInUse l f ≡ 0
       → Applies l units fuels 7
+
+pub record Reasons (l : List ℕ) (units fuels : List (List ℕ)) (o : Outcome) : Type 0 where
+  -- It is set aside with reason k exactly when k applies and none before it does.
+  pub set-aside : (k : ℕ) → (o ≡ SetAside k)
+      ↔ (Applies l units fuels k × ((j : ℕ) → j < k → Applies l units fuels j → ⊥))
+  -- It counts exactly when none applies.
+  pub counts : ((e : Entry) × (o ≡ Counted e)) ↔ ((k : ℕ) → Applies l units fuels k → ⊥)
+  -- A fuel record that counts gives what it is worth by the listed lines of its unit and its fuel,
+  pub gives-fuel : (e : Entry) (u f : List ℕ) → o ≡ Counted e → FuelRecord l → Listed (unitNumber l) units u
+      → Listed (fuelNumber l) fuels f → e ≡ fuelEntry l u f
+  -- and an hour what its readings are worth.
+  pub gives-hour : (e : Entry) (r : Readings) → o ≡ Counted e → MonitorHour l
+      → hourOf (percentBits l) (flowBits l) ≡ Usable r → e ≡ hourEntry r
