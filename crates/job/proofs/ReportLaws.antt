@@ -15,19 +15,17 @@ use Rattle.mass.specs.Figures.{kgOf, mustReport}
 use Rattle.mass.proofs.FiguresLaws.{figuresOf-ledgers}
 use Rattle.rules.specs.declared.book.Head.{Head}
 use Rattle.rules.specs.Book.{Answer, refused, accepted, opened}
-use Rattle.rules.proofs.BookLaws.{accepted-facts}
 use Rattle.job.specs.declared.tally.Tally.{Tally}
 use Rattle.job.specs.State.{State, ledgersOf}
-use Rattle.job.specs.Bounds.{FitFor}
-use Rattle.job.specs.Checkpoint.{checkpointSize, sound, decode, encode}
+use Rattle.job.specs.Checkpoint.{checkpointSize, sound, decode}
 use Rattle.job.specs.Tally.{tallyIn, stateOf}
 use Rattle.job.specs.Reply.{reply, figureValues}
 use Rattle.job.specs.Report.{warming, figuresAt, replyAt, reportReply, leftReply}
 use Rattle.job.specs.Wake.{ifOpen, admittedFor, admitted}
 use Rattle.job.specs.Admission.{reportFor, leftFor}
-use Rattle.job.proofs.CheckpointLaws.{length-encode, decode-encode, sound-encode, stateOf-tallyIn}
+use Rattle.job.proofs.CheckpointLaws.{stateOf-tallyIn}
 use Rattle.job.proofs.ReplyLaws.{refused-0}
-use Rattle.job.proofs.WakeLaws.{ifOpen-refused, ifOpen-accepted, records-le}
+use Rattle.job.proofs.WakeLaws.{ifOpen-refused, ifOpen-accepted}
 use Rattle.job.proofs.WakeLaws.{admittedFor-30, admittedFor-31, admittedFor-sound, admitted-book, admitted-open}
 
 -- ---- a report and a count of an opened book
@@ -99,15 +97,6 @@ module _ (k c : List ℕ) where
 
       pub leftReply-at : sound h c ≡ true → leftReply k c ≡ reply 0 ((h .n - decode c .done) ∷ [])
       leftReply-at s = leftReply-open ∙ leftFor-sound h c (admittedFor-sound h c l s)
-
--- The checkpoint of any state that fits the book.
-pub leftReply-encode : (k : List ℕ) (h : Head) (s : State) → opened k ≡ accepted h → FitFor h s
-    → leftReply k (encode h s) ≡ reply 0 ((h .n - s .done) ∷ [])
-leftReply-encode k h s e fit =
-    let book = accepted-facts k h e in
-    let few = records-le k h e in
-    leftReply-at k (encode h s) e (length-encode h s) (sound-encode h s fit few (omega arith) (omega arith))
-    ∙ ap (λ (x : State). reply 0 ((h .n - x .done) ∷ [])) (decode-encode h s fit few)
 
 -- ---- at a state
 module _ (h : Head) (s : State) where

@@ -16,7 +16,7 @@ use Rattle.rules.specs.declared.reader.Seen.the-variants.{Refused, Missing, Rec
 use Rattle.rules.specs.declared.record.Outcome.{Outcome}
 use Rattle.rules.specs.Bytes.{bytesOf}
 use Rattle.rules.specs.Book.{faultNumber}
-use Rattle.rules.specs.Reader.{Sight, shown, sight}
+use Rattle.rules.specs.Reader.{shown, sight}
 use Rattle.rules.proofs.BytesLaws.{length-bytesOf}
 use Rattle.rules.proofs.ReaderLaws.{sight-refused, sight-missing, sight-record}
 use Rattle.text.specs.declared.frame.Asked.the-variants.{Call, Stop}
@@ -24,7 +24,7 @@ use Rattle.text.specs.declared.frame.Frame.{Frame}
 use Rattle.text.specs.declared.frame.Told.{Told}
 use Rattle.text.specs.declared.page.Page.{Page}
 use Rattle.text.specs.Page.{blank, extended, pageOf}
-use Rattle.text.specs.Frame.{headSize, answerSize, headOk, frameIn, askedIn, callAnswer, numberOf, same, figure, figuresPart, changePart, reportPart, reportAnswer, uncounted, toldOf, toldBytes, recordAnswer}
+use Rattle.text.specs.Frame.{headSize, headOk, frameIn, askedIn, callAnswer, numberOf, same, figure, figuresPart, changePart, reportPart, reportAnswer, uncounted, toldOf, toldBytes}
 use Rattle.text.proofs.PageLaws.{extended-blank}
 
 -- ---- the head of a call
@@ -54,6 +54,10 @@ long-append {s} {t} p q = record { long = length-append s t ∙ ap₂ _+_ (p .lo
 
 long-more : {s : List ℕ} {m : ℕ} (n v : ℕ) → Long s m → Long (s ++ bytesOf n v) (m + n)
 long-more n v p = long-append p (long-bytes n v)
+
+-- Every answer has so many bytes.
+abbrev answerSize : ℕ
+answerSize = 64
 
 pub length-callAnswer : (w : ℕ) → length (callAnswer w) ≡ answerSize
 unfolding callAnswer
@@ -91,10 +95,6 @@ length-toldBytes t =
     let front = long-more 4 0 (long-more 1 (t .ledger) (long-more 1 (t .method) numbers)) in
     let masses = long-more 8 (t .n2o .0) (long-more 8 (t .ch4 .0) (long-more 8 (t .co2 .0) front)) in
     long-more 32 0 masses .long
-
-pub length-recordAnswer : (x : Sight) → length (recordAnswer x) ≡ answerSize
-unfolding recordAnswer
-length-recordAnswer x = length-toldBytes (toldOf x)
 
 -- An answer fits on a page.
 pub answer-pageOf : {p q : Page} (t : List ℕ) → p ≡ blank → q ≡ extended p t → length t ≡ answerSize → q ≡ pageOf t

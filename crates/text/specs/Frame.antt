@@ -1,6 +1,6 @@
 -- Frames of `replay`: the 24 bytes that head a call, and the 64 that answer it. FORMAT, "Frames".
 --
---     headSize, answerSize         24 and 64
+--     headSize                     24
 --     longestPart                  the most bytes of a book, of a checkpoint and of a buffer
 --     callIn head .. outIn head    the fields of a head: call, argument, and the three lengths
 --     gapIn head, blankIn head     the bytes that no field names are 0
@@ -95,9 +95,6 @@ unfoldable pub askedIn : List ℕ → Asked
 askedIn head = choose (eqb (length head) headSize also headOk head) (Call (frameIn head)) Stop
 
 -- ---- the answer to a fresh start or a wake
-abbrev pub answerSize : ℕ
-answerSize = 64
-
 unfoldable pub callAnswer : ℕ → List ℕ
 callAnswer w = bytesOf 8 w ++ bytesOf 56 0
 
