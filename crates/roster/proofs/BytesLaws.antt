@@ -12,7 +12,8 @@ use borrow.Author.Tests.{eq-eqb, ne-eqb, eqb-true, ltb-true, ltb-false}
 use Rattle.choice.specs.Tests.{_also_}
 use Rattle.choice.proofs.Splitting.{if-test, if-eq}
 use Rattle.choice.proofs.TestsLaws.{choose-t, choose-f, also-t, also-f}
-use Rattle.roster.specs.Bytes.{span, rest, has, same}
+use Rattle.roster.specs.Bytes.{span, rest, same}
+use Rattle.roster.specs.Search.{has}
 
 -- The byte at i is next.
 pub drop-next : (xs : List ℕ) (i : ℕ) → i < length xs → drop i xs ≡ getD xs i 0 ∷ drop (i + 1) xs

@@ -9,7 +9,8 @@ use lib.Seq.{drop-nil, getD-drop, take-append-seam}
 use borrow.Author.Tests.{eq-eqb, ne-eqb}
 use Rattle.choice.proofs.Splitting.{if-test, if-lt, if-eq}
 use Rattle.choice.proofs.TestsLaws.{choose-t, choose-f}
-use Rattle.roster.specs.Bytes.{span, front, rest, has}
+use Rattle.roster.specs.Bytes.{span, front, rest}
+use Rattle.roster.specs.Search.{has}
 use Rattle.roster.specs.Lines.{newline, Split, led, split, linesOf, lineAt, after, through}
 use Rattle.roster.proofs.BytesLaws.{length-none, has→le, has→lt, rest-none, span-nil, span-suc, span-zero}
 

@@ -11,9 +11,10 @@ use Rattle.choice.proofs.Splitting.{if-test, if-lt}
 use Rattle.choice.proofs.TestsLaws.{choose-f}
 use Rattle.roster.specs.declared.plants.Part.the-variants.{Line}
 use Rattle.roster.specs.declared.plants.Listed.the-variants.{Plants}
-use Rattle.roster.specs.Bytes.{front, rest, has, same}
+use Rattle.roster.specs.Bytes.{front, rest, same}
 use Rattle.roster.specs.Lines.{newline, Split, linesOf, lineAt, after, through}
-use Rattle.roster.specs.Plants.{mostPlants, checkpointOf, partOf, indexFrom, verdictOn}
+use Rattle.roster.specs.Plants.{mostPlants, checkpointOf, indexFrom, verdictOn}
+use Rattle.roster.specs.Search.{has, partOf}
 use Rattle.roster.specs.Place.{kept, none, placeFrom, placed}
 use Rattle.roster.proofs.BytesLaws.{has→lt, has→le, same→eq}
 use Rattle.roster.proofs.LinesLaws.{split-ended, split-unended, lines-after, lines-through, lines-append, unended-after}

@@ -11,7 +11,8 @@ use borrow.Author.Tests.{lt-ltb, le-ltb}
 use Rattle.choice.specs.Tests.{_also_}
 use Rattle.choice.proofs.Splitting.{if-test}
 use Rattle.choice.proofs.TestsLaws.{worked-out, choose-t, choose-f, also-t, also-f}
-use Rattle.roster.specs.Bytes.{span, front, rest, has, same}
+use Rattle.roster.specs.Bytes.{span, front, rest, same}
+use Rattle.roster.specs.Search.{has}
 use Rattle.roster.specs.Lines.{newline, Split, linesOf}
 use Rattle.roster.specs.Plants.{space, visible, isWord, bookOf, checkpointOf, isPlant, indexFrom}
 use Rattle.roster.proofs.BytesLaws.{drop-next, has→lt, has→le, same→eq, same-refl}

@@ -11,7 +11,7 @@ use borrow.Author.Tests.{lt-ltb, ltb-true}
 use Rattle.choice.proofs.Splitting.{if-test, if-lt}
 use Rattle.roster.specs.declared.plants.Listed.{Listed}
 use Rattle.roster.specs.declared.plants.Listed.the-variants.{Plants, Wrong, Again, Many}
-use Rattle.roster.specs.Bytes.{has}
+use Rattle.roster.specs.Search.{has}
 use Rattle.roster.specs.Lines.{newline, split, linesOf, lineAt, after}
 use Rattle.roster.specs.Plants.{mostPlants, checkpointOf, isPlant, namedBefore, verdictFrom, verdictOn}
 use Rattle.roster.specs.Right.{RightUpTo}

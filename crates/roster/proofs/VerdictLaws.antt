@@ -12,7 +12,8 @@ use Rattle.choice.proofs.Splitting.{if-test}
 use Rattle.choice.proofs.TestsLaws.{choose-t, choose-f}
 use Rattle.roster.specs.declared.plants.Listed.{Listed}
 use Rattle.roster.specs.declared.plants.Listed.the-variants.{Plants, Wrong, Again, Many}
-use Rattle.roster.specs.Bytes.{front, rest, has}
+use Rattle.roster.specs.Bytes.{front, rest}
+use Rattle.roster.specs.Search.{has}
 use Rattle.roster.specs.Lines.{newline, Split, split, linesOf}
 use Rattle.roster.specs.Plants.{mostPlants, isPlant, namedBefore, verdictFrom}
 use Rattle.roster.proofs.BytesLaws.{length-none, has→lt, has→le}

@@ -3,15 +3,14 @@
 --     span b xs      how many bytes of xs stand before the first b; all, if there is none
 --     front b xs     the bytes before the first b; all, if there is none
 --     rest b xs      the bytes after the first b; nothing, if there is none
---     has b xs       there is a b in xs
 --     same xs ys     xs and ys are the same bytes
 --
 -- Laws: proofs/BytesLaws.antt. Definitions only.
 use Prim.Native.Nat.{ℕ, suc}
 use mathlib.Core.Bool.{Bool, true, false}
 use mathlib.Core.List.{List, [], _∷_}
-use lib.Dec.{ltb, eqb}
-use lib.ListN.{length, take, drop}
+use lib.Dec.{eqb}
+use lib.ListN.{take, drop}
 use Rattle.choice.specs.Tests.{_also_, choose}
 
 unfoldable pub span : ℕ → List ℕ → ℕ
@@ -23,9 +22,6 @@ front b xs = take (span b xs) xs
 
 unfoldable pub rest : ℕ → List ℕ → List ℕ
 rest b xs = drop (suc (span b xs)) xs
-
-unfoldable pub has : ℕ → List ℕ → Bool
-has b xs = ltb (span b xs) (length xs)
 
 unfoldable pub same : List ℕ → List ℕ → Bool
 same [] [] = true

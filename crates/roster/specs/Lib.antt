@@ -5,3 +5,4 @@ pub mod Lines
 pub mod Plants
 pub mod Right
 pub mod Place
+pub mod Search

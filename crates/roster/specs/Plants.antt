@@ -9,7 +9,6 @@
 --     bookOf l                   the BOOK that the line l names
 --     checkpointOf l             the CHECKPOINT that the line l names
 --     isPlant l                  l is a plant's line
---     partOf p l                 the whole line l, or its CHECKPOINT
 --     indexFrom j n w ws         where w first stands in ws, whose first is number j; n, if it doesn't
 --     namedBefore cs i l         a line before line i names the CHECKPOINT of l, cs being those of the whole list
 --     verdictFrom cs i ls u      what is told of the lines ls, the first of them line i of the list, and of the
@@ -23,8 +22,6 @@ use mathlib.Core.List.{List, [], _∷_, map}
 use lib.Dec.{ltb, leb}
 use lib.ListN.{length}
 use Rattle.choice.specs.Tests.{_also_, choose}
-use Rattle.roster.specs.declared.plants.Part.{Part}
-use Rattle.roster.specs.declared.plants.Part.the-variants.{Line, Checkpoint}
 use Rattle.roster.specs.declared.plants.Listed.{Listed}
 use Rattle.roster.specs.declared.plants.Listed.the-variants.{Plants, Wrong, Again, Many}
 use Rattle.roster.specs.Bytes.{front, rest, same}
@@ -59,10 +56,6 @@ checkpointOf l = rest space l
 -- is a plant's.
 unfoldable pub isPlant : List ℕ → Bool
 isPlant l = isWord longestBookPath (bookOf l) also isWord longestCheckpointPath (checkpointOf l)
-
-abbrev pub partOf : Part → List ℕ → List ℕ
-partOf Line l = l
-partOf Checkpoint l = checkpointOf l
 
 unfoldable pub indexFrom : ℕ → ℕ → List ℕ → List (List ℕ) → ℕ
 indexFrom j n w [] = n

@@ -2,7 +2,8 @@
 ghost use mathlib.Core.Path.{_≡_};
 ghost use Prim.Native.Nat.{_≤_};
 ghost use lib.ListN.{length};
-ghost use Rattle.roster.specs.Bytes.{span, front, rest, has, same};
+ghost use Rattle.roster.specs.Bytes.{span, front, rest, same};
+ghost use Rattle.roster.specs.Search.{has};
 
 // How many bytes stand before the first b: all, if there is none.
 fn find(bytes: &[u8], b: u8) -> usize

@@ -4,7 +4,8 @@ use crate::lines;
 ghost use mathlib.Core.Path.{_≡_};
 ghost use mathlib.Core.List.{map};
 ghost use Rattle.roster.specs.Lines.{linesOf};
-ghost use Rattle.roster.specs.Plants.{visible, isWord, bookOf, checkpointOf, isPlant, partOf, indexFrom, namedBefore, verdictOn};
+ghost use Rattle.roster.specs.Plants.{visible, isWord, bookOf, checkpointOf, isPlant, indexFrom, namedBefore, verdictOn};
+ghost use Rattle.roster.specs.Search.{partOf};
 
 pub enum Listed {
     // So many plants, one a line.

@@ -4,7 +4,7 @@ use mathlib.Core.Path.{ap}
 use lib.Dec.{ltb}
 use lib.ListN.{length}
 use borrow.Author.Needs.{needs}
-use Rattle.roster.specs.Bytes.{has}
+use Rattle.roster.specs.Search.{has}
 use Rattle.roster.proofs.bytes.has_byte.Statement.{statement}
 use Rattle.roster.proofs.bytes.has_byte.Tie as tie
 

@@ -7,9 +7,10 @@ use native.Mathlib.Omega.{arith}
 use lib.ListN.{length}
 use borrow.Author.Needs.{needs}
 use Rattle.choice.proofs.TestsLaws.{is}
-use Rattle.roster.specs.Bytes.{front, has, same}
+use Rattle.roster.specs.Bytes.{front, same}
 use Rattle.roster.specs.Lines.{newline, linesOf}
-use Rattle.roster.specs.Plants.{partOf, indexFrom}
+use Rattle.roster.specs.Plants.{indexFrom}
+use Rattle.roster.specs.Search.{has, partOf}
 use Rattle.roster.proofs.BytesLaws.{rest-lt}
 use Rattle.roster.proofs.PlantsLaws.{index-here, index-next, index-end}
 use Rattle.roster.proofs.plants.find.Statement.{statement}

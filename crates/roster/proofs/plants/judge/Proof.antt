@@ -7,7 +7,7 @@ use native.Mathlib.Omega.{arith}
 use lib.ListN.{length}
 use borrow.Author.Needs.{needs}
 use Rattle.choice.proofs.TestsLaws.{is, is-not, is-so}
-use Rattle.roster.specs.Bytes.{has}
+use Rattle.roster.specs.Search.{has}
 use Rattle.roster.specs.Lines.{newline, split, linesOf}
 use Rattle.roster.specs.Plants.{mostPlants, checkpointOf, isPlant, verdictFrom, verdictOn}
 use Rattle.roster.proofs.BytesLaws.{rest-lt}

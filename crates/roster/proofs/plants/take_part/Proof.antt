@@ -1,7 +1,7 @@
 -- Each case is that of the definition. Assumes nothing.
 use mathlib.Core.Path.{sym, _∙_}
 use borrow.Author.Needs.{needs}
-use Rattle.roster.specs.Plants.{partOf}
+use Rattle.roster.specs.Search.{partOf}
 use Rattle.roster.proofs.plants.take_part.Statement.{statement}
 use Rattle.roster.proofs.plants.take_part.Tie as tie
 
