@@ -6,13 +6,14 @@ use mass::ledger::Ledger;
 use mass::ledger::Ledgers;
 use mass::ledger::NG_PER_TONNE;
 use rules::book::Head;
+use rules::bytes::are_zero;
 use rules::bytes::read_word;
 use rules::record::LAST_REASON;
 ghost use mathlib.Core.Path.{_≡_};
 ghost use Prim.Native.Nat.{_+_, _≤_};
 ghost use lib.ListN.{length};
 ghost use Rattle.mass.specs.Figures.{AllSound};
-ghost use Rattle.job.specs.Checkpoint.{checkpointSize, blankIn, firstSound, ledgerSound, sound, encode};
+ghost use Rattle.job.specs.Checkpoint.{checkpointSize, firstSound, ledgerSound, sound, encode};
 ghost use Rattle.job.specs.Tally.{tallyIn, ledgerIn, stateOf};
 
 // How many bytes a checkpoint has.
@@ -50,8 +51,6 @@ const LENGTH: usize = 80;
 const YEAR: usize = 84;
 
 const BLANK: usize = 86;
-
-const BLANK_TAIL: usize = 94;
 
 // The most that a record gives to a ledger.
 const TONNES_EACH: u64 = 4_000_000;
@@ -108,8 +107,8 @@ pub(crate) fn is_sound(h: Head, c: &[u8]) -> bool
     let biomass = is_ledger_sound(c, BIOMASS);
     let ch4 = is_ledger_sound(c, CH4);
     let n2o = is_ledger_sound(c, N2O);
-    let gap = read_word(c, GAP, 3);
-    let blank = is_blank(c);
+    let gap = are_zero(c, GAP, FOSSIL);
+    let blank = are_zero(c, BLANK, SIZE);
     (length == h.length)
         & (year == h.year)
         & (done <= h.n)
@@ -119,15 +118,8 @@ pub(crate) fn is_sound(h: Head, c: &[u8]) -> bool
         & biomass
         & ch4
         & n2o
-        & (gap == 0)
+        & gap
         & blank
-}
-
-fn is_blank(c: &[u8]) -> bool
-    requires whole { ⌜ length (now c) ≡ checkpointSize ⌝ }
-    ensures blank { λ r. ⌜ r ≡ blankIn (now (c .entry)) ⌝ }
-{
-    (read_word(c, BLANK, 8) == 0) & (read_word(c, BLANK_TAIL, 2) == 0)
 }
 
 fn is_first_sound(c: &[u8]) -> bool

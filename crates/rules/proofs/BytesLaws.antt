@@ -4,8 +4,9 @@ use Prim.Native.Nat.{ℕ, suc, zero, _+_, _-_, _*_, _/_, _%_, _^_, _<_, _≤_, z
 use mathlib.Core.Bool.{true, false}
 use mathlib.Core.List.{List, [], _∷_}
 use mathlib.Core.Path.{_≡_, refl, ap, ap₂, sym, _∙_, subst}
-use native.Mathlib.Nat.{sub-zero, zero-add, one-mul, mul-assoc, mul-pos, mul-zero, div-one, div-div-eq-div-mul, pow-succ', pow-le-pow-right, lt-of-lt-of-le, le-of-suc-le-suc}
+use native.Mathlib.Nat.{sub-zero, zero-add, one-mul, mul-assoc, mul-zero, mul-le-mul-right, div-one, div-div-eq-div-mul, pow-succ', pow-le-pow-right, lt-of-lt-of-le, le-of-suc-le-suc}
 use native.Mathlib.Omega.{arith}
+use lib.Bits.{bitOr, or-add-and, and-le-l, and-le-r}
 use lib.Dec.{eqb, lit<}
 use lib.ListN.{length, take, drop}
 use lib.Pow.{pow-add}
@@ -165,34 +166,41 @@ pub word-width : (l : List ℕ) (k m n v : ℕ) → n ≡ m → (v ≡ word l k 
     (v ≡ word l k n) × (v < 256 ^ n)
 word-width l k m n v e h = subst (λ (w : ℕ). (v ≡ word l k w) × (v < 256 ^ w)) (sym e) h
 
-pow-above : (m : ℕ) → 0 < 256 ^ m
-pow-above m = pow-le-pow-right {n = 256} (lit< tt) {i = 0} {j = m} zero-le
-
 -- ---- zeros
--- A word is 0 exactly if both of its parts are.
-pub zeros-add : (l : List ℕ) (k m n : ℕ) → zeros l k (m + n) ≡ (zeros l k m also zeros l (k + m) n)
-zeros-add l k m n = parts (word l k m) (word l (k + m) n) (word l k (m + n)) (word-add l k m n)
-  where
-    parts : (low high whole : ℕ) → whole ≡ low + 256 ^ m * high → eqb whole 0 ≡ (eqb low 0 also eqb high 0)
-    parts low high whole sum =
-        if-eq low 0
-        (λ z. if-eq high 0
-        (λ y. eq-eqb whole 0 (omega (arith, vanishes y)) ∙ sym (also-t (eq-eqb low 0 z) (eq-eqb high 0 y)))
-        (λ y. ne-eqb whole 0 (λ w. omega (arith, stays y)) ∙ sym (also-t (eq-eqb low 0 z) (ne-eqb high 0 y))))
-        (λ z. ne-eqb whole 0 (λ w. z (omega arith)) ∙ sym (also-f (eqb high 0) (ne-eqb low 0 z)))
-      where
-        vanishes : high ≡ 0 → 256 ^ m * high ≡ 0
-        vanishes y = ap (λ (x : ℕ). 256 ^ m * x) y ∙ mul-zero (256 ^ m)
+-- A number that is 0 exactly if two others are is tested by testing both.
+both-zero : (low high whole : ℕ) → (low ≡ 0 → high ≡ 0 → whole ≡ 0) → (whole ≡ 0 → (low ≡ 0) × (high ≡ 0))
+    → eqb whole 0 ≡ (eqb low 0 also eqb high 0)
+both-zero low high whole join part =
+    if-eq low 0
+    (λ z. if-eq high 0
+    (λ y. eq-eqb whole 0 (join z y) ∙ sym (also-t (eq-eqb low 0 z) (eq-eqb high 0 y)))
+    (λ y. ne-eqb whole 0 (λ w. y (part w .1)) ∙ sym (also-t (eq-eqb low 0 z) (ne-eqb high 0 y))))
+    (λ z. ne-eqb whole 0 (λ w. z (part w .0)) ∙ sym (also-f (eqb high 0) (ne-eqb low 0 z)))
 
-        stays : (high ≡ 0 → ⊥) → 0 < 256 ^ m * high
-        stays y = mul-pos (pow-above m) (omega arith)
+-- The bits of two words together are 0 exactly if both words are.
+pub zero-or : (a b : ℕ) → eqb (bitOr a b) 0 ≡ (eqb a 0 also eqb b 0)
+zero-or a b =
+    let sum = or-add-and a b in
+    let low = and-le-l a b in
+    let high = and-le-r a b in
+    both-zero a b (bitOr a b) (λ z y. omega arith) (λ w. omega arith)
+
+-- A row of w bytes from k on is 0 exactly if both of its parts are: m bytes from k on, and n from j on.
+pub zeros-split : (l : List ℕ) (k m j n w : ℕ) → k + m ≡ j → m + n ≡ w
+    → zeros l k w ≡ (zeros l k m also zeros l j n)
+zeros-split l k m j n w p q =
+    let sum : word l k w ≡ word l k m + 256 ^ m * word l j n =
+    ap (word l k) (sym q) ∙ word-add l k m n ∙ ap (λ (i : ℕ). word l k m + 256 ^ m * word l i n) p in
+    let above : 1 ≤ 256 ^ m = pow-le-pow-right {n = 256} (lit< tt) {i = 0} {j = m} zero-le in
+    let rises = mul-le-mul-right (word l j n) above in
+    both-zero (word l k m) (word l j n) (word l k w)
+    (λ z y. let none = ap (λ (x : ℕ). 256 ^ m * x) y ∙ mul-zero (256 ^ m) in omega arith)
+    (λ v. omega arith)
 
 -- ---- a line's last bytes, four at a time
 module _ (l : List ℕ) (e b : ℕ) where
   fours : b + 4 ≤ e → zeros l b (e - b) ≡ (zeros l b 4 also zeros l (b + 4) (e - (b + 4)))
-  fours h =
-      let split : e - b ≡ 4 + (e - (b + 4)) = omega arith in
-      ap (zeros l b) split ∙ zeros-add l b 4 (e - (b + 4))
+  fours h = zeros-split l b 4 (b + 4) (e - (b + 4)) (e - b) refl (omega arith)
 
   pub blank-bad : {r : ℕ} → b + 4 ≤ e → r ≡ word l b 4 → (r ≡ 0 → ⊥) → zeros l b (e - b) ≡ false
   blank-bad h p z = fours h ∙ also-f (zeros l (b + 4) (e - (b + 4))) (ne-eqb (word l b 4) 0 (λ q. z (p ∙ q)))

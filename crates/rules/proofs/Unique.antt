@@ -8,6 +8,7 @@ use contract.Monad.{fact, factI, fact-use}
 use Rattle.rules.proofs.BookLaws.{answer-inj}
 use Rattle.rules.proofs.ReaderLaws.{sight-inj}
 use Rattle.rules.proofs.bytes.read_word.Reads as read-word
+use Rattle.rules.proofs.bytes.are_zero.Reads as are-zero
 use Rattle.rules.proofs.book.open.Reads as book-open
 use Rattle.rules.proofs.book.number_fault.Reads as number-fault
 use Rattle.rules.proofs.record.judge.Reads as judge
@@ -20,6 +21,9 @@ use Rattle.rules.proofs.reader.advance as advance
 
 pub read-word-unique : (κs : _) (a : _) (r s : _) (x y : _) → read-word.Post κs a r x → read-word.Post κs a s y → r ≡ s
 read-word-unique κs a r s x y p q = p .0 ∙ sym (q .0)
+
+pub are-zero-unique : (κs : _) (a : _) (r s : _) (x y : _) → are-zero.Post κs a r x → are-zero.Post κs a s y → r ≡ s
+are-zero-unique κs a r s x y p q = p ∙ sym q
 
 pub open-unique : (κs : _) (a : _) (r s : _) (x y : _) → book-open.Post κs a r x → book-open.Post κs a s y → r ≡ s
 open-unique κs a r s x y p q = answer-inj r s (p ∙ sym q)

@@ -52,7 +52,7 @@ abbrev pub monitored : List ℕ → Bool
 monitored u = eqb (unitFlags u % 2) 1
 
 abbrev pub unitGap : List ℕ → Bool
-unitGap u = eqb (byte u 3) 0
+unitGap u = zeros u 3 1
 
 abbrev pub rating : List ℕ → ℕ
 rating u = word u 4 4

@@ -1,6 +1,7 @@
 // Little-endian numbers and 32-byte lines in a slice of bytes.
 ghost use mathlib.Core.Path.{_≡_};
-ghost use Prim.Native.Nat.{_+_, _/_, _^_, _<_, _≤_};
+ghost use Prim.Native.Nat.{_+_, _-_, _/_, _^_, _<_, _≤_};
+ghost use lib.Dec.{eqb};
 ghost use lib.ListN.{length};
 ghost use Rattle.rules.specs.Bytes as spec;
 
@@ -71,6 +72,35 @@ fn widen(x: u8) -> u64
     x as u64
 }
 
+// Whether the bytes from `from` up to `to` are 0. Those that don't make eight are read first, then eight
+// at a time: of a row between constants these loads are left, and one test.
+pub fn are_zero(s: &[u8], from: usize, to: usize) -> bool
+    requires within { ⌜ (from ≤ to) × (to ≤ length (now s)) ⌝ }
+    ensures zeros { λ r. ⌜ r ≡ spec.zeros (now (s .entry)) from (to - from) ⌝ }
+{
+    let start = from + (to - from) % 8;
+    let mut seen = gather_few(s, from, start);
+    let mut at = start;
+    while at < to {
+        seen = seen | read_word(s, at, 8);
+        at += 8;
+    }
+    seen == 0
+}
+
+// A number that is 0 exactly if the bytes are, of which there are fewer than eight.
+fn gather_few(s: &[u8], from: usize, to: usize) -> u64
+    requires within { ⌜ (from ≤ to) × (to ≤ length (now s)) ⌝ }
+    requires few { ⌜ to - from < 8 ⌝ }
+    ensures zeros { λ r. ⌜ eqb r 0 ≡ spec.zeros (now (s .entry)) from (to - from) ⌝ }
+{
+    if to - from < 4 {
+        return read_word(s, from, to - from);
+    }
+    let at = from + 4;
+    read_word(s, from, 4) | read_word(s, at, to - at)
+}
+
 // Line k of a part that holds whole lines.
 pub(crate) fn take_line(s: &[u8], k: usize) -> &[u8]
     requires there { ⌜ k < length (now s) / 32 ⌝ }
@@ -79,24 +109,4 @@ pub(crate) fn take_line(s: &[u8], k: usize) -> &[u8]
     let a = 32 * k;
     let e = a + 32;
     &s[a..e]
-}
-
-// Whether the bytes of a line from 16 on are 0. Eight are read at a time.
-pub(crate) fn is_blank_from_16(l: &[u8]) -> bool
-    requires whole { ⌜ 32 ≤ length (now l) ⌝ }
-    ensures zeros { λ r. ⌜ r ≡ spec.zeros (now (l .entry)) 16 16 ⌝ }
-{
-    let low = read_word(l, 16, 8);
-    let high = read_word(l, 24, 8);
-    (low == 0) & (high == 0)
-}
-
-// The same from 20 on.
-pub(crate) fn is_blank_from_20(l: &[u8]) -> bool
-    requires whole { ⌜ 32 ≤ length (now l) ⌝ }
-    ensures zeros { λ r. ⌜ r ≡ spec.zeros (now (l .entry)) 20 12 ⌝ }
-{
-    let low = read_word(l, 20, 4);
-    let high = read_word(l, 24, 8);
-    (low == 0) & (high == 0)
 }

@@ -27,7 +27,7 @@ pub(crate) fn is_trailer_gap(l: &[u8]) -> bool
     requires whole { ⌜ 32 ≤ length (now l) ⌝ }
     ensures field { λ r. ⌜ r ≡ fields.trailerGap (now (l .entry)) ⌝ }
 {
-    bytes::read_word(l, 6, 2) == 0
+    bytes::are_zero(l, 6, 8)
 }
 
 pub(crate) fn unit_start(l: &[u8]) -> usize
@@ -55,7 +55,7 @@ pub(crate) fn is_trailer_blank(l: &[u8]) -> bool
     requires whole { ⌜ 32 ≤ length (now l) ⌝ }
     ensures field { λ r. ⌜ r ≡ fields.trailerBlank (now (l .entry)) ⌝ }
 {
-    (bytes::read_word(l, 18, 2) == 0) & bytes::is_blank_from_20(l)
+    bytes::are_zero(l, 18, 32)
 }
 
 // ---- a unit line or a fuel line
@@ -85,7 +85,7 @@ pub(crate) fn is_unit_gap(l: &[u8]) -> bool
     requires whole { ⌜ 32 ≤ length (now l) ⌝ }
     ensures field { λ r. ⌜ r ≡ fields.unitGap (now (l .entry)) ⌝ }
 {
-    l[3] == 0
+    bytes::are_zero(l, 3, 4)
 }
 
 pub(crate) fn rating(l: &[u8]) -> u64
@@ -210,6 +210,13 @@ pub(crate) fn carbon(l: &[u8]) -> u32
     bytes::read_word(l, 16, 4) as u32
 }
 
+pub(crate) fn is_fuel_record_blank(l: &[u8]) -> bool
+    requires whole { ⌜ 32 ≤ length (now l) ⌝ }
+    ensures field { λ r. ⌜ r ≡ fields.fuelRecordBlank (now (l .entry)) ⌝ }
+{
+    bytes::are_zero(l, 20, 32)
+}
+
 // ---- a monitor hour
 pub(crate) fn hour(l: &[u8]) -> u64
     requires whole { ⌜ 32 ≤ length (now l) ⌝ }
@@ -230,4 +237,11 @@ pub(crate) fn flow_bits(l: &[u8]) -> u32
     ensures field { λ r. ⌜ r ≡ fields.flowBits (now (l .entry)) ⌝ }
 {
     bytes::read_word(l, 12, 4) as u32
+}
+
+pub(crate) fn is_hour_blank(l: &[u8]) -> bool
+    requires whole { ⌜ 32 ≤ length (now l) ⌝ }
+    ensures field { λ r. ⌜ r ≡ fields.hourBlank (now (l .entry)) ⌝ }
+{
+    bytes::are_zero(l, 16, 32)
 }

@@ -33,11 +33,11 @@ is-ledger-sound-requires-3 c κs = search needs
 is-ledger-sound-requires-4 : tie.Need-is-ledger-sound-requires-4
 is-ledger-sound-requires-4 c κs = search needs
 
-read-word-requires-5 : tie.Need-read-word-requires-5
-read-word-requires-5 c κs = search needs
+are-zero-requires : tie.Need-are-zero-requires
+are-zero-requires c κs = search needs
 
-is-blank-requires : tie.Need-is-blank-requires
-is-blank-requires c κs = search needs
+are-zero-requires-2 : tie.Need-are-zero-requires-2
+are-zero-requires-2 c κs = search needs
 
 returns : tie.Need-returns
 unfolding sound
@@ -58,13 +58,12 @@ returns c =
     let year-read = year .read-word2 .ensures .0 in
     let done-read = done .read-word3 .ensures .0 in
     let aside-read = aside .read-word4 .ensures .0 in
-    let gap-read = gap .read-word5 .ensures .0 in
     let head = both (λ i. eqb (length-read i) (h .length)) (λ i. eqb (year-read i) (h .year)) in
     let place = both (both head (λ i. leb (done-read i) (h .n))) (λ i. leb (aside-read i) (done-read i)) in
     let records = both place (first .is-first-sound .ensures) in
     let co2 = both (both records (fossil .is-ledger-sound .ensures)) (biomass .is-ledger-sound2 .ensures) in
     let ledgers = both (both co2 (ch4 .is-ledger-sound3 .ensures)) (n2o .is-ledger-sound4 .ensures) in
-    both (both ledgers (λ i. eqb (gap-read i) 0)) (blank .is-blank .ensures)
+    both (both ledgers (gap .are-zero .ensures)) (blank .are-zero2 .ensures)
 
 pub is-sound-spec : {M : Type 1} → statement M
 is-sound-spec =
@@ -79,6 +78,6 @@ is-sound-spec =
     is-ledger-sound-requires-2
     is-ledger-sound-requires-3
     is-ledger-sound-requires-4
-    read-word-requires-5
-    is-blank-requires
+    are-zero-requires
+    are-zero-requires-2
     returns)
