@@ -4,8 +4,6 @@ import pathlib
 import re
 import subprocess
 
-SHARED = "files"  # What the programs share. No contract says what a call of the system read.
-
 Function = collections.namedtuple("Function", "crate file name lent result clauses")
 
 
@@ -58,8 +56,8 @@ def clauses_at(text, at):
 
 
 def public_functions(root, crate):
-    """Gives none of a program, nor of what programs share: no library calls them."""
-    if crate == SHARED or not is_library(root, crate):
+    """Gives none of a program, whose functions no other crate calls."""
+    if not is_library(root, crate):
         return
     source = root / "crates" / crate / "src"
     header = r'^( *)pub (?:extern "" )?fn (\w+)([^{]*?)(?=\s*\{|\s+(?:ghost|requires|ensures)\b)'

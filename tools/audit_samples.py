@@ -130,9 +130,14 @@ returns : tie.Need-returns
 unfolding woken take
 returns c = unfold woken in lemma-of c plus "?"
 === crates/files/src/lib.rt
-pub fn read_all(fd: i32, buf: &mut [u8]) -> usize {
+pub fn read_all(fd: i32, buf: &mut [u8]) -> usize
+    ensures within { λ r. ⌜ Within r (now (buf .exit)) ⌝ }
+{
     io::read_full(fd, buf)
 }
+=== crates/files/specs/Got.antt
+pub Within : ℕ → List ℕ → Type 0
+Within n xs = n ≤ length xs
 === crates/show/src/main.rt
 pub fn helper() {}
 fn main() {}
@@ -165,6 +170,13 @@ fn main() {}
 - Gives: `tailOf`.
 - Shuts out: 1. the head. 2. the whole.
 
+## files
+
+### `files::read_all`
+
+- Gives: `Within`.
+- Shuts out: 1. a byte more than there are. 2. two bytes more.
+
 ## Exceptions
 
 | function | rule | why |
@@ -172,6 +184,7 @@ fn main() {}
 | `job::pick` | ensures | Any answer is right. |
 | `job::pick` | entry | It promises nothing. |
 | `job::pick` | unique | Two answers may differ. |
+| `files::read_all` | unique | The system decides. |
 === run.sh
 #!/bin/sh
 # The parts run in this order: proofs first.
@@ -196,6 +209,7 @@ logic=not-proved
 
 LEDGER, WAKE = "crates/mass/src/ledger.rt", "crates/job/src/lib.rt"
 SPEC, PROOF = "crates/mass/specs/Ledger.antt", "crates/job/proofs/wake/Proof.antt"
+FILES = "crates/files/src/lib.rt"
 MASS_LAWS, JOB_LAWS = "crates/mass/proofs/Unique.antt", "crates/job/proofs/Unique.antt"
 PAGE, LOG = "docs/CONTRACTS.md", "target/log/mass.out"
 EDIT_LOG = "target/must-fail/mass/ledger_rest_is_the_carry/.log"
@@ -204,6 +218,9 @@ EDIT_LOG = "target/must-fail/mass/ledger_rest_is_the_carry/.log"
 EDITS = [
     ("ensures", LEDGER, "    ensures exact { λ r. ⌜ r ≡ added g x ⌝ }\n", "", "add has no ensures"),
     ("ensures", LEDGER, "ensures rest {", "ghost rest {", "Ledger::rest has no ensures"),
+    ("ensures", FILES, "    ensures within { λ r. ⌜ Within r (now (buf .exit)) ⌝ }\n", "",
+     "files::read_all has no ensures"),
+    ("entry", PAGE, "### `files::read_all`", "### read_all", "files::read_all has no entry"),
     ("entry", PAGE, "### `mass::ledger::Ledger::rest`", "### rest", "Ledger::rest has no entry"),
     ("entry", PAGE, "Gives: `added`", "Gives: `restOf`", "add has an entry whose Gives"),
     ("entry", SPEC, "unfoldable pub added", "added", "add has an entry whose Gives"),
@@ -219,6 +236,8 @@ EDITS = [
      "| `job::wake` | unique | So. |\n| `job::pick` | ensures", "needless"),
     ("unique", PAGE, "| `job::pick` | unique | Two answers may differ. |\n", "",
      "job::pick has no import"),
+    ("unique", PAGE, "| `files::read_all` | unique | The system decides. |\n", "",
+     "files::read_all has no import"),
     ("unique", MASS_LAWS, "ledger.add.Reads", "ledger.Ledger.add.Reads",
      "add has no import of its Reads"),
     ("unique", MASS_LAWS, "y → r ≡ s\nadd", "y → r ≡ r\nadd", "no law that ends in r ≡ s"),
@@ -230,6 +249,8 @@ EDITS = [
      "laws for 1"),
     ("requires", WAKE, "    ensures answer", "    requires any { ⌜ ⊤ ⌝ }\n    ensures answer",
      "wake has a requires"),
+    ("requires", FILES, "    ensures within", "    requires any { ⌜ ⊤ ⌝ }\n    ensures within",
+     "files::read_all has a requires"),
     ("requires", LEDGER, "requires few {", "requires {", "a requires with no name"),
     ("requires", LEDGER, "requires few {", "requires many {", "asks many, and its entry"),
     ("unfolding", PROOF, "unfolding woken", "unfolding plus woken", "unfolds plus"),
@@ -250,6 +271,8 @@ EDITS = [
     ("check", LOG, "functions=3", "functions=3 axioms=2", "is proved with axioms=2"),
     ("check", LOG, "functions=3", "functions=3 foreign=f", "is proved with foreign=f"),
     ("check", LOG, "logic=", "library libc: modules loaded=11\nlogic=", "is proved with libc"),
+    ("check", "target/log/files.out", "functions=1", "functions=1 axioms=2",
+     "is proved with axioms=2"),
     ("check", LOG, "logic=proved", "logic=not-proved", "no log of a proved check"),
     ("check", LOG, None, None, "no log of a proved check"),
     ("leftover", "run.sh", "proofs first", "TODO", "line 2 has a mark of open work"),

@@ -1,16 +1,16 @@
 // What the programs share: reading a descriptor to its end, writing bytes and pages, and a job that is
 // kept in files.
 //
-// No contract can say what a call of the operating system read or wrote. What is proved is that
-// every count lies within its buffer, and that each function ends if those calls return.
+// No contract can say what a call of the operating system read or wrote. What is proved beside what
+// the contracts say is that each function ends if those calls return.
 pub mod kept;
 pub mod save;
 
 use text::page::Page;
 ghost use mathlib.Core.Path.{_≡_};
-ghost use lib.ListN.{take};
 ghost use Rattle.io.specs.Counts.{Counts};
 ghost use Rattle.files.specs.Got.{Within};
+ghost use Rattle.files.specs.Put.{front, putEnd, putBytes};
 
 // What came of reading into a buffer. Either way its other bytes may have changed too.
 pub enum Got {
@@ -43,7 +43,9 @@ pub fn read_all(fd: i32, buf: &mut [u8]) -> Got
 }
 
 // Reads the file at path as read_all does; if it can't, standard error says why.
-pub fn read_file(path: &[u8], buf: &mut [u8]) -> Got {
+pub fn read_file(path: &[u8], buf: &mut [u8]) -> Got
+    ensures within { λ r. ⌜ Within r (now (buf .exit)) ⌝ }
+{
     let fd = os::open_read(path);
     if fd < 0 {
         os::fail(path);
@@ -53,7 +55,9 @@ pub fn read_file(path: &[u8], buf: &mut [u8]) -> Got {
 }
 
 // Reads an open file and closes it. A failure is told before the close, which may set errno.
-pub fn read_open(fd: i32, path: &[u8], buf: &mut [u8]) -> Got {
+pub fn read_open(fd: i32, path: &[u8], buf: &mut [u8]) -> Got
+    ensures within { λ r. ⌜ Within r (now (buf .exit)) ⌝ }
+{
     let got = read_all(fd, buf);
     match got {
         Got::Failed => os::fail(path),
@@ -76,7 +80,7 @@ fn read_some(fd: i32, room: &mut [u8]) -> Got
 
 // The first n of the bytes, or all of them where there are fewer.
 pub fn take_front(bytes: &[u8], n: usize) -> &[u8]
-    ensures front { λ r. ⌜ now r ≡ take n (now (bytes .entry)) ⌝ }
+    ensures front { λ r. ⌜ now r ≡ front n (now (bytes .entry)) ⌝ }
 {
     if bytes.len() < n {
         return bytes;
@@ -85,21 +89,18 @@ pub fn take_front(bytes: &[u8], n: usize) -> &[u8]
 }
 
 // Puts as much of src as fits behind the first n bytes of dst, and answers how many stand there now.
+// That these are within dst follows; it is stated for callers that go on with `&dst[..r]`.
 pub fn put(dst: &mut [u8], n: usize, src: &[u8]) -> usize
-    requires within { ⌜ Counts n (now dst) ⌝ }
     ensures within { λ r. ⌜ Counts r (now (dst .exit)) ⌝ }
+    ensures end { λ r. ⌜ r ≡ putEnd n (now (dst .entry)) (now (src .entry)) ⌝ }
+    ensures bytes { λ _. ⌜ now (dst .exit) ≡ putBytes n (now (dst .entry)) (now (src .entry)) ⌝ }
 {
-    let mut end = n;
-    let mut i = 0;
-    while i < src.len() {
-        if dst.len() <= end {
-            return end;
-        }
-        dst[end] = src[i];
-        end += 1;
-        i += 1;
+    let len = dst.len();
+    if len < n {
+        return len;
     }
-    end
+    let fitting = take_front(src, len - n);
+    n + bytes::copy(fitting, &mut dst[n..])
 }
 
 // Writes the bytes, and answers whether it could; if not, standard error says why.

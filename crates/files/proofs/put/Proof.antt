@@ -1,68 +1,59 @@
--- Each turn copies a byte and leaves one less, and a write keeps the length. Assumes nothing.
-use Prim.Native.Nat.{_-_, _≤_}
-use mathlib.Core.Path.{_≡_, refl}
+-- What fits is copied into the rest of the buffer. Assumes nothing.
 use native.Mathlib.Omega.{arith}
-use lib.ListN.{length, length-set}
 use borrow.Author.Needs.{needs}
 use Rattle.io.proofs.Counting.{counts}
+use Rattle.files.proofs.PutLaws.{putEnd-le, put-past, fitting-le, put-copied}
 use Rattle.files.proofs.put.Statement.{statement}
 use Rattle.files.proofs.put.Tie as tie
 
-abbrev Inv-loop : tie.InvT-loop
-Inv-loop dst₀ n src end₀ i₀ dst end i = (end ≤ length dst) × (length dst ≡ length dst₀)
+returns : tie.Need-returns
+returns c =
+    let a = c .before .before .before .args in
+    (counts _ _ (omega arith), put-past (a .n) (a .dst .now) (a .src .now) (c .if1 .taken))
 
-abbrev μ-loop : tie.MeasureT-loop
-μ-loop dst₀ n src end₀ i₀ dst end i = length src - i
+take-front-requires : tie.Need-take-front-requires
+take-front-requires c κs = search needs
 
-loop-holds : tie.Need-loop-holds Inv-loop μ-loop
-loop-holds c = (c .pre .0, refl)
+sub-copy : tie.Need-sub-copy
+sub-copy c = search needs
 
-same-length : tie.Need-same-length Inv-loop μ-loop
-same-length c = c .before .before .loop .inv .1
+part-copy-start : tie.Need-part-copy-start
+part-copy-start c = search needs
 
-returns : tie.Need-returns Inv-loop μ-loop
-returns c = counts _ _ (c .before .before .loop .inv .0)
+part-copy-end : tie.Need-part-copy-end
+part-copy-end c = search needs
 
-shared-slice-read-dst : tie.Need-shared-slice-read-dst Inv-loop μ-loop
-shared-slice-read-dst c = search needs
+copy-requires : tie.Need-copy-requires
+copy-requires c κs =
+    let a = c .before .before .before .before .before .args in
+    fitting-le (a .n) (a .dst .now) (a .src .now) (c .before .before .if1 .left) (c .before .take-front .ensures)
 
-slice-write-dst : tie.Need-slice-write-dst Inv-loop μ-loop
-slice-write-dst c = search needs
+add-result : tie.Need-add-result
+add-result c = search needs
 
-add-end : tie.Need-add-end Inv-loop μ-loop
-add-end c = search needs
+same-length : tie.Need-same-length
+same-length c = search needs
 
-add-i : tie.Need-add-i Inv-loop μ-loop
-add-i c = search needs
-
-loop-less : tie.Need-loop-less Inv-loop μ-loop
-loop-less c = search needs
-
-loop-again : tie.Need-loop-again Inv-loop μ-loop
-loop-again c =
-    let loop = c .before .before .before .loop in
-    (rw length-set (omega arith), rw length-set (loop .inv .1))
-
-same-length-2 : tie.Need-same-length-2 Inv-loop μ-loop
-same-length-2 c = c .before .loop .inv .1
-
-returns-2 : tie.Need-returns-2 Inv-loop μ-loop
-returns-2 c = counts _ _ (c .before .loop .inv .0)
+returns-2 : tie.Need-returns-2
+returns-2 c =
+    let copy = c .before .before in
+    let cut = copy .before .before in
+    let a = cut .before .before .before .before .args in
+    let behind = put-copied (a .n) (a .dst .now) (a .src .now) (cut .before .if1 .left) in
+    let put = behind (cut .take-front .ensures) (copy .copy .ensures .0) (copy .copy .ensures .1) in
+    let within = putEnd-le (a .n) (a .dst .now) (a .src .now) in
+    (counts _ _ (omega (arith, put .0, within, c .before .dst .given .1)), put)
 
 pub put-spec : {M : Type 1} → statement M
 put-spec =
     tie.close
     (tie.spec
-    Inv-loop
-    μ-loop
-    loop-holds
-    same-length
     returns
-    shared-slice-read-dst
-    slice-write-dst
-    add-end
-    add-i
-    loop-less
-    loop-again
-    same-length-2
+    take-front-requires
+    sub-copy
+    part-copy-start
+    part-copy-end
+    copy-requires
+    add-result
+    same-length
     returns-2)
