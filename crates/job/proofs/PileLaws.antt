@@ -5,7 +5,6 @@ use mathlib.Core.Path.{_≡_, sym, ap, _∙_, subst}
 use native.Mathlib.Nat.{add-zero}
 use native.Mathlib.Numerals.{add-one}
 use native.Mathlib.Omega.{arith}
-use lib.ListN.{length}
 use Rattle.mass.specs.Ledger.{tonne, tonnesEach, recordsForeseen}
 use Rattle.mass.specs.Figures.{AllSound}
 use Rattle.rules.specs.declared.book.Head.{Head}
@@ -159,19 +158,7 @@ sound-begun h k t o e f p =
     let few : h .n ≤ recordsForeseen = omega arith in
     sound-carried (stateOf t) (p ∙ e) (sound-ledgersOf h (stateOf t) f few)
 
--- ---- the parts of a book
--- The parts that hints are taken from are within the book.
-pub record Parts (h : Head) (k : List ℕ) : Type 0 where
-  pub end : 32 ≤ h .length
-  pub units : (h .units ≤ h .fuels) × (h .fuels ≤ length k)
-  pub fuels : (h .fuels ≤ h .length - 32) × (h .length - 32 ≤ length k)
-
-pub parts : (h : Head) (k : List ℕ) → opened k ≡ accepted h → Parts h k
-parts h k o =
-    let known = accepted-facts k h o in
-    record { end = omega arith; units = (omega arith, omega arith); fuels = (omega arith, omega arith) }
-
--- A place in a book fits 32 bits.
+-- ---- a place in a book fits 32 bits
 pub place-lt : (h : Head) (k : List ℕ) (m : ℕ) → opened k ≡ accepted h → m ≤ h .n → m < 4294967296
 place-lt h k m o l = let known = accepted-facts k h o in omega arith
 

@@ -2,7 +2,6 @@
 // Bad input is answered with a number; nothing here asks anything of its caller.
 mod admission;
 pub mod checkpoint;
-mod hints;
 mod put;
 pub mod reply;
 pub mod report;

@@ -1,5 +1,4 @@
 // A job's state as the code holds it, and how records are added to it.
-use crate::hints;
 use mass::Ng;
 use mass::Ug;
 use mass::ledger;
@@ -7,6 +6,7 @@ use mass::ledger::Ledgers;
 use rules::book::Head;
 use rules::entry::Destination;
 use rules::entry::Entry;
+use rules::hints;
 use rules::record;
 use rules::record::Outcome;
 ghost use mathlib.Core.Bool.{true};
@@ -59,9 +59,8 @@ pub(crate) fn go_through(book: &[u8], h: Head, t: Tally, n: u32) -> Tally
     if n == 0 {
         return t;
     }
-    let end = h.length - 32;
-    let units = hints::note(book, h.units, h.fuels);
-    let fuels = hints::note(book, h.fuels, end);
+    let units = hints::note_units(book, h);
+    let fuels = hints::note_fuels(book, h);
     let until = t.done + n;
     let mut place = t.done;
     let mut p = begin(t);

@@ -5,6 +5,7 @@ pub mod BookLaws
 pub mod NumberLaws
 pub mod RightLaws
 pub mod ListingLaws
+pub mod HintsLaws
 pub mod MethodLaws
 pub mod EntryLaws
 pub mod RecordLaws

@@ -11,6 +11,8 @@ use Rattle.rules.proofs.bytes.read_word.Reads as read-word
 use Rattle.rules.proofs.bytes.are_zero.Reads as are-zero
 use Rattle.rules.proofs.book.open.Reads as book-open
 use Rattle.rules.proofs.book.number_fault.Reads as number-fault
+use Rattle.rules.proofs.hints.note_units.Reads as note-units
+use Rattle.rules.proofs.hints.note_fuels.Reads as note-fuels
 use Rattle.rules.proofs.record.judge.Reads as judge
 use Rattle.rules.proofs.record.judge_by_hints.Reads as judge-by-hints
 use Rattle.rules.proofs.reader.look.Reads as look
@@ -31,6 +33,14 @@ open-unique κs a r s x y p q = answer-inj r s (p ∙ sym q)
 pub number-fault-unique : (κs : _) (a : _) (r s : _) (x y : _)
     → number-fault.Post κs a r x → number-fault.Post κs a s y → r ≡ s
 number-fault-unique κs a r s x y p q = p ∙ sym q
+
+pub note-units-unique : (κs : _) (a : _) (r s : _) (x y : _)
+    → note-units.Post κs a r x → note-units.Post κs a s y → r ≡ s
+note-units-unique κs a r s x y p q = p ∙ sym q
+
+pub note-fuels-unique : (κs : _) (a : _) (r s : _) (x y : _)
+    → note-fuels.Post κs a r x → note-fuels.Post κs a s y → r ≡ s
+note-fuels-unique κs a r s x y p q = p ∙ sym q
 
 pub judge-unique : (κs : _) (a : _) (r s : _) (x y : _) → judge.Post κs a r x → judge.Post κs a s y → r ≡ s
 judge-unique κs a r s x y p q = p ∙ sym q

@@ -8,4 +8,5 @@ pub mod Entry
 pub mod Record
 pub mod Reason
 pub mod Listing
+pub mod Hints
 pub mod Reader

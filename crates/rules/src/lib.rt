@@ -3,6 +3,7 @@ pub mod book;
 pub mod bytes;
 pub mod entry;
 mod field;
+pub mod hints;
 mod listing;
 mod method;
 pub mod reader;

@@ -10,21 +10,21 @@ use Rattle.job.specs.State.{State, run}
 use Rattle.job.specs.Tally.{tallyOf, stateOf}
 use Rattle.job.specs.Pile.{stateWith, stateIn, Low}
 use Rattle.job.proofs.TallyLaws.{next-run}
-use Rattle.job.proofs.PileLaws.{sound-begun, parts, place-lt, gone-none, gone-lt, gone-all, Turn, turn, run-suc}
+use Rattle.job.proofs.PileLaws.{sound-begun, place-lt, gone-none, gone-lt, gone-all, Turn, turn, run-suc}
 use Rattle.job.proofs.tally.go_through.Statement.{statement}
 use Rattle.job.proofs.tally.go_through.Tie as tie
 
 abbrev Inv-loop : tie.InvT-loop
-Inv-loop book h n end units fuels until place₀ p₀ place p =
+Inv-loop book h n units fuels until place₀ p₀ place p =
     (place ≡ p .tally .done) × (place₀ ≤ place) × (place ≤ until)
     × (stateIn p ≡ run h book (stateIn p₀) (place - place₀))
     × AllSound (p .tally .ledgers) × Low (p .more)
 
 abbrev μ-loop : tie.MeasureT-loop
-μ-loop book h n end units fuels until place₀ p₀ place p = until - place
+μ-loop book h n units fuels until place₀ p₀ place p = until - place
 
 abbrev start : tie.At-loop Inv-loop μ-loop → tie.Start Inv-loop μ-loop
-start c = c .before .before .before .before .before .before .before .before
+start c = c .before .before .before .before .before .before .before
 
 returns : tie.Need-returns Inv-loop μ-loop
 unfolding run
@@ -33,18 +33,15 @@ returns c =
     c .before .before .pre .1 .0
     ∙ ap (λ (i : ℕ). tallyOf (run (a .h) (a .book .now) (stateOf (a .t)) i)) (sym (c .if1 .taken))
 
-sub-end : tie.Need-sub-end Inv-loop μ-loop
-sub-end c = parts _ _ (c .before .before .before .pre .0) .end
+note-units-requires : tie.Need-note-units-requires Inv-loop μ-loop
+note-units-requires c κs = search needs
 
-note-requires : tie.Need-note-requires Inv-loop μ-loop
-note-requires c κs = parts _ _ (c .before .before .before .pre .0) .units
-
-note-requires-2 : tie.Need-note-requires-2 Inv-loop μ-loop
-note-requires-2 c κs = parts _ _ (c .before .before .before .before .pre .0) .fuels
+note-fuels-requires : tie.Need-note-fuels-requires Inv-loop μ-loop
+note-fuels-requires c κs = search needs
 
 add-until : tie.Need-add-until Inv-loop μ-loop
 add-until c =
-    let begun = c .before .before .before .before .before .before in
+    let begun = c .before .before .before .before .before in
     record { fits = place-lt _ _ _ (begun .pre .0) (begun .pre .1 .1 .1) }
 
 begin-requires : tie.Need-begin-requires Inv-loop μ-loop
@@ -53,7 +50,7 @@ begin-requires c κs = search needs
 loop-holds : tie.Need-loop-holds Inv-loop μ-loop
 unfolding run
 loop-holds c =
-    let begun = c .before .before .before .before .before .before .before in
+    let begun = c .before .before .before .before .before .before in
     let a = begun .args in
     let none = gone-none (a .t .done) (a .n) in (
       ap (λ (t : Tally). t .done) (sym (c .begin .ensures .0)),
@@ -132,9 +129,8 @@ go-through-spec =
     Inv-loop
     μ-loop
     returns
-    sub-end
-    note-requires
-    note-requires-2
+    note-units-requires
+    note-fuels-requires
     add-until
     begin-requires
     loop-holds
