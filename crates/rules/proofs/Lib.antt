@@ -1,5 +1,5 @@
--- The argument, from bytes to records: laws on plain values, what a reader owns, worked sums,
--- one whole book, uniqueness.
+-- The argument, from bytes to records: laws on plain values, walks by hand of functions over a
+-- reader, worked sums, one whole book, uniqueness.
 pub mod BytesLaws
 pub mod BookLaws
 pub mod NumberLaws
@@ -12,7 +12,9 @@ pub mod RecordLaws
 pub mod ListedLaws
 pub mod ReasonLaws
 pub mod ReaderLaws
+pub mod WalkLaws
 pub mod ReaderHeld
+pub mod ReaderRelay
 pub mod Cases
 pub mod Sample
 pub mod Unique

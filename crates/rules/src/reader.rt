@@ -25,6 +25,16 @@ pub struct Reader<'a> {
     pub next: usize,
 }
 
+// One step through the records of a book, from one place to the next.
+pub struct Step {
+    // What is seen at the place.
+    pub seen: Seen,
+    // The place after it.
+    pub next: usize,
+    // How many records are left from there on.
+    pub left: usize,
+}
+
 // Record i of a book.
 pub fn look(book: &[u8], i: usize) -> Seen
     ensures shown { λ r. ⌜ sight r ≡ sightAt (now (book .entry)) i ⌝ }
@@ -97,10 +107,18 @@ pub fn advance<'a>(r: Reader<'a>) -> Reader<'a>
     Reader { book: r.book, next }
 }
 
-// The first record of a book, seen through a reader. Its parameter is a plain slice, so that its
-// callers need no walk.
-pub fn look_first(book: &[u8]) -> Seen
-    ensures shown { λ r. ⌜ sight r ≡ sightAt (now (book .entry)) 0 ⌝ }
+// The step of a reader that stands at a place. Its parameters are plain, so that no caller is proved
+// by hand.
+pub fn take_step(book: &[u8], at: usize) -> Step
+    ensures shown { λ r. ⌜ sight (r .seen) ≡ sightAt (now (book .entry)) at ⌝ }
+    ensures after { λ r. ⌜ r .next ≡ placeAfter (now (book .entry)) at ⌝ }
+    ensures left { λ r. ⌜ r .left ≡ leftFrom (now (book .entry)) (r .next) ⌝ }
 {
-    look_next(Reader { book, next: 0 })
+    let r = Reader { book, next: at };
+    let after = advance(r);
+    Step {
+        seen: look_next(r),
+        next: after.next,
+        left: count_left(after),
+    }
 }
