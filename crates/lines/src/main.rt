@@ -2,6 +2,8 @@
 use files::Got;
 use libc::STDIN_FILENO;
 use libc::STDOUT_FILENO;
+use rules::reader;
+use text::lines;
 
 fn main() {
     // One byte more than the longest book, so that a longer one is seen and refused as such.
@@ -12,13 +14,18 @@ fn main() {
     }
 }
 
+// Each step sees a record and leads to the next one; a refused book has one step.
 fn print_lines(book: &[u8]) {
-    let n = text::lines::count(book);
-    let mut i = 0;
-    while i < n {
-        if !files::write_page(STDOUT_FILENO, text::lines::tell_record(book, i)) {
+    let mut at = 0;
+    loop {
+        let step = reader::take_step(book, at);
+        let seen = step.seen;
+        if !files::write_page(STDOUT_FILENO, lines::tell_record(at, seen)) {
             return;
         }
-        i += 1;
+        if step.left == 0 {
+            return;
+        }
+        at = step.next;
     }
 }

@@ -1,20 +1,24 @@
--- The sight of each answer and of each record, and that it is of one answer only. Assumes nothing.
-use Prim.Native.Nat.{ℕ, _<_}
+-- The sight of each answer and of each record, that it is of one answer only, and that a way through
+-- a book by steps ends. Assumes nothing.
+use Prim.Native.Nat.{ℕ, _-_, _<_}
 use mathlib.Core.List.{List}
-use mathlib.Core.Path.{_≡_, refl, sym, ap, _∙_}
-use lib.Dec.{eqb}
-use borrow.Author.Tests.{lt-ltb}
+use mathlib.Core.Path.{_≡_, refl, sym, ap, subst, _∙_}
+use native.Mathlib.Omega.{arith}
+use lib.Dec.{eqb, ltb}
+use lib.ListN.{length}
+use borrow.Author.Tests.{lt-ltb, ltb-false}
 use Rattle.choice.specs.Tests.{choose}
-use Rattle.choice.proofs.TestsLaws.{choose-t, worked-out}
+use Rattle.choice.proofs.TestsLaws.{choose-t, if-choose, worked-out}
 use Rattle.rules.specs.declared.book.Head.{Head}
 use Rattle.rules.specs.declared.book.Fault.{Fault}
 use Rattle.rules.specs.declared.book.Fault.the-variants.{Length, Trailer, Units, Fuels}
 use Rattle.rules.specs.declared.reader.Seen.{Seen}
 use Rattle.rules.specs.declared.reader.Seen.the-variants.{Refused, Missing, Record}
 use Rattle.rules.specs.declared.record.Outcome.{Outcome}
-use Rattle.rules.specs.Book.{Answer, accepted, opened, faultNumber}
+use Rattle.rules.specs.Book.{Answer, refused, accepted, opened, faultNumber}
 use Rattle.rules.specs.Record.{outcomeAt}
-use Rattle.rules.specs.Reader.{Sight, turnedAway, missing, shown, sightBy, sightAt, sight}
+use Rattle.rules.specs.Reader.{Sight, turnedAway, missing, shown, sightBy, sightAt, sight, leftBy, leftFrom, placeAfter}
+use Rattle.rules.proofs.BookLaws.{Accepted, accepted-facts}
 
 -- ---- the sight of each answer
 pub sight-refused : (x : Fault) → sight (Refused x) ≡ turnedAway (faultNumber x)
@@ -58,3 +62,23 @@ gave-sight (Record o) = refl
 
 pub sight-inj : (r s : Seen) → sight r ≡ sight s → r ≡ s
 sight-inj r s e = sym (gave-sight r) ∙ ap gave e ∙ gave-sight s
+
+-- ---- a way through a book by steps
+-- While a record is left after a step, the place has moved on: a book is longer than it has records.
+falls : (s : List ℕ) (i : ℕ) (a : Answer) → opened s ≡ a → 0 < leftBy a (placeAfter s i)
+    → leftBy a (placeAfter s i) < leftBy a i
+unfolding leftBy placeAfter
+falls s i (refused x) e = λ some. omega (arith, some)
+falls s i (accepted h) e =
+    let facts : Accepted s h = accepted-facts s h e in
+    if-choose (λ (j : ℕ). 0 < h .n - j → h .n - j < h .n - i) (ltb i (length s))
+    (λ _ some. omega (arith, some))
+    (λ past some.
+    omega (arith, some, ltb-false i (length s) past, facts .length-is, facts .n-is, facts .units-le, facts .fuels-le))
+
+pub leftFrom-placeAfter-lt : (s : List ℕ) (i : ℕ) {j k : ℕ} → j ≡ placeAfter s i → k ≡ leftFrom s j → (k ≡ 0 → ⊥)
+    → leftFrom s j < leftFrom s i
+unfolding leftFrom
+leftFrom-placeAfter-lt s i {j} after left some =
+    subst (λ (x : ℕ). 0 < leftFrom s x → leftFrom s x < leftFrom s i) (sym after) (falls s i (opened s) refl)
+    (omega (arith, left, some))

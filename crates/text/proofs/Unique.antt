@@ -7,7 +7,6 @@ use Rattle.text.proofs.progress.tell_progress.Reads as tell-progress
 use Rattle.text.proofs.progress.tell_turn.Reads as tell-turn
 use Rattle.text.proofs.progress.hint.Reads as hint
 use Rattle.text.proofs.plants.tell_fault.Reads as tell-fault
-use Rattle.text.proofs.lines.count.Reads as count
 use Rattle.text.proofs.lines.tell_record.Reads as tell-record
 use Rattle.text.proofs.budget.read.Reads as budget-read
 use Rattle.text.proofs.frame.read.Reads as frame-read
@@ -37,9 +36,6 @@ hint-unique κs a r s x y p q = p ∙ sym q
 pub tell-fault-unique : (κs : _) (a : _) (r s : _) (x y : _)
     → tell-fault.Post κs a r x → tell-fault.Post κs a s y → r ≡ s
 tell-fault-unique κs a r s x y p q = p ∙ sym q
-
-pub count-unique : (κs : _) (a : _) (r s : _) (x y : _) → count.Post κs a r x → count.Post κs a s y → r ≡ s
-count-unique κs a r s x y p q = p ∙ sym q
 
 pub tell-record-unique : (κs : _) (a : _) (r s : _) (x y : _)
     → tell-record.Post κs a r x → tell-record.Post κs a s y → r ≡ s

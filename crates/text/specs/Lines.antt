@@ -5,8 +5,6 @@
 --     massesText e     its masses
 --     outcomeText o    what became of a record
 --     lineText i x     what is printed of what was seen at index i
---     recordText k i   line i of what is printed of the bytes k
---     lineCount k      how many lines there are
 --
 -- Laws: proofs/LinesLaws.antt. Definitions only.
 use Prim.Native.Nat.{ℕ}
@@ -18,9 +16,7 @@ use Rattle.rules.specs.declared.entry.Destination.the-variants.{Fossil, Biomass
 use Rattle.rules.specs.declared.entry.Entry.{Entry}
 use Rattle.rules.specs.declared.record.Outcome.{Outcome}
 use Rattle.rules.specs.declared.record.Outcome.the-variants.{SetAside, Counted}
-use Rattle.rules.specs.Book.{opened}
-use Rattle.rules.specs.Reader.{Sight, turnedAway, missing, shown, sightAt}
-use Rattle.job.specs.Wake.{ifOpen}
+use Rattle.rules.specs.Reader.{Sight, turnedAway, missing, shown}
 use Rattle.text.specs.Words.{ascii, newline, field}
 use Rattle.text.specs.Report.{refusedText}
 
@@ -47,9 +43,3 @@ unfoldable pub lineText : ℕ → Sight → List ℕ
 lineText i (turnedAway n) = refusedText n []
 lineText i missing = []
 lineText i (shown o) = field (ascii "record ") i ++ outcomeText o ++ newline
-
-unfoldable pub recordText : List ℕ → ℕ → List ℕ
-recordText k i = lineText i (sightAt k i)
-
-unfoldable pub lineCount : List ℕ → ℕ
-lineCount k = ifOpen (opened k) (λ n. 1) (λ h. h .n)

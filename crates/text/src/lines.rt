@@ -3,11 +3,8 @@ use crate::number;
 use crate::page;
 use crate::page::Page;
 use crate::report;
-use rules::book;
-use rules::book::Opened;
 use rules::entry::Destination;
 use rules::entry::Entry;
-use rules::reader;
 use rules::reader::Seen;
 use rules::record::Outcome;
 ghost use mathlib.Core.List.{_++_};
@@ -15,23 +12,12 @@ ghost use mathlib.Core.Path.{_≡_};
 ghost use Rattle.rules.specs.Reader.{sight};
 ghost use Rattle.text.specs.Page.{extended, pageOf};
 ghost use Rattle.text.specs.Words.{ascii, newline, field};
-ghost use Rattle.text.specs.Lines.{methodText, ledgerText, massesText, outcomeText, lineText, recordText, lineCount};
+ghost use Rattle.text.specs.Lines.{methodText, ledgerText, massesText, outcomeText, lineText};
 
-// How many lines there are: one for each record, or the one of a refused book.
-pub fn count(book: &[u8]) -> usize
-    ensures count { λ r. ⌜ r ≡ lineCount (now (book .entry)) ⌝ }
+// The line of what is seen at place i of a book; none past the last record.
+pub fn tell_record(i: usize, seen: Seen) -> Page
+    ensures text { λ r. ⌜ r ≡ pageOf (lineText i (sight seen)) ⌝ }
 {
-    match book::open(book) {
-        Opened::Wrong(_) => 1,
-        Opened::Open(h) => h.n,
-    }
-}
-
-// Line i of a book; none past the last record.
-pub fn tell_record(book: &[u8], i: usize) -> Page
-    ensures text { λ r. ⌜ r ≡ pageOf (recordText (now (book .entry)) i) ⌝ }
-{
-    let seen = reader::look(book, i);
     say_seen(page::take_blank(), i, seen)
 }
 
