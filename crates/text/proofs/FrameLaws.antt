@@ -23,7 +23,8 @@ use Rattle.text.specs.declared.frame.Asked.the-variants.{Call, Stop}
 use Rattle.text.specs.declared.frame.Frame.{Frame}
 use Rattle.text.specs.declared.frame.Told.{Told}
 use Rattle.text.specs.declared.page.Page.{Page}
-use Rattle.text.specs.Page.{blank, extended, pageOf}
+use Rattle.text.specs.Page.{pageOf}
+use Rattle.text.specs.Extended.{blank, extended}
 use Rattle.text.specs.Frame.{headSize, headOk, frameIn, askedIn, callAnswer, numberOf, same, figure, figuresPart, changePart, reportPart, reportAnswer, uncounted, toldOf, toldBytes}
 use Rattle.text.proofs.PageLaws.{extended-blank}
 

@@ -10,7 +10,8 @@ use Rattle.choice.proofs.TestsLaws.{choose-t}
 use Rattle.rules.specs.Bytes.{bytesOf}
 use Rattle.rules.proofs.BytesLaws.{bytesOf-zero, bytesOf-suc}
 use Rattle.text.specs.declared.page.Page.{Page}
-use Rattle.text.specs.Page.{pageSize, blank, withByte, extended, pageOf}
+use Rattle.text.specs.Page.{pageSize, pageOf}
+use Rattle.text.specs.Extended.{blank, withByte, extended}
 
 -- ---- one text behind the other
 pub extended-append : (p : Page) (s t : List ℕ) → extended (extended p s) t ≡ extended p (s ++ t)

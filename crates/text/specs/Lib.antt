@@ -1,6 +1,7 @@
 -- What the programs print and parse, as bytes.
 pub mod Words
 pub mod Page
+pub mod Extended
 pub mod Report
 pub mod Progress
 pub mod Plants

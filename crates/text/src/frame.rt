@@ -14,7 +14,8 @@ ghost use mathlib.Core.Path.{_≡_};
 ghost use lib.ListN.{length};
 ghost use Rattle.choice.specs.Tests.{choose};
 ghost use Rattle.rules.specs.Reader.{shown, sight};
-ghost use Rattle.text.specs.Page.{extended, pageOf};
+ghost use Rattle.text.specs.Page.{pageOf};
+ghost use Rattle.text.specs.Extended.{extended};
 ghost use Rattle.text.specs.Frame.{argumentOk, headOk, frameIn, askedIn, callAnswer, same, figuresPart, changePart, reportPart, reportAnswer, ledgerNumber, uncounted, toldOf, toldBytes, recordAnswer};
 
 pub struct Frame {

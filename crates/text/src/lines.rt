@@ -10,7 +10,8 @@ use rules::record::Outcome;
 ghost use mathlib.Core.List.{_++_};
 ghost use mathlib.Core.Path.{_≡_};
 ghost use Rattle.rules.specs.Reader.{sight};
-ghost use Rattle.text.specs.Page.{extended, pageOf};
+ghost use Rattle.text.specs.Page.{pageOf};
+ghost use Rattle.text.specs.Extended.{extended};
 ghost use Rattle.text.specs.Words.{ascii, newline, field};
 ghost use Rattle.text.specs.Lines.{methodText, ledgerText, massesText, outcomeText, lineText};
 

@@ -4,7 +4,7 @@ use crate::page::Page;
 ghost use mathlib.Core.List.{_++_};
 ghost use mathlib.Core.Path.{_≡_};
 ghost use Rattle.rules.specs.Bytes.{bytesOf};
-ghost use Rattle.text.specs.Page.{extended};
+ghost use Rattle.text.specs.Extended.{extended};
 ghost use Rattle.text.specs.Words as words;
 
 pub(crate) fn say_decimal(p: Page, n: u64) -> Page

@@ -1,6 +1,6 @@
 // A page: room for what a program writes at once.
 ghost use mathlib.Core.Path.{_≡_};
-ghost use Rattle.text.specs.Page as pages;
+ghost use Rattle.text.specs.Extended as spec;
 
 pub(crate) const SIZE: usize = 512;
 
@@ -11,7 +11,7 @@ pub struct Page {
 }
 
 pub(crate) fn take_blank() -> Page
-    ensures blank { λ r. ⌜ r ≡ pages.blank ⌝ }
+    ensures blank { λ r. ⌜ r ≡ spec.blank ⌝ }
 {
     Page {
         bytes: [0u8; 512],
@@ -20,7 +20,7 @@ pub(crate) fn take_blank() -> Page
 }
 
 pub(crate) fn say_byte(p: Page, b: u8) -> Page
-    ensures said { λ r. ⌜ r ≡ pages.withByte p b ⌝ }
+    ensures said { λ r. ⌜ r ≡ spec.withByte p b ⌝ }
 {
     let at = p.len;
     if at < SIZE {
@@ -33,7 +33,7 @@ pub(crate) fn say_byte(p: Page, b: u8) -> Page
 }
 
 pub(crate) fn say(p: Page, word: &[u8]) -> Page
-    ensures said { λ r. ⌜ r ≡ pages.extended p (now (word .entry)) ⌝ }
+    ensures said { λ r. ⌜ r ≡ spec.extended p (now (word .entry)) ⌝ }
 {
     let mut next = p;
     let mut i = 0;

@@ -7,7 +7,7 @@ ghost use Prim.Native.Nat.{_+_};
 ghost use mathlib.Core.List.{_++_};
 ghost use mathlib.Core.Path.{_≡_};
 ghost use Rattle.text.specs.Page.{pageOf};
-ghost use Rattle.text.specs.Page as pages;
+ghost use Rattle.text.specs.Extended.{extended};
 ghost use Rattle.text.specs.Words as words;
 ghost use Rattle.text.specs.Plants.{faultText};
 
@@ -19,7 +19,7 @@ pub fn tell_fault(x: Listed) -> Page
 }
 
 fn say_fault(p: Page, x: Listed) -> Page
-    ensures said { λ r. ⌜ r ≡ pages.extended p (faultText x) ⌝ }
+    ensures said { λ r. ⌜ r ≡ extended p (faultText x) ⌝ }
 {
     match x {
         Listed::Plants(_) => p,
@@ -31,7 +31,7 @@ fn say_fault(p: Page, x: Listed) -> Page
 
 // Editors count lines from 1.
 fn say_of_line(p: Page, i: u8, what: &[u8]) -> Page
-    ensures said { λ r. ⌜ r ≡ pages.extended p (words.field (words.ascii "line ") (i + 1) ++ now (what .entry)) ⌝ }
+    ensures said { λ r. ⌜ r ≡ extended p (words.field (words.ascii "line ") (i + 1) ++ now (what .entry)) ⌝ }
 {
     let q = number::say_field(p, b"line ", i as u64 + 1);
     page::say(q, what)

@@ -13,7 +13,8 @@ ghost use Prim.Native.Nat.{_≤_};
 ghost use lib.ListN.{length};
 ghost use Rattle.rules.specs.Book.{opened, accepted};
 ghost use Rattle.job.specs.Reply.{refusalNumber, reported};
-ghost use Rattle.text.specs.Page.{extended, pageOf};
+ghost use Rattle.text.specs.Page.{pageOf};
+ghost use Rattle.text.specs.Extended.{extended};
 ghost use Rattle.text.specs.Progress.{movedText, progressBy, progressWith, progressText, turnText, hintText};
 
 // How far a wake went that saved a checkpoint and, once the book is finished, its report.

@@ -16,7 +16,8 @@ ghost use Prim.Native.Nat.{_≤_};
 ghost use Rattle.choice.specs.Tests.{choose};
 ghost use Rattle.rules.specs.Book.{faultNumber, opened, accepted};
 ghost use Rattle.job.specs.Reply.{refusalNumber, figureValues, reported};
-ghost use Rattle.text.specs.Page.{extended, pageOf};
+ghost use Rattle.text.specs.Page.{pageOf};
+ghost use Rattle.text.specs.Extended.{extended};
 ghost use Rattle.text.specs.Report.{refusedText, decisionText, figuresText, replyText, annualText};
 
 // What `annual` prints of any bytes.

@@ -3,7 +3,7 @@ use Prim.Native.Nat.{ℕ}
 use mathlib.Core.Path.{ap, _∙_}
 use borrow.Author.Needs.{needs}
 use Rattle.rules.specs.Bytes.{bytesOf}
-use Rattle.text.specs.Page.{extended}
+use Rattle.text.specs.Extended.{extended}
 use Rattle.text.specs.Frame.{changePart}
 use Rattle.text.proofs.PageLaws.{extended-more}
 use Rattle.text.proofs.frame.say_change.Statement.{statement}

@@ -3,7 +3,7 @@ use mathlib.Core.Path.{refl, sym, ap, _∙_}
 use borrow.Author.Needs.{needs}
 use borrow.Author.Tests.{eq-eqb, ne-eqb}
 use Rattle.choice.proofs.TestsLaws.{choose-t, choose-f}
-use Rattle.text.specs.Page.{extended}
+use Rattle.text.specs.Extended.{extended}
 use Rattle.text.specs.Frame.{reportPart}
 use Rattle.text.proofs.frame.say_part.Statement.{statement}
 use Rattle.text.proofs.frame.say_part.Tie as tie

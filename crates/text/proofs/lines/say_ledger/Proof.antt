@@ -1,7 +1,7 @@
 -- Each ledger has its word. Assumes nothing.
 use mathlib.Core.Path.{sym, ap, _∙_}
 use borrow.Author.Needs.{needs}
-use Rattle.text.specs.Page.{extended}
+use Rattle.text.specs.Extended.{extended}
 use Rattle.text.specs.Lines.{ledgerText}
 use Rattle.text.proofs.lines.say_ledger.Statement.{statement}
 use Rattle.text.proofs.lines.say_ledger.Tie as tie

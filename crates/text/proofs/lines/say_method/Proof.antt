@@ -1,7 +1,7 @@
 -- Method 0 is an hour. Assumes nothing.
 use mathlib.Core.Path.{sym, ap, _∙_}
 use borrow.Author.Needs.{needs}
-use Rattle.text.specs.Page.{extended}
+use Rattle.text.specs.Extended.{extended}
 use Rattle.text.proofs.LinesLaws.{methodText-hour, methodText-fuel}
 use Rattle.text.proofs.lines.say_method.Statement.{statement}
 use Rattle.text.proofs.lines.say_method.Tie as tie

@@ -1,7 +1,7 @@
 -- Each outcome has its words. Assumes nothing.
 use mathlib.Core.Path.{sym, ap, _∙_}
 use borrow.Author.Needs.{needs}
-use Rattle.text.specs.Page.{extended}
+use Rattle.text.specs.Extended.{extended}
 use Rattle.text.specs.Lines.{outcomeText}
 use Rattle.text.proofs.LinesLaws.{outcomeText-setAside}
 use Rattle.text.proofs.lines.say_outcome.Statement.{statement}

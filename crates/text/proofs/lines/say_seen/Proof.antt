@@ -1,7 +1,7 @@
 -- Each answer has its line, and a record that is not there has none. Assumes nothing.
 use mathlib.Core.Path.{sym, ap, _∙_}
 use borrow.Author.Needs.{needs}
-use Rattle.text.specs.Page.{extended}
+use Rattle.text.specs.Extended.{extended}
 use Rattle.text.proofs.LinesLaws.{lineText-refused, lineText-missing, lineText-record}
 use Rattle.text.proofs.lines.say_seen.Statement.{statement}
 use Rattle.text.proofs.lines.say_seen.Tie as tie

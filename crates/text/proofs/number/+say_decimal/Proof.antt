@@ -6,7 +6,7 @@ use native.Mathlib.Omega.{arith}
 use borrow.Author.Needs.{needs}
 use borrow.Fn.Kinds.{In}
 use borrow.Fn.PlainCycle.{Measures, is, falls, and}
-use Rattle.text.specs.Page.{extended}
+use Rattle.text.specs.Extended.{extended}
 use Rattle.text.specs.Words.{decimal}
 use Rattle.text.proofs.PageLaws.{extended-one, extended-last}
 use Rattle.text.proofs.WordsLaws.{decimal-few, decimal-many}

@@ -6,7 +6,7 @@ use native.Mathlib.Nat.{sub-zero}
 use native.Mathlib.Omega.{arith}
 use borrow.Author.Needs.{needs}
 use Rattle.rules.specs.Bytes.{bytesOf}
-use Rattle.text.specs.Page.{extended}
+use Rattle.text.specs.Extended.{extended}
 use Rattle.text.proofs.PageLaws.{extended-bytes-next, extended-bytes-last}
 use Rattle.text.proofs.number.say_bytes.Statement.{statement}
 use Rattle.text.proofs.number.say_bytes.Tie as tie

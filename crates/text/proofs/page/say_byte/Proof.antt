@@ -3,7 +3,7 @@ use mathlib.Core.Path.{refl, sym}
 use borrow.Author.Needs.{needs}
 use borrow.Author.Tests.{lt-ltb, le-ltb}
 use Rattle.choice.proofs.TestsLaws.{choose-t, choose-f}
-use Rattle.text.specs.Page.{withByte}
+use Rattle.text.specs.Extended.{withByte}
 use Rattle.text.proofs.page.say_byte.Statement.{statement}
 use Rattle.text.proofs.page.say_byte.Tie as tie
 

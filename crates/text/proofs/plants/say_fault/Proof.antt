@@ -1,7 +1,7 @@
 -- Each fault has its words. Assumes nothing.
 use mathlib.Core.Path.{ap, sym, _∙_}
 use borrow.Author.Needs.{needs}
-use Rattle.text.specs.Page.{extended}
+use Rattle.text.specs.Extended.{extended}
 use Rattle.text.proofs.PageLaws.{extended-none}
 use Rattle.text.proofs.PlantsLaws.{faultText-plants, faultText-wrong, faultText-again, faultText-many}
 use Rattle.text.proofs.plants.say_fault.Statement.{statement}

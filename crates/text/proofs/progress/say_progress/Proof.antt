@@ -1,7 +1,7 @@
 -- Each answer to a report says how far the job is. Assumes nothing.
 use mathlib.Core.Path.{sym, ap, _∙_}
 use borrow.Author.Needs.{needs}
-use Rattle.text.specs.Page.{extended}
+use Rattle.text.specs.Extended.{extended}
 use Rattle.text.proofs.PageLaws.{extended-more}
 use Rattle.text.proofs.ProgressLaws.{progressBy-notReported, progressBy-unfinished, progressBy-recordAside, progressBy-given}
 use Rattle.text.proofs.progress.say_progress.Statement.{statement}

@@ -1,7 +1,7 @@
 -- 41 goes with the record and its reason. Assumes nothing.
 use mathlib.Core.Path.{sym, ap, _∙_}
 use borrow.Author.Needs.{needs}
-use Rattle.text.specs.Page.{extended}
+use Rattle.text.specs.Extended.{extended}
 use Rattle.text.proofs.PageLaws.{extended-more}
 use Rattle.text.proofs.ReportLaws.{refusedText-aside}
 use Rattle.text.proofs.report.say_aside.Statement.{statement}

@@ -1,7 +1,7 @@
 -- The decision as a number is 1 or 0. Assumes nothing.
 use mathlib.Core.Path.{sym, ap, _∙_}
 use borrow.Author.Needs.{needs}
-use Rattle.text.specs.Page.{extended}
+use Rattle.text.specs.Extended.{extended}
 use Rattle.text.proofs.ReportLaws.{decisionText-must, decisionText-need-not}
 use Rattle.text.proofs.report.say_decision.Statement.{statement}
 use Rattle.text.proofs.report.say_decision.Tie as tie

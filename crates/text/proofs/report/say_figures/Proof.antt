@@ -1,7 +1,7 @@
 -- One line behind the other. Assumes nothing.
 use mathlib.Core.Path.{sym, ap, _∙_}
 use borrow.Author.Needs.{needs}
-use Rattle.text.specs.Page.{extended}
+use Rattle.text.specs.Extended.{extended}
 use Rattle.text.proofs.PageLaws.{extended-more}
 use Rattle.text.proofs.ReportLaws.{figuresText-six}
 use Rattle.text.proofs.report.say_figures.Statement.{statement}

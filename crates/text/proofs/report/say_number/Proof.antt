@@ -1,7 +1,7 @@
 -- A number other than 41 stands alone on its line. Assumes nothing.
 use mathlib.Core.Path.{sym, ap, _∙_}
 use borrow.Author.Needs.{needs}
-use Rattle.text.specs.Page.{extended}
+use Rattle.text.specs.Extended.{extended}
 use Rattle.text.proofs.ReportLaws.{refusedText-alone}
 use Rattle.text.proofs.report.say_number.Statement.{statement}
 use Rattle.text.proofs.report.say_number.Tie as tie

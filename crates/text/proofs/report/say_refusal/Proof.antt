@@ -4,7 +4,7 @@ use mathlib.Core.List.{[]}
 use mathlib.Core.Path.{sym, ap, subst, _∙_}
 use native.Mathlib.Nat.{le-of-lt}
 use borrow.Author.Needs.{needs}
-use Rattle.text.specs.Page.{extended}
+use Rattle.text.specs.Extended.{extended}
 use Rattle.text.specs.Report.{refusedText}
 use Rattle.text.proofs.ReportLaws.{refusalNumber-lt}
 use Rattle.text.proofs.report.say_refusal.Statement.{statement}

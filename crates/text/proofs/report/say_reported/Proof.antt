@@ -1,7 +1,7 @@
 -- Each answer has its text. Assumes nothing.
 use mathlib.Core.Path.{sym, ap, _∙_}
 use borrow.Author.Needs.{needs}
-use Rattle.text.specs.Page.{extended}
+use Rattle.text.specs.Extended.{extended}
 use Rattle.text.proofs.ReportLaws.{replyText-notReported, replyText-unfinished, replyText-recordAside, replyText-given}
 use Rattle.text.proofs.report.say_reported.Statement.{statement}
 use Rattle.text.proofs.report.say_reported.Tie as tie
