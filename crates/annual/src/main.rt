@@ -5,8 +5,7 @@ use libc::STDOUT_FILENO;
 use text::report;
 
 fn main() {
-    // One byte more than the longest book, so that a longer one is seen and refused as such.
-    let mut book = [0u8; 65537];
+    let mut book = [0u8; files::BOOK_ROOM];
     match files::read_all(STDIN_FILENO, &mut book) {
         Got::Failed => os::fail(b"standard input"),
         Got::Bytes(n) => print_year(files::take_front(&book, n)),

@@ -1,16 +1,24 @@
 // What the programs share: reading a descriptor to its end, writing bytes and pages, and a job that is
 // kept in files.
 //
-// No contract can say what a call of the operating system read or wrote. What is proved beside what
-// the contracts say is that each function ends if those calls return.
+// No contract can say what a call of the operating system read or wrote. Beside what it states, each
+// function is proved to end if those calls return.
 pub mod kept;
 pub mod save;
 
+use job::checkpoint;
+use rules::book::LONGEST_BOOK;
 use text::page::Page;
 ghost use mathlib.Core.Path.{_≡_};
 ghost use Rattle.io.specs.Counts.{Counts};
 ghost use Rattle.files.specs.Got.{Within};
 ghost use Rattle.files.specs.Put.{front, putEnd, putBytes};
+
+// One byte more than the longest book, so that a longer one is seen and refused as such.
+pub const BOOK_ROOM: usize = LONGEST_BOOK + 1;
+
+// One byte more than a checkpoint, likewise.
+pub const CHECKPOINT_ROOM: usize = checkpoint::SIZE + 1;
 
 // What came of reading into a buffer. Either way its other bytes may have changed too.
 pub enum Got {

@@ -4,7 +4,14 @@
 // place of the file's own; then the folder is synced, so that the change itself lasts. Two saves at
 // once use two names, and the later change stands. The file is its owner's alone, as mkstemp makes
 // it. A save that is killed may leave its fresh name behind, and nothing reads that.
+use libc::PATH_MAX;
 ghost use Rattle.io.specs.Counts.{Counts};
+
+// The most bytes of a path.
+pub const LONGEST_PATH: usize = PATH_MAX - 1;
+
+// The most bytes of a path at which can be saved: the fresh name has 7 more.
+pub const LONGEST_SAVED: usize = LONGEST_PATH - 7;
 
 // Saves the bytes, which come in two parts, at path, and answers whether it could; if not, standard
 // error says why.
@@ -15,7 +22,7 @@ pub fn save(path: &[u8], front: &[u8], back: &[u8]) -> bool {
         os::fail(path);
         return false;
     }
-    let mut room = [0u8; 4095];
+    let mut room = [0u8; LONGEST_PATH];
     let n = name_beside(path, &mut room);
     let is_saved = replace(path, &mut room[..n], front, back, folder);
     libc::close(folder);

@@ -19,10 +19,12 @@ const JUNK: [u64; 6] = [
     0xa5a5a5a55a5a5a5b,
 ];
 
+const ROOM: usize = frame::LONGEST as usize;
+
 fn main() {
-    let mut book = [0u8; 131072];
-    let mut checkpoint = [0u8; 131072];
-    let mut out = [0u8; 131072];
+    let mut book = [0u8; ROOM];
+    let mut checkpoint = [0u8; ROOM];
+    let mut out = [0u8; ROOM];
     answer_all(&mut book, &mut checkpoint, &mut out);
 }
 

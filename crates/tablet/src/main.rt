@@ -3,11 +3,15 @@ mod plant;
 mod round;
 
 use files::Got;
+use files::save::LONGEST_SAVED;
 use libc::STDERR_FILENO;
 use roster::plants;
 use roster::plants::Listed;
 use text::budget;
 use text::budget::Budget;
+
+// 16 of the longest lines come to 130,960 bytes: what is longer is wrong in what is read of it.
+pub(crate) const LIST_ROOM: usize = 131072;
 
 fn main() {
     if os::arg_count() != 3 {
@@ -31,9 +35,8 @@ fn tell_usage() {
 }
 
 fn read_path(b: u32) {
-    // The longest path has 4,095 bytes, the place beside LIST has 6 more than LIST, and the name
-    // beside that has 7 more.
-    let mut path = [0u8; 4082];
+    // The place is saved beside LIST, under a name of 6 bytes more.
+    let mut path = [0u8; LONGEST_SAVED - 6];
     let n = os::arg(1, &mut path);
     // With a budget of 0 no turn would be the last.
     if os::errno() != 0 || b == 0 {
@@ -44,8 +47,7 @@ fn read_path(b: u32) {
 }
 
 fn read_list(path: &[u8], b: u32) {
-    // 16 of the longest lines come to 130,960 bytes: what is longer is wrong in what is read of it.
-    let mut list = [0u8; 131072];
+    let mut list = [0u8; LIST_ROOM];
     match files::read_file(path, &mut list) {
         Got::Failed => {}
         Got::Bytes(n) => {

@@ -1,8 +1,11 @@
 // One plant: its book and its place in it, what is told of it, and a turn.
+use files::BOOK_ROOM;
+use files::CHECKPOINT_ROOM;
 use files::Got;
 use files::kept;
 use files::kept::Kept;
 use files::kept::Place;
+use job::checkpoint;
 use job::reply::Refusal;
 use job::reply::Remaining;
 use libc::STDERR_FILENO;
@@ -19,12 +22,6 @@ pub(crate) struct Turn {
     pub left: u32,
 }
 
-// One byte more than the longest book, so that a longer one is seen and refused as such.
-const BOOK_ROOM: usize = 65537;
-
-// One byte more than a checkpoint, likewise.
-const PLACE_ROOM: usize = 97;
-
 // The records left of a plant. One that can't be served is named, and has none.
 pub(crate) fn count(line: &[u8]) -> u32 {
     let mut book = [0u8; BOOK_ROOM];
@@ -35,7 +32,7 @@ pub(crate) fn count(line: &[u8]) -> u32 {
 }
 
 fn count_book(line: &[u8], book: &[u8]) -> u32 {
-    let mut room = [0u8; PLACE_ROOM];
+    let mut room = [0u8; CHECKPOINT_ROOM];
     match kept::find_place(book, plants::take_checkpoint(line), &mut room) {
         Place::Failed => 0,
         Place::Refused(x) => refuse(line, x),
@@ -66,7 +63,7 @@ pub(crate) fn serve(line: &[u8], budget: u32) -> Turn {
 }
 
 fn serve_book(line: &[u8], book: &[u8], budget: u32) -> Turn {
-    let mut room = [0u8; PLACE_ROOM];
+    let mut room = [0u8; CHECKPOINT_ROOM];
     match kept::find_place(book, plants::take_checkpoint(line), &mut room) {
         Place::Failed => take_none(),
         Place::Refused(x) => {
@@ -78,7 +75,7 @@ fn serve_book(line: &[u8], book: &[u8], budget: u32) -> Turn {
 }
 
 fn wake(line: &[u8], book: &[u8], from: &[u8], budget: u32) -> Turn {
-    let mut saved = [0u8; 96];
+    let mut saved = [0u8; checkpoint::SIZE];
     match kept::wake(
         book,
         from,

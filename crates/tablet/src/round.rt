@@ -1,23 +1,28 @@
 // The round: plants stand in the queue's slots in the order of their lines, and take turns. Which plant
 // is served is kept beside LIST before it is, so that a run that is killed costs that plant one round
 // at most, and the next goes on behind it.
+use crate::LIST_ROOM;
 use crate::plant;
 use files::Got;
 use files::save;
+use files::save::LONGEST_SAVED;
 use queue::books;
 use queue::reply::Turned;
 use queue::round;
 use queue::slots;
 use queue::slots::Queue;
+use queue::slots::SLOT_COUNT;
 use roster::lines;
 use roster::place;
+use rules::book::LONGEST_BOOK;
 
-// 16 books of at most 2,047 records, each turn one record at least. Only while another program takes
-// the books back could there be more, and the next run goes on with those.
-const MOST_TURNS: u32 = 32752;
+// As many books as there are slots, of as many records as stand beside a trailer, each turn one record
+// at least. Only while another program takes the books back could there be more, and the next run goes
+// on with those.
+const MOST_TURNS: u32 = (SLOT_COUNT * (LONGEST_BOOK / 32 - 1)) as u32;
 
 pub(crate) fn run(list: &[u8], n: usize, path: &[u8], budget: u32) {
-    let mut room = [0u8; 4088];
+    let mut room = [0u8; LONGEST_SAVED];
     let end = files::put(&mut room, 0, path);
     let end = files::put(&mut room, end, b".place");
     go_on(list, n, &room[..end], budget);
@@ -26,12 +31,12 @@ pub(crate) fn run(list: &[u8], n: usize, path: &[u8], budget: u32) {
 // Goes on behind the plant that was served last. A place that can't be read is no reason to begin
 // with the first plant again.
 fn go_on(list: &[u8], n: usize, path: &[u8], budget: u32) {
-    let mut kept = [0u8; 131072];
+    let mut kept = [0u8; LIST_ROOM];
     match read_kept(path, &mut kept) {
         Got::Failed => {}
         Got::Bytes(k) => {
             let mut q = fill(list, n);
-            q.last = (place::find(list, files::take_front(&kept, k)) % 16) as u8;
+            q.last = (place::find(list, files::take_front(&kept, k)) % SLOT_COUNT) as u8;
             take_turns(list, q, path, budget);
         }
     }

@@ -23,7 +23,7 @@ pub struct Frame {
     pub call: u8,
     // The budget of a wake, the index of a record, and else 0.
     pub argument: u32,
-    // How many bytes of each follow the head: 131,072 at most.
+    // How many bytes of each follow the head: LONGEST at most.
     pub book: usize,
     pub checkpoint: usize,
     pub out: usize,
@@ -52,7 +52,8 @@ const OUT: usize = 16;
 
 const BLANK: usize = 20;
 
-const LONGEST: u64 = 131072;
+// The most bytes of a book, of a checkpoint and of a buffer.
+pub const LONGEST: u64 = 131072;
 
 pub fn read(head: &[u8]) -> Asked
     ensures asked { λ r. ⌜ r ≡ askedIn (now (head .entry)) ⌝ }

@@ -2,6 +2,7 @@
 use crate::number;
 use crate::page;
 use crate::page::Page;
+use job::checkpoint;
 use job::reply;
 use job::reply::Refusal;
 use job::reply::Reported;
@@ -34,9 +35,9 @@ fn tell_open(book: &[u8], h: Head) -> Page
     requires opened { ⌜ opened (now book) ≡ accepted h ⌝ }
     ensures text { λ r. ⌜ r ≡ pageOf (annualText (now (book .entry))) ⌝ }
 {
-    let mut begun = [0u8; 96];
+    let mut begun = [0u8; checkpoint::SIZE];
     job::wake::fresh(book, &mut begun);
-    let mut ended = [0u8; 96];
+    let mut ended = [0u8; checkpoint::SIZE];
     job::wake::wake(book, &begun, u32::MAX, &mut ended);
     let r = job::report::report(book, &ended);
     say_reported(page::take_blank(), h, r)

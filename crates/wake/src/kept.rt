@@ -3,6 +3,7 @@ use files::Got;
 use files::kept;
 use files::kept::Kept;
 use files::kept::Place;
+use job::checkpoint;
 use job::reply::Refusal;
 use libc::STDERR_FILENO;
 use libc::STDOUT_FILENO;
@@ -10,8 +11,7 @@ use text::progress;
 use text::report;
 
 pub(crate) fn run(book_path: &[u8], path: &[u8], budget: u32, anew: bool) {
-    // One byte more than the longest book, so that a longer one is seen and refused as such.
-    let mut book = [0u8; 65537];
+    let mut book = [0u8; files::BOOK_ROOM];
     match files::read_file(book_path, &mut book) {
         Got::Failed => {}
         Got::Bytes(n) => go_on(files::take_front(&book, n), path, budget, anew),
@@ -19,8 +19,7 @@ pub(crate) fn run(book_path: &[u8], path: &[u8], budget: u32, anew: bool) {
 }
 
 fn go_on(book: &[u8], path: &[u8], budget: u32, anew: bool) {
-    // One byte more than a checkpoint, so that a longer file is refused.
-    let mut room = [0u8; 97];
+    let mut room = [0u8; files::CHECKPOINT_ROOM];
     match find_place(book, path, anew, &mut room) {
         Place::Failed => {}
         Place::Refused(x) => refuse(x),
@@ -36,7 +35,7 @@ fn find_place(book: &[u8], path: &[u8], anew: bool, room: &mut [u8]) -> Place {
 }
 
 fn wake_from(book: &[u8], from: &[u8], path: &[u8], budget: u32) {
-    let mut saved = [0u8; 96];
+    let mut saved = [0u8; checkpoint::SIZE];
     match kept::wake(book, from, budget, path, &mut saved) {
         Kept::Failed => {}
         Kept::Refused(x) => refuse(x),

@@ -1,6 +1,8 @@
 // One wake of a job that is kept in files: `wake BOOK CHECKPOINT BUDGET [fresh]`.
 mod kept;
 
+use files::save::LONGEST_PATH;
+use files::save::LONGEST_SAVED;
 use libc::STDERR_FILENO;
 use text::budget;
 use text::budget::Budget;
@@ -51,14 +53,13 @@ fn read_budget(anew: bool) {
 }
 
 fn read_paths(b: u32, anew: bool) {
-    // The longest path has 4,095 bytes, and the name beside a checkpoint has 7 more than its own.
-    let mut book = [0u8; 4095];
+    let mut book = [0u8; LONGEST_PATH];
     let n = os::arg(1, &mut book);
     if os::errno() != 0 {
         tell_usage();
         return;
     }
-    let mut checkpoint = [0u8; 4088];
+    let mut checkpoint = [0u8; LONGEST_SAVED];
     let m = os::arg(2, &mut checkpoint);
     if os::errno() != 0 {
         tell_usage();

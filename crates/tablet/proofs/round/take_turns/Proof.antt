@@ -1,6 +1,8 @@
 -- The turns are counted. Assumes nothing.
-use Prim.Native.Nat.{_-_}
+use Prim.Native.Nat.{_-_, _*_, _/_}
 use borrow.Author.Needs.{needs}
+use Rattle.rules.specs.Book.{longestBook}
+use Rattle.queue.specs.Slots.{slotCount}
 use Rattle.tablet.proofs.round.take_turns.Statement.{statement}
 use Rattle.tablet.proofs.round.take_turns.Tie as tie
 
@@ -8,7 +10,7 @@ abbrev Inv-loop : tie.InvT-loop
 Inv-loop list path budget q₀ turns₀ q turns = Unit {0}
 
 abbrev μ-loop : tie.MeasureT-loop
-μ-loop list path budget q₀ turns₀ q turns = 32752 - turns
+μ-loop list path budget q₀ turns₀ q turns = slotCount * (longestBook / 32 - 1) - turns
 
 loop-holds : tie.Need-loop-holds Inv-loop μ-loop
 loop-holds c = search needs
