@@ -129,7 +129,7 @@ void spoil(struct bytes *b, size_t i, unsigned reason)
     }
     write_burned(l, 1, 0, &row);
     if (reason == 1)
-        write(l + 31, 1, 1);
+        write(l + BOOK_LINE - 1, 1, 1);
     else if (reason == 2)
         write(l + 2, 1, 2);
     else if (reason == 3)

@@ -103,7 +103,8 @@ void compare_book(const struct bytes *b, const char *name)
 /* Lengths that are wrong, one at a time and together. */
 static void compare_lengths(struct bytes *b)
 {
-    static const size_t wrong[] = {0, 1, 31, 33, 95, 97, 65535};
+    static const size_t wrong[] = {
+        0, 1, BOOK_LINE - 1, BOOK_LINE + 1, SIZE - 1, SIZE + 1, LONGEST_BOOK - 1};
     const size_t right = b->length;
     struct out at = compare_fresh(b, "lengths", SIZE);
     for (size_t i = 0; i < sizeof wrong / sizeof *wrong; i++) {

@@ -8,6 +8,7 @@ import subprocess
 import tempfile
 
 from kill_saves import go_on, limit_files
+from program_books import CHECKPOINT
 from program_jobs import NAME, job_on
 from program_runs import ROOT, Programs, expect, expect_failure, expect_line
 
@@ -32,7 +33,7 @@ def expect_unsaved(job, *more, **options):
 
 
 def try_file_limits(programs, cases, plan):
-    for size in (0, 1, 31, 32, 95):
+    for size in (0, 1, CHECKPOINT // 3, CHECKPOINT // 2, CHECKPOINT - 1):
         for place in (None, 100):
             with cases.case(f"a save from {place} finds room for {size} bytes alone"), job_on(
                     programs, plan.book, None if place is None else plan.places[place]) as job:

@@ -1,10 +1,10 @@
 """Every state in which a save can be stopped, and what a job makes of it.
 
-A save makes a temporary file beside the checkpoint, writes 96 bytes to it, syncs it, renames it
+A save makes a temporary file beside the checkpoint, writes the new one to it, syncs it, renames it
 over the checkpoint and syncs the folder. Stopped anywhere, it leaves the old checkpoint or none,
-perhaps with a temporary file of 0 to 96 bytes, or else the new checkpoint. Each of these states is
-set up, and those with a part of the bytes are reached by a stopped program too: a limit on the
-size of files ends it by a signal within its write, at any byte.
+perhaps with bytes of the new one in a temporary file, or else the new checkpoint. Each of these
+states is set up, and those with a part of the bytes are reached by a stopped program too: a limit
+on the size of files ends it by a signal within its write, at any byte.
 """
 import os
 import re
@@ -13,10 +13,10 @@ import shutil
 import signal
 import subprocess
 
+from program_books import CHECKPOINT
 from program_jobs import ALL, NAME, job_on
 from program_runs import IS_EMULATED, Wrong, expect, expect_told
 
-SIZE = 96
 STALE = NAME + ".aB3xZ9"  # as mkstemp might name it
 # Where the stopped wake started, and where it would have ended: the first, one between, the last.
 WAKES = [(None, 50), (100, 150), (250, 282)]
@@ -27,7 +27,7 @@ def states(plan, start, end):
     old = None if start is None else plan.places[start]
     new = plan.places[end]
     yield "no temporary file", old, None
-    for length in range(SIZE):
+    for length in range(CHECKPOINT):
         yield f"{length} bytes of a temporary file", old, new[:length]
     yield "a whole temporary file, not renamed", old, new
     yield "renamed", new, None
@@ -69,7 +69,7 @@ def left_behind(job):
 
 def try_stopped_writes(programs, cases, plan):
     start, end = WAKES[1]
-    for length in range(SIZE):
+    for length in range(CHECKPOINT):
         with cases.case(f"a save is killed after {length} bytes"), job_on(
                 programs, plan.book, plan.places[start]) as job:
             answer = job.wake(end - start, preexec_fn=limit_files(length, is_told=False))
@@ -98,9 +98,10 @@ def try_killed_before_telling(programs, cases, plan):
 
 # A process that was killed loses nothing that it wrote, so no kill shows whether a save waits for
 # the disk. Only the order of its calls does.
-CALLS = re.compile(r"""
-    openat\([^\n]*"(?P<temporary>[^"\n]*/checkpoint\.\w{6})",\ [^\n]*O_EXCL[^\n]*=\ (?P<file>\d+)\n
-    write\((?P=file),[^\n]*,\ 96\)\ +=\ 96\n
+CALLS = re.compile(rf"""
+    openat\([^\n]*"(?P<temporary>[^"\n]*/checkpoint\.\w{{6}})",
+    \ [^\n]*O_EXCL[^\n]*=\ (?P<file>\d+)\n
+    write\((?P=file),[^\n]*,\ {CHECKPOINT}\)\ +=\ {CHECKPOINT}\n
     fsync\((?P=file)\)\ +=\ 0\n
     close\((?P=file)\)\ +=\ 0\n
     rename\("(?P=temporary)",\ "[^"\n]*/checkpoint"\)\ +=\ 0\n

@@ -27,27 +27,28 @@ must-report no
 # One delivery of P1 gives these to fossil CO2, biomass CO2, CH4 and N2O, in ng.
 P1_MASSES = (1_900_000_000_000_000, 0, 34_200_000_000, 3_420_000_000)
 ONE = book()
+TRAILER = len(ONE) - LINE  # where it starts in this book
 ROOM = LONGEST // LINE - 3  # records, beside a unit, a fuel and the trailer
 FULL = book([fuel_record()] * ROOM)
 
 # What is refused, by number. Of two faults the smaller number is given.
 REFUSED = {
     "no bytes": (20, b""),
-    "a line less a byte": (20, ONE[:31]),
+    "a line less a byte": (20, ONE[:LINE - 1]),
     "a book less its last byte": (20, ONE[:-1]),
     "a book and a byte": (20, ONE + b"\0"),
     "a byte more than the longest book": (20, FULL + b"\0"),
     "a line more than the longest book": (20, bytes(LINE) + FULL),
     "twice the longest book": (20, FULL + FULL),
-    "32 zero bytes": (21, bytes(LINE)),
-    "another signature": (21, patch(ONE, 96, b"STCA")),
-    "version 2": (21, patch(ONE, 100, b"\2")),
-    "a byte of the trailer that must be 0": (21, patch(ONE, 102, b"\1")),
+    "a line of zero bytes": (21, bytes(LINE)),
+    "another signature": (21, patch(ONE, TRAILER, b"STCA")),
+    "version 2": (21, patch(ONE, TRAILER + 4, b"\2")),
+    "a byte of the trailer that must be 0": (21, patch(ONE, TRAILER + 6, b"\1")),
     "year 1999": (21, book(year=1999)),
     "year 2100": (21, book(year=2100)),
-    "unit lines past fuel lines": (21, ONE[:96] + trailer(96, 64)),
-    "fuel lines past the trailer": (21, ONE[:96] + trailer(32, 128)),
-    "a start within a line": (21, ONE[:96] + trailer(16, 64)),
+    "unit lines past fuel lines": (21, ONE[:TRAILER] + trailer(3 * LINE, 2 * LINE)),
+    "fuel lines past the trailer": (21, ONE[:TRAILER] + trailer(LINE, 4 * LINE)),
+    "a start within a line": (21, ONE[:TRAILER] + trailer(LINE // 2, 2 * LINE)),
     "unit number 0": (22, book(units=[unit_line(0)])),
     "a unit's rating of 0": (22, book(units=[unit_line(rating=0)])),
     "a unit's rating of 100,001": (22, book(units=[unit_line(rating=100_001)])),
@@ -125,7 +126,8 @@ def try_reports(programs, cases):
     with cases.case("annual: examples/plant.book as a file"), open(PLANT, "rb") as file:
         expect_told(programs.run("annual", stdin=file), told)
     with cases.case("annual: examples/plant.book in odd pieces"):
-        expect_told(in_pieces(programs, "annual", plant, [1, 31, 33, 7, 1025, 97]), told)
+        odd = [1, LINE - 1, LINE + 1, 7, 1025, 101]
+        expect_told(in_pieces(programs, "annual", plant, odd), told)
     with cases.case("annual: the longest book"):
         masses = [ROOM * mass for mass in P1_MASSES]
         expect_told(programs.run("annual", data=FULL), report(FULL, masses))

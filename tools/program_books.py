@@ -6,7 +6,9 @@ import re
 import struct
 
 KILOGRAM, TONNE = 10**12, 10**15  # in ng
-LINE, LONGEST = 32, 65536
+LINE, LONGEST = 32, 65_536  # bytes of a line, and of the longest book
+CHECKPOINT = 96  # bytes
+LONGEST_PART = 131_072  # bytes that a frame may have of a book, a checkpoint and a buffer each
 CH4_WARMING, N2O_WARMING = 21, 310
 LEDGERS = ("fossil", "biomass", "ch4", "n2o")
 

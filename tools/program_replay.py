@@ -3,12 +3,11 @@ are held against a stored run by `rt ci`, and a few are here, worked out by hand
 import struct
 
 from program_annual import ONE, P1_MASSES, in_pieces, try_failures
-from program_books import book, checkpoint, trailer
+from program_books import CHECKPOINT, LINE, LONGEST_PART, book, checkpoint, trailer
 from program_runs import ROOT, expect, expect_told
 
 FRESH, WAKE, REPORT, RECORD = 1, 2, 3, 4
-LONGEST_PART = 131_072
-BLANK = b"\xaa" * 96
+BLANK = b"\xaa" * CHECKPOINT
 EMPTY = trailer(0, 0)  # the shortest book, so that there are few places to cut
 
 
@@ -24,6 +23,14 @@ def answer(number=0, reason=0, count=0, out=b""):
     return struct.pack("<BBxxI", number, reason, count).ljust(64, b"\0") + out
 
 
+def report_answer(*figures):
+    return (answer()[:8] + struct.pack("<5Q", *figures)).ljust(64, b"\0")
+
+
+def record_answer(number=0, reason=0, method=0, ledger=0, masses=(0, 0, 0)):
+    return struct.pack("<BBBBxxxx3Q", number, reason, method, ledger, *masses).ljust(64, b"\0")
+
+
 START = frame(FRESH, of=ONE, out=BLANK)
 STARTED = answer(out=checkpoint(ONE))
 
@@ -37,9 +44,9 @@ WRONG_HEADS = {
     "byte 3": b"\1\0\0\x80" + head(FRESH)[4:],
     "a fresh start with a budget": head(FRESH, 1),
     "a report with a budget": head(REPORT, 1 << 24),
-    "a book of 131,073 bytes": head(FRESH, 0, (LONGEST_PART + 1, 0, 0)),
-    "a checkpoint of 131,073 bytes": head(WAKE, 0, (0, LONGEST_PART + 1, 0)),
-    "a buffer of 131,073 bytes": head(FRESH, 0, (0, 0, LONGEST_PART + 1)),
+    "too long a book": head(FRESH, 0, (LONGEST_PART + 1, 0, 0)),
+    "too long a checkpoint": head(WAKE, 0, (0, LONGEST_PART + 1, 0)),
+    "too long a buffer": head(FRESH, 0, (0, 0, LONGEST_PART + 1)),
     "a book of 2^32 - 1 bytes": head(RECORD, 0, (2**32 - 1, 0, 0)),
     "byte 20": head(FRESH)[:20] + b"\1\0\0\0",
     "byte 23": head(FRESH)[:20] + b"\0\0\0\1",
@@ -62,8 +69,8 @@ def try_ends(programs, cases):
 
 
 def try_answers(programs, cases):
-    ledgers = P1_MASSES
-    ended = checkpoint(ONE, 1, ledgers)
+    co2, _, ch4, n2o = P1_MASSES
+    ended = checkpoint(ONE, 1, P1_MASSES)
     with cases.case("replay: the longest book, checkpoint and buffer that a head may name"):
         zeros = bytes(LONGEST_PART)
         for call in (FRESH, WAKE, REPORT, RECORD):
@@ -72,13 +79,12 @@ def try_answers(programs, cases):
     with cases.case("replay: every call, byte by byte through a pipe"):
         stream = (START + frame(WAKE, 2**32 - 1, ONE, checkpoint(ONE), BLANK)
                   + frame(REPORT, 0, ONE, ended) + frame(RECORD, 0, ONE))
-        figures = (answer()[:8] + struct.pack("<5Q", 1900, 0, 0, 0, 1902)).ljust(64, b"\0")
-        masses = struct.pack("<3Q", ledgers[0] // 1000, ledgers[2], ledgers[3])
-        record = (bytes([0, 0, 1, 1, 0, 0, 0, 0]) + masses).ljust(64, b"\0")
+        figures = report_answer(1900, 0, 0, 0, 1902)
+        record = record_answer(method=1, ledger=1, masses=(co2 // 1000, ch4, n2o))
         wanted = STARTED + answer(count=1, out=ended) + figures + record
         expect_told(in_pieces(programs, "replay", stream, [1]), wanted)
     with cases.case("replay: a record set aside, from wake to report"):
-        of = book([bytes(32)])
+        of = book([bytes(LINE)])
         aside = checkpoint(of, 1, aside=1, reason=1)
         stream = frame(WAKE, 1, of, checkpoint(of), BLANK) + frame(REPORT, 0, of, aside)
         expect_told(programs.run("replay", data=stream), answer(count=1, out=aside) + answer(41, 1))

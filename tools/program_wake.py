@@ -2,7 +2,8 @@
 import os
 
 from program_annual import EXAMPLE, ONE, P1_MASSES, REFUSED
-from program_books import TONNE, book, checkpoint, count_of, fuel_record, patch, trailer, unit_line
+from program_books import CHECKPOINT, LINE, TONNE, book, checkpoint, count_of, fuel_record, patch
+from program_books import trailer, unit_line
 from program_jobs import ALL, NAME, job_on, plan_by_lines, plan_plant
 from program_runs import ROOT, expect, expect_failure, expect_line, expect_told, memory_folder
 
@@ -24,11 +25,11 @@ def damage(at, new, base=SOUND):
 # Checkpoints that aren't this book's, by number: 30 is told by the length alone.
 STRANGE = {
     "an empty one": (30, b""),
-    "one of 95 bytes": (30, DONE[:95]),
-    "one of 97 bytes": (30, DONE + b"\0"),
+    "one less a byte": (30, DONE[:-1]),
+    "one and a byte": (30, DONE + b"\0"),
     "one of 4,000 bytes": (30, bytes(4000)),
-    "96 zero bytes": (31, bytes(96)),
-    "one of another book": (31, checkpoint(ONE + bytes(32))),
+    "zero bytes alone": (31, bytes(CHECKPOINT)),
+    "one of another book": (31, checkpoint(ONE + bytes(LINE))),
     "one of another year": (31, checkpoint(book(year=2011))),
     "more done than there are records": (31, damage(0, b"\2")),
     "more set aside than done": (31, damage(4, b"\2")),
@@ -152,10 +153,10 @@ def try_books(programs, cases, plan):
 
 def grow(of):
     """The book with its last record once more."""
-    start, at = 32 * count_of(of), len(of) - 32
+    start, at = LINE * count_of(of), len(of) - LINE
     fuels_at = int.from_bytes(of[at + 12:at + 16], "little")
-    longer = of[:start] + of[start - 32:start] + of[start:at]
-    return longer + trailer(start + 32, fuels_at + 32)
+    longer = of[:start] + of[start - LINE:start] + of[start:at]
+    return longer + trailer(start + LINE, fuels_at + LINE)
 
 
 def try_missing(programs, cases):

@@ -3,7 +3,7 @@ import os
 
 from kill_saves import limit_files
 from program_annual import REFUSED
-from program_books import checkpoint
+from program_books import CHECKPOINT, checkpoint
 from program_jobs import ALL
 from program_runs import Wrong, expect, expect_failure, expect_told
 from tablet_model import KEPT, LIST, ends_of, line_of, tablet_on
@@ -101,7 +101,7 @@ def try_refused(programs, cases, plans):
                 programs, plans) as tablet:
             tablet.path("b", "book").write_bytes(of)
             expect_others(tablet, "b", f"b.book refused {number}\n".encode(), b"")
-    for number, saved in ((30, b""), (30, bytes(97)), (31, bytes(96)),
+    for number, saved in ((30, b""), (30, bytes(CHECKPOINT + 1)), (31, bytes(CHECKPOINT)),
                           (31, checkpoint(plans["a"].book, 1))):
         with cases.case(f"a checkpoint of {len(saved)} bytes is refused with {number}"), tablet_on(
                 programs, plans) as tablet:
