@@ -6,7 +6,7 @@ use crate::answer::{Answer, Call, Frame};
 use crate::bytes::{all_zero, u32_at};
 
 pub const FRAME_HEAD: usize = 24;
-const LONGEST_PART: u32 = 131_072;
+pub const LONGEST_PART: u32 = 131_072;
 
 /// Answers frames up to the end of input or a head that breaks the rules.
 pub fn serve(

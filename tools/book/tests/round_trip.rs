@@ -22,7 +22,8 @@ use bad_texts::{one_line_too_many, rows, BAD_AFTER_NO_YEAR, BAD_AFTER_SOUND, NO_
 use book::{pack, unpack};
 use dice::Dice;
 use program::{fresh_folder, names_in, refused, run};
-use random_books::{Sample, MOST_LINES};
+use random_books::{Sample, LONGEST, MOST_LINES};
+use random_lines::LINE;
 
 const BOOKS: usize = 3000;
 const SEED: u64 = 2010;
@@ -69,7 +70,7 @@ fn a_changed_byte_is_refused_or_said() {
             }
             Err(refusal) => {
                 refusals += 1;
-                let in_records = at < 32 * sample.records.len();
+                let in_records = at < LINE * sample.records.len();
                 assert!(!in_records, "byte {at} of a record: {refusal}");
             }
         }
@@ -88,7 +89,7 @@ fn random_books_are_of_every_sort() {
     let mut records = [0; 5];
     each_random_book(|sample, _| {
         no_records += u32::from(sample.records.is_empty());
-        full += u32::from(sample.bytes().len() == 65_536);
+        full += u32::from(sample.bytes().len() == LONGEST);
         no_units += u32::from(sample.units.is_empty());
         most_units += u32::from(sample.units.len() == 64);
         most_fuels += u32::from(sample.fuels.len() == 64);
@@ -257,7 +258,7 @@ fn a_book_of_bad_size_is_refused_with_its_number() {
     }
     let cases = [
         (vec![], 20, "0 bytes are no book"),
-        (BYTES[..31].to_vec(), 20, "31 bytes are no book"),
+        (BYTES[..LINE - 1].to_vec(), 20, "31 bytes are no book"),
         (BYTES[1..].to_vec(), 20, "127 bytes are no book"),
         (sized(MOST_LINES + 1, 0, 0), 20, "65568 bytes are no book"),
         (

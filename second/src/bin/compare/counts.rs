@@ -4,6 +4,7 @@ use second::answer::{Answer, Call, NO_SUCH_RECORD};
 use second::bytes::u32_at;
 use second::replay::FRAME_HEAD;
 
+use crate::draft::LINE;
 use crate::run::Run;
 use crate::specials::{class, is_usable, CLASSES, FLOW_LIMIT, PERCENT_LIMIT};
 
@@ -51,7 +52,7 @@ impl Counts {
         if reason == 0 {
             self.ledgers[usize::from(ledger)] += 1;
         }
-        let line = &frame[FRAME_HEAD + 32 * index..][..32];
+        let line = &frame[FRAME_HEAD + LINE * index..][..LINE];
         if line[0] == HOUR && [0, 4, 5].contains(&reason) {
             self.count_readings(line);
         }

@@ -3,7 +3,7 @@
 
 mod edits;
 
-use crate::draft::Draft;
+use crate::draft::{Draft, LINE};
 use crate::exchange::{Exchange, Outcome};
 use crate::job::{self, CHECKPOINT};
 use crate::random::Random;
@@ -53,11 +53,11 @@ pub fn run(exchange: &mut Exchange, rng: &mut Random) -> Outcome<()> {
 
 fn single_bytes_of_book(exchange: &mut Exchange, rng: &mut Random, sound: &Sound) -> Outcome<()> {
     let mut book = sound.book.clone();
-    for line in 0..book.len() / 32 {
+    for line in 0..book.len() / LINE {
         exchange.case(format!(
             "every value of every byte of line {line} of the book"
         ));
-        for place in 32 * line..32 * line + 32 {
+        for place in LINE * line..LINE * (line + 1) {
             for value in 0..=255 {
                 book[place] = value;
                 damaged_book(exchange, rng, &book, sound)?;
@@ -118,7 +118,7 @@ fn single_bytes_of_checkpoints(
 
 fn lengths(exchange: &mut Exchange, rng: &mut Random, sound: &Sound) -> Outcome<()> {
     exchange.case("the book at every length");
-    for length in 0..=sound.book.len() + 96 {
+    for length in 0..=sound.book.len() + 3 * LINE {
         for filling in [0, 0xA5] {
             let mut book = sound.book.clone();
             book.resize(length, filling);
@@ -147,7 +147,7 @@ fn lengths(exchange: &mut Exchange, rng: &mut Random, sound: &Sound) -> Outcome<
 
 fn random_in_book(exchange: &mut Exchange, rng: &mut Random, sound: &Sound) -> Outcome<()> {
     let times = RANDOM_TIMES * exchange.run.settings.times;
-    let records = 0..32 * sound.draft.records.len();
+    let records = 0..LINE * sound.draft.records.len();
     let everywhere = 0..sound.book.len();
     let kinds: [(&str, Edit, _); 4] = [
         (

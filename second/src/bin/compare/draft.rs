@@ -1,8 +1,9 @@
 //! Books written line by line, from the requirements' table of lines alone.
 
-pub type Line = [u8; 32];
-
+pub const LINE: usize = 32;
 pub const LONGEST_BOOK: usize = 65_536;
+
+pub type Line = [u8; LINE];
 
 /// The parts of a book; `bytes` puts them together with the trailer.
 #[derive(Clone)]
@@ -43,9 +44,9 @@ impl Draft {
     }
 
     pub fn trailer(&self) -> Line {
-        let unit_start = 32 * self.records.len() as u32;
-        let fuel_start = unit_start + 32 * self.units.len() as u32;
-        let mut line = [0; 32];
+        let unit_start = (LINE * self.records.len()) as u32;
+        let fuel_start = unit_start + (LINE * self.units.len()) as u32;
+        let mut line = [0; LINE];
         put(&mut line, 0, b"STCB");
         put(&mut line, 4, &1u16.to_le_bytes());
         put(&mut line, 8, &unit_start.to_le_bytes());
@@ -56,12 +57,12 @@ impl Draft {
 
     /// How many records fill the book up to `length` bytes.
     pub fn room(&self, length: usize) -> usize {
-        length / 32 - 1 - self.units.len() - self.fuels.len()
+        length / LINE - 1 - self.units.len() - self.fuels.len()
     }
 }
 
 pub fn unit(number: u16, monitored: bool, rating: u32) -> Line {
-    let mut line = [0; 32];
+    let mut line = [0; LINE];
     put(&mut line, 0, &number.to_le_bytes());
     line[2] = u8::from(monitored);
     put(&mut line, 4, &rating.to_le_bytes());
@@ -70,7 +71,7 @@ pub fn unit(number: u16, monitored: bool, rating: u32) -> Line {
 
 impl FuelLine {
     pub fn line(&self) -> Line {
-        let mut line = [0; 32];
+        let mut line = [0; LINE];
         put(&mut line, 0, &self.number.to_le_bytes());
         line[2] = self.kind;
         line[3] = self.class;
@@ -84,7 +85,7 @@ impl FuelLine {
 
 impl Burnt {
     pub fn line(&self) -> Line {
-        let mut line = [0; 32];
+        let mut line = [0; LINE];
         line[0] = 1;
         line[1] = u8::from(self.heat.is_some()) | u8::from(self.carbon.is_some()) << 1;
         put(&mut line, 2, &self.unit.to_le_bytes());
@@ -98,7 +99,7 @@ impl Burnt {
 }
 
 pub fn hour(unit: u16, hour: u16, percent: u32, flow: u32) -> Line {
-    let mut line = [0; 32];
+    let mut line = [0; LINE];
     line[0] = 2;
     put(&mut line, 2, &unit.to_le_bytes());
     put(&mut line, 6, &hour.to_le_bytes());

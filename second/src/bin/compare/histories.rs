@@ -68,7 +68,7 @@ fn older(exchange: &mut Exchange, rng: &mut Random, book: &[u8]) -> Outcome<()> 
         let checkpoint = after.output.clone();
         let (place, _) = checkpoint
             .split_first_chunk()
-            .expect("a checkpoint has 96 bytes");
+            .expect("a checkpoint starts with its place");
         let known = at_place.entry(*place).or_insert_with(|| checkpoint.clone());
         let same = *known == checkpoint;
         exchange.state(

@@ -4,6 +4,7 @@ use std::rc::Rc;
 
 use second::answer::{Answer, Call, Frame};
 
+use crate::draft::LINE;
 use crate::exchange::{Exchange, Outcome};
 use crate::expectation::Expectation;
 use crate::random::Random;
@@ -62,7 +63,7 @@ pub fn whole(
 
 /// A job in several wakes of random budgets, with a report before each.
 pub fn in_wakes(exchange: &mut Exchange, rng: &mut Random, book: &[u8]) -> Outcome<()> {
-    let records = book.len() as u64 / 32;
+    let records = (book.len() / LINE) as u64;
     let mut checkpoint = fresh(exchange, book, &rng.junk(CHECKPOINT))?.output.clone();
     for _ in 0..1 + rng.below(4) {
         exchange.ask(&report_frame(book, &checkpoint, &[]))?;

@@ -4,7 +4,7 @@ use second::book::Book;
 use second::bytes::u16_at;
 use second::record::judge;
 
-use crate::draft::{hour, unit, Burnt, Draft, FuelLine, Line};
+use crate::draft::{hour, unit, Burnt, Draft, FuelLine, Line, LINE};
 use crate::exchange::{Exchange, Outcome};
 use crate::job;
 use crate::random::Random;
@@ -141,7 +141,7 @@ pub fn wild_record(rng: &mut Random, draft: &Draft) -> Line {
         record.line()
     };
     if rng.one_in(12) {
-        line[rng.index(32)] = rng.byte();
+        line[rng.index(LINE)] = rng.byte();
     }
     line
 }

@@ -1,5 +1,7 @@
 //! Books that are refused: the book of docs/FORMAT.md with bytes changed, and others of bad sizes.
 
+use crate::random_lines::LINE;
+
 pub const TEXT: &str = "\
 year 2010
 unit 1 rating 250.0
@@ -79,12 +81,14 @@ pub fn changed() -> impl Iterator<Item = (Vec<u8>, &'static str, &'static str)> 
 pub fn sized(records: usize, units: usize, fuels: usize) -> Vec<u8> {
     let numbered =
         |number: usize, line: &[u8]| [&(number as u16).to_le_bytes(), &line[2..]].concat();
-    let mut bytes = BYTES[..32].repeat(records);
-    bytes.extend((1..=units).flat_map(|number| numbered(number, &BYTES[32..64])));
-    bytes.extend((1..=fuels).flat_map(|number| numbered(number, &BYTES[64..96])));
-    bytes.extend(&BYTES[96..104]);
-    bytes.extend((32 * records as u32).to_le_bytes());
-    bytes.extend((32 * (records + units) as u32).to_le_bytes());
-    bytes.extend(&BYTES[112..]);
+    let lines: Vec<&[u8]> = BYTES.chunks(LINE).collect();
+    let start = |line: usize| ((LINE * line) as u32).to_le_bytes();
+    let mut bytes = lines[0].repeat(records);
+    bytes.extend((1..=units).flat_map(|number| numbered(number, lines[1])));
+    bytes.extend((1..=fuels).flat_map(|number| numbered(number, lines[2])));
+    bytes.extend(&lines[3][..8]);
+    bytes.extend(start(records));
+    bytes.extend(start(records + units));
+    bytes.extend(&lines[3][16..]);
     bytes
 }

@@ -1,9 +1,11 @@
 //! Random sound books, as bytes, as canonical text and as a text that a person might write.
 
 use crate::dice::Dice;
-use crate::random_lines::{fuel, unit, Said, SORTS};
+use crate::random_lines::{fuel, unit, Said, LINE, SORTS};
 
-pub const MOST_LINES: usize = 65_536 / 32 - 1;
+pub const LONGEST: usize = 65_536;
+/// Beside the trailer.
+pub const MOST_LINES: usize = LONGEST / LINE - 1;
 
 pub struct Sample {
     pub year: u64,
@@ -31,8 +33,8 @@ impl Sample {
     }
 
     pub fn bytes(&self) -> Vec<u8> {
-        let unit_start = self.records.len() * 32;
-        let fuel_start = unit_start + self.units.len() * 32;
+        let unit_start = self.records.len() * LINE;
+        let fuel_start = unit_start + self.units.len() * LINE;
         let lines = self.records.iter().chain(&self.units).chain(&self.fuels);
         let mut bytes: Vec<u8> = lines.flat_map(|said| said.line).collect();
         bytes.extend(b"STCB\x01\0\0\0");

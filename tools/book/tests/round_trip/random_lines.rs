@@ -3,8 +3,10 @@
 
 use crate::dice::Dice;
 
+pub const LINE: usize = 32;
+
 pub struct Said {
-    pub line: [u8; 32],
+    pub line: [u8; LINE],
     /// The canonical words.
     pub words: String,
     /// Other words for the same line.
@@ -49,7 +51,7 @@ const READINGS: [(u32, &str); 19] = [
 pub fn unit(number: u16, dice: &mut Dice) -> Said {
     let rating = dice.within(1, 100_000);
     let monitor = dice.one_in(2);
-    let mut line = [0; 32];
+    let mut line = [0; LINE];
     put(&mut line, 0, 2, number.into());
     put(&mut line, 2, 1, monitor.into());
     put(&mut line, 4, 4, rating);
@@ -79,7 +81,7 @@ pub fn fuel(number: u16, dice: &mut Dice) -> Said {
     let co2 = dice.within(1, 200_000);
     let ch4 = dice.within(0, 200_000);
     let n2o = dice.within(0, 200_000);
-    let mut line = [0; 32];
+    let mut line = [0; LINE];
     put(&mut line, 0, 2, number.into());
     put(&mut line, 2, 1, kind);
     put(&mut line, 3, 1, class);
@@ -100,7 +102,7 @@ pub fn fuel(number: u16, dice: &mut Dice) -> Said {
 }
 
 fn delivery(dice: &mut Dice) -> Said {
-    let mut line = [0; 32];
+    let mut line = [0; LINE];
     line[0] = 1;
     let mut words = "delivery".to_string();
     for (name, at) in [("unit", 2), ("fuel", 4), ("month", 6)] {
@@ -127,7 +129,7 @@ fn hour(dice: &mut Dice) -> Said {
     let hour = dice.within(0, 65_535);
     let (percent, percent_words) = reading(dice);
     let (flow, flow_words) = reading(dice);
-    let mut line = [0; 32];
+    let mut line = [0; LINE];
     line[0] = 2;
     put(&mut line, 2, 2, unit);
     put(&mut line, 6, 2, hour);
@@ -197,7 +199,7 @@ fn hour_with_stray_byte(dice: &mut Dice) -> Said {
     raw(line)
 }
 
-fn said(line: [u8; 32], words: String) -> Said {
+fn said(line: [u8; LINE], words: String) -> Said {
     let loosely = raw(line).loosely;
     Said {
         line,
@@ -206,7 +208,7 @@ fn said(line: [u8; 32], words: String) -> Said {
     }
 }
 
-fn raw(line: [u8; 32]) -> Said {
+fn raw(line: [u8; LINE]) -> Said {
     let digits: String = line.iter().map(|byte| format!("{byte:02X}")).collect();
     Said {
         line,
@@ -215,6 +217,6 @@ fn raw(line: [u8; 32]) -> Said {
     }
 }
 
-fn put(line: &mut [u8; 32], at: usize, size: usize, value: u64) {
+fn put(line: &mut [u8; LINE], at: usize, size: usize, value: u64) {
     line[at..at + size].copy_from_slice(&value.to_le_bytes()[..size]);
 }

@@ -1,6 +1,6 @@
 //! Every field of every line at its limits and one past each.
 
-use crate::draft::{put, Draft, Line};
+use crate::draft::{put, Draft, Line, LINE, LONGEST_BOOK};
 use crate::exchange::{Exchange, Outcome};
 use crate::job;
 use crate::random::Random;
@@ -17,13 +17,21 @@ const fn field(place: usize, width: usize, ends: &'static [u32]) -> Field {
     Field { place, width, ends }
 }
 
+const fn start(line: usize) -> u32 {
+    (LINE * line) as u32
+}
+
 /// Starts about those of the sample: four records, two units, three fuels.
 const TRAILER: [Field; 6] = [
     field(0, 4, &[0x4243_5453]),
     field(4, 2, &[1]),
     field(6, 2, &[0]),
-    field(8, 4, &[32 * 4, 32 * 5, 32 * 6, 32 * 9, 65_536]),
-    field(12, 4, &[32 * 3, 32 * 4, 32 * 6, 32 * 9, 32 * 10]),
+    field(
+        8,
+        4,
+        &[start(4), start(5), start(6), start(9), LONGEST_BOOK as u32],
+    ),
+    field(12, 4, &[start(3), start(4), start(6), start(9), start(10)]),
     field(16, 2, &[2000, 2099]),
 ];
 
@@ -107,7 +115,7 @@ fn vary(
     for field in fields {
         for value in field.values() {
             let mut book = base.bytes();
-            field.set(&mut book[32 * line..32 * line + 32], value);
+            field.set(&mut book[LINE * line..LINE * (line + 1)], value);
             job::everything(exchange, rng, &book, base.records.len())?;
         }
     }

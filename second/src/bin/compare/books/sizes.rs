@@ -1,6 +1,8 @@
 //! Books of unusual size: no records, 64 and 65 lines of a kind, full books.
 
-use crate::draft::{unit, Draft, FuelLine, LONGEST_BOOK};
+use second::replay::LONGEST_PART;
+
+use crate::draft::{unit, Draft, FuelLine, LINE, LONGEST_BOOK};
 use crate::exchange::{Exchange, Outcome};
 use crate::expectation::Field;
 use crate::job;
@@ -19,14 +21,14 @@ pub fn run(exchange: &mut Exchange, rng: &mut Random) -> Outcome<()> {
     }
     exchange.case("64 and 65 unit and fuel lines");
     many_lines(exchange, rng)?;
-    exchange.case("full books of 65,536 bytes");
+    exchange.case("full books");
     for _ in 0..FULL_BOOKS * exchange.run.settings.times {
         let book = full(rng, LONGEST_BOOK);
-        job::everything(exchange, rng, &book, LONGEST_BOOK / 32)?;
+        job::everything(exchange, rng, &book, LONGEST_BOOK / LINE)?;
     }
     exchange.case("full books without unit and fuel lines");
     let mut bare = listing(0, 0);
-    bare.records = vec![[1; 32]; bare.room(LONGEST_BOOK)];
+    bare.records = vec![[1; LINE]; bare.room(LONGEST_BOOK)];
     let first_set_aside = vec![
         Field::Number.is(41),
         Field::Reason.is(1),
@@ -34,9 +36,9 @@ pub fn run(exchange: &mut Exchange, rng: &mut Random) -> Outcome<()> {
     ];
     job::whole(exchange, rng, &bare.bytes(), first_set_aside)?;
     job::records(exchange, &bare.bytes(), bare.records.len())?;
-    exchange.case("books over 65,536 bytes");
-    for length in [65_568, 65_600, 131_072] {
-        let book = full(rng, length);
+    exchange.case("books that are too long");
+    for more in [LINE, 2 * LINE, LONGEST_PART as usize - LONGEST_BOOK] {
+        let book = full(rng, LONGEST_BOOK + more);
         job::whole(exchange, rng, &book, vec![Field::Number.is(20)])?;
         job::records(exchange, &book, 2)?;
     }

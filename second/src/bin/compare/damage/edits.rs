@@ -1,5 +1,6 @@
 //! Ways to change several bytes at once.
 
+use crate::draft::LINE;
 use crate::random::Random;
 
 pub type Edit = fn(&mut Random, &mut [u8]);
@@ -38,13 +39,13 @@ pub fn nudge(rng: &mut Random, bytes: &mut [u8]) {
 
 /// One to three times, one line overwrites another or two change places.
 pub fn move_lines(rng: &mut Random, bytes: &mut [u8]) {
-    let lines = bytes.len() / 32;
+    let lines = bytes.len() / LINE;
     for _ in 0..1 + rng.below(3) {
-        let (one, other) = (32 * rng.index(lines), 32 * rng.index(lines));
+        let (one, other) = (LINE * rng.index(lines), LINE * rng.index(lines));
         if rng.one_in(2) {
-            bytes.copy_within(one..one + 32, other);
+            bytes.copy_within(one..one + LINE, other);
         } else {
-            (0..32).for_each(|byte| bytes.swap(one + byte, other + byte));
+            (0..LINE).for_each(|byte| bytes.swap(one + byte, other + byte));
         }
     }
 }

@@ -3,7 +3,7 @@
 use second::bytes::{u16_at, u32_at};
 
 use super::made_up::{LEDGERS, NG_PER_TONNE, TONNES_PER_RECORD};
-use crate::draft::put;
+use crate::draft::{put, LINE};
 use crate::random::Random;
 
 /// Breaks one rule in a sound checkpoint of a book of so many records, which
@@ -29,7 +29,7 @@ fn set_none_aside(checkpoint: &mut [u8]) {
 pub const BREAKAGES: [(&str, Breaking); 14] = [
     ("book length one more or less", |rng, checkpoint, _| {
         let length = u32_at(checkpoint, 80);
-        let wrong = rng.pick(&[length - 1, length + 1, length + 32, 0]);
+        let wrong = rng.pick(&[length - 1, length + 1, length + LINE as u32, 0]);
         put_word(checkpoint, 80, wrong);
     }),
     ("year one more or less", |rng, checkpoint, _| {

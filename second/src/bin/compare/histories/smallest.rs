@@ -2,8 +2,9 @@
 //! wrong book, a wrong checkpoint and a wrong output buffer.
 
 use second::answer::{Call, Frame};
+use second::replay::LONGEST_PART;
 
-use crate::draft::{unit, Draft};
+use crate::draft::{unit, Draft, LINE};
 use crate::exchange::{Exchange, Outcome};
 use crate::expectation::Field;
 use crate::job::{self, CHECKPOINT};
@@ -27,7 +28,8 @@ pub fn run(exchange: &mut Exchange, rng: &mut Random) -> Outcome<()> {
     )?;
     for book in books(&draft) {
         for checkpoint in checkpoints(&start.output, &end.output) {
-            for length in [CHECKPOINT, 0, 1, CHECKPOINT - 1, CHECKPOINT + 1, 131_072] {
+            let near = [CHECKPOINT, 0, 1, CHECKPOINT - 1, CHECKPOINT + 1];
+            for length in near.into_iter().chain([LONGEST_PART as usize]) {
                 let output = (rng.junk(length), if length == CHECKPOINT { 0 } else { 32 });
                 calls(exchange, &book, &checkpoint, &output)?;
             }
@@ -46,12 +48,12 @@ fn sound_draft(rng: &mut Random) -> Draft {
 /// The sound book, and books with one or several things wrong.
 fn books(draft: &Draft) -> Vec<Numbered> {
     let sound = draft.bytes();
-    let fuels = 32 * (draft.records.len() + draft.units.len());
-    let units = 32 * draft.records.len();
-    let trailer = sound.len() - 32;
+    let fuels = LINE * (draft.records.len() + draft.units.len());
+    let units = LINE * draft.records.len();
+    let trailer = sound.len() - LINE;
     let spoilt = |places: &[usize]| {
         let mut book = sound.clone();
-        places.iter().for_each(|&place| book[place + 31] = 1);
+        places.iter().for_each(|&place| book[place + LINE - 1] = 1);
         book
     };
     let short = sound[..sound.len() - 1].to_vec();

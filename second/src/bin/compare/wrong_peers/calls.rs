@@ -6,7 +6,8 @@ use second::checkpoint::Checkpoint;
 use second::ledger::{Ledgers, NG_PER_TONNE};
 use second::report::{co2e, kilograms, Report};
 
-use crate::draft::put;
+use crate::draft::{put, LINE};
+use crate::job::CHECKPOINT;
 
 /// Reports made from the right ledgers in a wrong way.
 fn reporting(frame: &Frame, wrong: fn(&Ledgers) -> Report) -> Answer {
@@ -87,8 +88,8 @@ pub fn knows_eight_reasons(frame: &Frame) -> Answer {
 
 pub fn overlooks_the_last_byte_of_lines(frame: &Frame) -> Answer {
     let mut book = frame.book.to_vec();
-    book.chunks_mut(32).for_each(|line| {
-        if let Some(last) = line.get_mut(31) {
+    book.chunks_mut(LINE).for_each(|line| {
+        if let Some(last) = line.get_mut(LINE - 1) {
             *last = 0;
         }
     });
@@ -100,8 +101,8 @@ pub fn overlooks_the_last_byte_of_lines(frame: &Frame) -> Answer {
 
 pub fn minds_the_output_buffer_first(frame: &Frame) -> Answer {
     let mut answered = answer(frame);
-    if [30, 31].contains(&answered.head[0]) && frame.call == Call::Wake && frame.output.len() != 96
-    {
+    let is_late = [30, 31].contains(&answered.head[0]) && frame.call == Call::Wake;
+    if is_late && frame.output.len() != CHECKPOINT {
         answered.head[0] = 32;
     }
     answered
