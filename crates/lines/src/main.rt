@@ -6,7 +6,6 @@ use rules::reader;
 use text::lines;
 
 fn main() {
-    // One byte more than the longest book, so that a longer one is seen and refused as such.
     let mut book = [0u8; files::BOOK_ROOM];
     match files::read_all(STDIN_FILENO, &mut book) {
         Got::Failed => os::fail(b"standard input"),
