@@ -1,103 +1,23 @@
--- Lines that break no rule, scanned one by one or known at once; a trailer that is right; and what is
--- known of a book that is accepted. Assumes nothing.
-use Prim.Native.Nat.{ℕ, suc, zero, _+_, _-_, _*_, _/_, _%_, _<_, _≤_}
+-- A trailer that is right, the answer by the first test that fails, and what is known of a book that is
+-- accepted. Assumes nothing.
+use Prim.Native.Nat.{ℕ, _-_, _*_, _/_, _%_, _≤_}
 use mathlib.Core.Bool.{Bool, true, false}
 use mathlib.Core.List.{List}
 use mathlib.Core.Path.{_≡_, refl, sym, ap, _∙_, subst}
-use native.Mathlib.Nat.{not-suc-le-zero}
 use native.Mathlib.Omega.{arith}
-use lib.Dec.{eqb, ltb, lit≤}
-use lib.ListN.{length, take, drop}
-use borrow.Author.Tests.{lt-ltb, le-ltb, ltb-true, leb-true, eqb-true}
-use Rattle.choice.specs.Tests.{_also_, choose}
-use Rattle.choice.proofs.TestsLaws.{also-t, also-f, also-l, also-r, choose-true, choose-false, worked-out}
+use lib.Dec.{eqb, lit≤}
+use lib.ListN.{length}
+use borrow.Author.Tests.{leb-true, eqb-true}
+use Rattle.choice.specs.Tests.{choose}
+use Rattle.choice.proofs.TestsLaws.{also-l, also-r, choose-t, choose-f, choose-true, choose-false, worked-out}
 use Rattle.rules.specs.declared.book.Head.{Head}
 use Rattle.rules.specs.declared.book.Opened.{Opened}
 use Rattle.rules.specs.declared.book.Opened.the-variants.{Wrong, Open}
 use Rattle.rules.specs.declared.book.Fault.{Fault}
 use Rattle.rules.specs.declared.book.Fault.the-variants.{Length, Trailer, Units, Fuels}
-use Rattle.rules.specs.Bytes.{line, lines, linesIn}
-use Rattle.rules.specs.Fields.{unitStart, fuelStart, year, number}
-use Rattle.rules.specs.Book.{longestBook, lengthOk, startsOk, trailerOk, unitOk, fuelOk, linesOk, linesSound, trailer, headOf, unitLines, fuelLines, Answer, refused, accepted, opened, answer, faultNumber}
-use Rattle.rules.specs.Listing.{numberAt, Rising}
-use Rattle.rules.proofs.BytesLaws.{line-suc, lines-next, lines-end}
-
--- ---- a scan that stands at line i of n, `before` being the number before it
-module _ (ok : List ℕ → Bool) (s : List ℕ) (n i before : ℕ) where
-  pub linesOk-end : n ≤ i → linesOk ok before (lines (n - i) (drop (32 * i) s)) ≡ true
-  unfolding linesOk
-  linesOk-end h = ap (linesOk ok before) (lines-end n i (drop (32 * i) s) h)
-
-  -- l and x are the line and its number, as the code has read them.
-  module _ {l : List ℕ} {x : ℕ} (d : l ≡ line i s) (e : x ≡ number l) (h : i < n) where
-    linesOk-first : linesOk ok before (lines (n - i) (drop (32 * i) s))
-        ≡ (ltb before x also ok l also linesOk ok x (lines (n - (i + 1)) (drop (32 * (i + 1)) s)))
-    unfolding linesOk
-    linesOk-first =
-        let number-is : x ≡ number (line i s) = e ∙ ap number d in
-        let after = lines (n - (i + 1)) (drop (32 * (i + 1)) s) in
-        ap (linesOk ok before) (lines-next n i s h)
-        ∙ sym (λ j. ltb before (number-is j) also ok (d j) also linesOk ok (number-is j) after)
-
-    pub linesOk-low : x ≤ before → linesOk ok before (lines (n - i) (drop (32 * i) s)) ≡ false
-    linesOk-low m = linesOk-first ∙ also-f _ (also-f _ (le-ltb before x m))
-
-    pub linesOk-bad : before < x → ok l ≡ false → linesOk ok before (lines (n - i) (drop (32 * i) s)) ≡ false
-    linesOk-bad m b = linesOk-first ∙ also-f _ (also-t (lt-ltb before x m) b)
-
-    pub linesOk-next : before < x → ok l ≡ true
-        → linesOk ok before (lines (n - i) (drop (32 * i) s))
-        ≡ linesOk ok x (lines (n - (i + 1)) (drop (32 * (i + 1)) s))
-    linesOk-next m b = linesOk-first ∙ also-t (also-t (lt-ltb before x m) b) refl
-
--- ---- lines that break no rule: each obeys it, and the numbers rise
-module _ (ok : List ℕ → Bool) where
-  -- The first line's number is above `before`, the line obeys the rule, and so do those after it.
-  linesOk-cons : (n before : ℕ) (s : List ℕ) → linesOk ok before (lines (suc n) s) ≡ true
-      → (before < number (take 32 s))
-      × (ok (take 32 s) ≡ true)
-      × (linesOk ok (number (take 32 s)) (lines n (drop 32 s)) ≡ true)
-  unfolding linesOk lines
-  linesOk-cons n before s h =
-      let first = also-l _ _ h in
-      (ltb-true _ _ (also-l _ _ first), also-r _ _ first, also-r _ _ h)
-
-  pub linesOk-each : (n k before : ℕ) (s : List ℕ) → linesOk ok before (lines n s) ≡ true → k < n
-      → (ok (line k s) ≡ true) × (before < numberAt k s)
-  linesOk-each zero k before s h l = absurd (not-suc-le-zero l)
-  linesOk-each (suc n) zero before s h l =
-      let first = linesOk-cons n before s h in
-      (first .1, first .0)
-  linesOk-each (suc n) (suc k) before s h l =
-      let first = linesOk-cons n before s h in
-      let above = first .0 in
-      let later = linesOk-each n k (number (take 32 s)) (drop 32 s) (first .2) (omega arith) in
-      let higher = later .1 in
-      (ap ok (line-suc k s) ∙ later .0, rw (line-suc k s) (omega arith))
-
-  linesOk-rise : (n j k before : ℕ) (s : List ℕ) → linesOk ok before (lines n s) ≡ true → j < k → k < n
-      → numberAt j s < numberAt k s
-  linesOk-rise zero j k before s h l m = absurd (not-suc-le-zero m)
-  linesOk-rise (suc n) j zero before s h l m = absurd (not-suc-le-zero l)
-  linesOk-rise (suc n) zero (suc k) before s h l m =
-      let after = linesOk-cons n before s h .2 in
-      rw (line-suc k s) (linesOk-each n k (number (take 32 s)) (drop 32 s) after (omega arith) .1)
-  linesOk-rise (suc n) (suc j) (suc k) before s h l m =
-      let after = linesOk-cons n before s h .2 in
-      let later = linesOk-rise n j k (number (take 32 s)) (drop 32 s) after (omega arith) (omega arith) in
-      rw (line-suc k s, line-suc j s) later
-
-  pub linesSound-each : (s : List ℕ) (k : ℕ) → linesSound ok s ≡ true → k < length s / 32
-      → ok (line k s) ≡ true
-  unfolding linesSound linesIn
-  linesSound-each s k h l = linesOk-each (length s / 32) k 0 s (also-r _ _ h) l .0
-
-  pub rising-linesSound : (s : List ℕ) → linesSound ok s ≡ true → Rising s
-  unfolding linesSound linesIn
-  rising-linesSound s h = record {
-    few = leb-true _ _ (also-l _ _ h);
-    rise = λ j k. linesOk-rise (length s / 32) j k 0 s (also-r _ _ h);
-  }
+use Rattle.rules.specs.Bytes.{part}
+use Rattle.rules.specs.Fields.{unitStart, fuelStart, year}
+use Rattle.rules.specs.Book.{longestBook, lengthOk, startsOk, trailerOk, unitOk, fuelOk, linesSound, trailer, headOf, unitLines, fuelLines, Answer, refused, accepted, opened, answer, faultNumber}
 
 -- ---- a right length and a right trailer
 pub record RightLength (s : List ℕ) : Type 0 where
@@ -152,6 +72,56 @@ gave-answer (Open h) = refl
 
 pub answer-inj : (o p : Opened) → answer o ≡ answer p → o ≡ p
 answer-inj o p e = sym (gave-answer o) ∙ ap gave e ∙ gave-answer p
+
+-- The answer by the first test that fails.
+pub opened-length : (s : List ℕ) → lengthOk s ≡ false → answer (Wrong Length) ≡ opened s
+unfolding opened answer
+opened-length s h = sym (choose-f _ h refl)
+
+pub opened-trailer : (s : List ℕ) → lengthOk s ≡ true → trailerOk (trailer s) (length s - 32) ≡ false
+    → answer (Wrong Trailer) ≡ opened s
+unfolding opened answer
+opened-trailer s l h = sym (choose-t _ l (choose-f _ h refl))
+
+-- Both starts were read from a right trailer, so that the lines decide.
+pub record Headed (s : List ℕ) (units fuels : ℕ) : Type 0 where
+  pub length-right : lengthOk s ≡ true
+  pub trailer-right : trailerOk (trailer s) (length s - 32) ≡ true
+  pub units-is : units ≡ unitStart (trailer s)
+  pub fuels-is : fuels ≡ fuelStart (trailer s)
+
+module _ {s : List ℕ} {units fuels : ℕ} (d : Headed s units fuels) where
+  pub headed-starts : (units ≤ fuels) × (fuels ≤ length s - 32)
+  headed-starts =
+      let right = trailerOk→right (trailer s) (length s - 32) (d .trailer-right) in
+      omega (arith, d .units-is, d .fuels-is)
+
+  units-told : linesSound unitOk (unitLines (headOf s) s) ≡ linesSound unitOk (part units fuels s)
+  unfolding headOf
+  units-told = sym (λ i. linesSound unitOk (part (d .units-is i) (d .fuels-is i) s))
+
+  fuels-told : linesSound fuelOk (fuelLines (headOf s) s) ≡ linesSound fuelOk (part fuels (length s - 32) s)
+  unfolding headOf
+  fuels-told = sym (λ i. linesSound fuelOk (part (d .fuels-is i) (length s - 32) s))
+
+  pub opened-units : linesSound unitOk (part units fuels s) ≡ false → answer (Wrong Units) ≡ opened s
+  unfolding opened answer
+  opened-units u = sym (choose-t _ (d .length-right) (choose-t _ (d .trailer-right) (choose-f _ (units-told ∙ u) refl)))
+
+  module _ (u : linesSound unitOk (part units fuels s) ≡ true) where
+    pub opened-fuels : linesSound fuelOk (part fuels (length s - 32) s) ≡ false → answer (Wrong Fuels) ≡ opened s
+    unfolding opened answer
+    opened-fuels f =
+        sym (choose-t _ (d .length-right) (choose-t _ (d .trailer-right)
+        (choose-t _ (units-told ∙ u) (choose-f _ (fuels-told ∙ f) refl))))
+
+    pub opened-sound : (y : ℕ) → linesSound fuelOk (part fuels (length s - 32) s) ≡ true → y ≡ year (trailer s)
+        → answer (Open (record { n = units / 32; units = units; fuels = fuels; year = y; length = length s })) ≡ opened s
+    unfolding opened answer headOf
+    opened-sound y f e =
+        (λ i. let at = d .units-is i in accepted (record { n = at / 32; units = at; fuels = d .fuels-is i; year = e i; length = length s }))
+        ∙ sym (choose-t _ (d .length-right) (choose-t _ (d .trailer-right)
+        (choose-t _ (units-told ∙ u) (choose-t _ (fuels-told ∙ f) refl))))
 
 pub opened-open : {o : Opened} {h : Head} (s : List ℕ) → answer o ≡ opened s → o ≡ Open h
     → opened s ≡ accepted h

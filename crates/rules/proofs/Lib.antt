@@ -1,6 +1,7 @@
 -- The argument, from bytes to records: laws on plain values, walks by hand of functions over a
 -- reader, worked sums, one whole book, uniqueness.
 pub mod BytesLaws
+pub mod LinesLaws
 pub mod BookLaws
 pub mod NumberLaws
 pub mod RightLaws

@@ -14,7 +14,7 @@ use Rattle.rules.specs.Fields.{number}
 use Rattle.rules.specs.Book.{linesOk, linesSound}
 use Rattle.rules.specs.Right.{RightLines}
 use Rattle.rules.proofs.BytesLaws.{line-suc}
-use Rattle.rules.proofs.BookLaws.{linesOk-each, linesSound-each, rising-linesSound}
+use Rattle.rules.proofs.LinesLaws.{linesOk-each, linesSound-each, rising-linesSound}
 
 module _ (ok : List ℕ → Bool) where
   -- Any n lines, `before` being the number before them.

@@ -2,7 +2,8 @@
 use native.Mathlib.Omega.{arith}
 use borrow.Author.Needs.{needs}
 use Rattle.rules.specs.Book.{unitOk}
-use Rattle.rules.proofs.BookLaws.{Accepted, accepted-facts, rising-linesSound}
+use Rattle.rules.proofs.LinesLaws.{rising-linesSound}
+use Rattle.rules.proofs.BookLaws.{Accepted, accepted-facts}
 use Rattle.rules.proofs.hints.note_units.Statement.{statement}
 use Rattle.rules.proofs.hints.note_units.Tie as tie
 
