@@ -19,9 +19,9 @@ use Rattle.rules.specs.declared.record.Outcome.{Outcome}
 use Rattle.rules.specs.declared.record.Outcome.the-variants.{SetAside}
 use Rattle.rules.specs.Bytes.{zeros, line, lines, linesIn}
 use Rattle.rules.specs.Fields.{number}
-use Rattle.rules.specs.Book.{unitOk, fuelOk, lineOk}
+use Rattle.rules.specs.Book.{unitOk, fuelOk}
 use Rattle.rules.specs.Record.{listed}
-use Rattle.rules.specs.Listing.{headOk, blankFrom, numberAt, place, Rising}
+use Rattle.rules.specs.Listing.{lineOk, headOk, blankFrom, numberAt, place, Rising}
 use Rattle.rules.proofs.BytesLaws.{line-suc}
 
 -- ---- a line by its named bytes and its blank

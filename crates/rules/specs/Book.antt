@@ -6,7 +6,6 @@
 --     startsOk u f e            the two starts are right, the trailer starting at byte e
 --     trailerOk t e             t is a right trailer that starts at byte e (else 21)
 --     unitOk u, fuelOk f        a line that breaks no rule, its number aside
---     lineOk k l                the same for a line of the sort k
 --     linesOk ok before ls      no line of ls breaks a rule, `before` being the number before them
 --     linesSound ok s           at most `mostLines` lines in s, and none breaks a rule (else 22, 23)
 --     trailer s                 the last line of a book
@@ -29,8 +28,6 @@ use Rattle.rules.specs.declared.book.Opened.{Opened}
 use Rattle.rules.specs.declared.book.Opened.the-variants.{Wrong, Open}
 use Rattle.rules.specs.declared.book.Fault.{Fault}
 use Rattle.rules.specs.declared.book.Fault.the-variants.{Length, Trailer, Units, Fuels}
-use Rattle.rules.specs.declared.listing.Sort.{Sort}
-use Rattle.rules.specs.declared.listing.Sort.the-variants.{Unit, Fuel}
 use Rattle.rules.specs.Bytes.{part, linesIn}
 use Rattle.rules.specs.Fields.{signed, version, trailerGap, unitStart, fuelStart, year, trailerBlank, number, unitFlags, unitGap, rating, unitBlank, fuelKind, fuelClass, defaultHeat, co2Factor, ch4Factor, n2oFactor, fuelBlank}
 
@@ -83,10 +80,6 @@ fuelHeadOk f =
 
 unfoldable pub fuelOk : List ℕ → Bool
 fuelOk f = fuelHeadOk f also fuelBlank f
-
-abbrev pub lineOk : Sort → List ℕ → Bool
-lineOk Unit l = unitOk l
-lineOk Fuel l = fuelOk l
 
 -- The numbers rise strictly, and the first is above 0.
 unfoldable pub linesOk : (List ℕ → Bool) → ℕ → List (List ℕ) → Bool

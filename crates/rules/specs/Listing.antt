@@ -1,6 +1,7 @@
 -- What a scan of unit or fuel lines looks at, what a search of them finds, and on what lines a search
 -- by halving is right. These serve the code; RULES and the definitions of a record don't need them.
 --
+--     lineOk k l         a line of the sort k breaks no rule, its number aside
 --     headOk k l         the named bytes of a line of the sort k break no rule, its number aside
 --     blankFrom k        the byte from which no field of such a line is named
 --     numberAt k s       the number of line k of s
@@ -20,7 +21,11 @@ use Rattle.rules.specs.declared.listing.Sort.{Sort}
 use Rattle.rules.specs.declared.listing.Sort.the-variants.{Unit, Fuel}
 use Rattle.rules.specs.Bytes.{line}
 use Rattle.rules.specs.Fields.{number}
-use Rattle.rules.specs.Book.{mostLines, unitHeadOk, fuelHeadOk}
+use Rattle.rules.specs.Book.{mostLines, unitHeadOk, unitOk, fuelHeadOk, fuelOk}
+
+abbrev pub lineOk : Sort → List ℕ → Bool
+lineOk Unit l = unitOk l
+lineOk Fuel l = fuelOk l
 
 abbrev pub headOk : Sort → List ℕ → Bool
 headOk Unit l = unitHeadOk l

@@ -5,8 +5,8 @@ ghost use mathlib.Core.Path.{_≡_};
 ghost use Prim.Native.Nat.{_≤_};
 ghost use lib.ListN.{length};
 ghost use Rattle.rules.specs.Bytes.{linesIn};
-ghost use Rattle.rules.specs.Book.{unitHeadOk, kindClassOk, fuelHeadOk, lineOk, linesSound};
-ghost use Rattle.rules.specs.Listing.{place, Rising, headOk, blankFrom};
+ghost use Rattle.rules.specs.Book.{unitHeadOk, kindClassOk, fuelHeadOk, linesSound};
+ghost use Rattle.rules.specs.Listing.{lineOk, place, Rising, headOk, blankFrom};
 
 pub enum Sort {
     Unit,

@@ -7,7 +7,8 @@ use lib.ListN.{length, drop}
 use borrow.Author.Needs.{needs}
 use Rattle.choice.proofs.TestsLaws.{is-not, is-so}
 use Rattle.rules.specs.Bytes.{zeros, lines}
-use Rattle.rules.specs.Book.{lineOk, linesOk, linesSound}
+use Rattle.rules.specs.Book.{linesOk, linesSound}
+use Rattle.rules.specs.Listing.{lineOk}
 use Rattle.rules.proofs.BytesLaws.{blank-bad, blank-next, blank-end}
 use Rattle.rules.proofs.LinesLaws.{linesSound-many, linesSound-few, linesOk-end, Scanned, scanned-low, scanned-bad, scanned-next}
 use Rattle.rules.proofs.ListingLaws.{lineOk-bad, lineOk-blank}
