@@ -24,8 +24,7 @@ use Rattle.rules.specs.Record.{outcomeAt}
 use Rattle.rules.specs.Reader.{shown, sightAt}
 use Rattle.rules.specs.Right.{RightLines}
 use Rattle.rules.specs.Reason.{Reasons}
-use Rattle.rules.proofs.BookLaws.{opened-number}
-use Rattle.rules.proofs.NumberLaws.{opened-20, opened-21, opened-22, opened-23, opened-accepted}
+use Rattle.rules.proofs.NumberLaws.{opened-20, opened-21, opened-22, opened-23, opened-number, opened-accepted}
 use Rattle.rules.proofs.RightLaws.{linesSound-rightLines}
 use Rattle.rules.proofs.ReaderLaws.{sightAt-shown}
 use Rattle.rules.proofs.ReasonLaws.{reasons-outcomeAt}

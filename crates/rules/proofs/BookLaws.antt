@@ -1,15 +1,15 @@
 -- A trailer that is right, the answer by the first test that fails, and what is known of a book that is
 -- accepted. Assumes nothing.
 use Prim.Native.Nat.{ℕ, _-_, _*_, _/_, _%_, _≤_}
-use mathlib.Core.Bool.{Bool, true, false}
+use mathlib.Core.Bool.{true, false}
 use mathlib.Core.List.{List}
 use mathlib.Core.Path.{_≡_, refl, sym, ap, _∙_, subst}
 use native.Mathlib.Omega.{arith}
-use lib.Dec.{eqb, lit≤}
+use lib.Dec.{eqb}
 use lib.ListN.{length}
 use borrow.Author.Tests.{leb-true, eqb-true}
 use Rattle.choice.specs.Tests.{choose}
-use Rattle.choice.proofs.TestsLaws.{also-l, also-r, choose-t, choose-f, choose-true, choose-false, worked-out}
+use Rattle.choice.proofs.TestsLaws.{also-l, also-r, choose-t, choose-f, worked-out}
 use Rattle.rules.specs.declared.book.Head.{Head}
 use Rattle.rules.specs.declared.book.Opened.{Opened}
 use Rattle.rules.specs.declared.book.Opened.the-variants.{Wrong, Open}
@@ -18,6 +18,7 @@ use Rattle.rules.specs.declared.book.Fault.the-variants.{Length, Trailer
 use Rattle.rules.specs.Bytes.{part}
 use Rattle.rules.specs.Fields.{unitStart, fuelStart, year}
 use Rattle.rules.specs.Book.{longestBook, lengthOk, startsOk, trailerOk, unitOk, fuelOk, linesSound, trailer, headOf, unitLines, fuelLines, Answer, refused, accepted, opened, answer, faultNumber}
+use Rattle.rules.proofs.NumberLaws.{opened-accepted}
 
 -- ---- a right length and a right trailer
 pub record RightLength (s : List ℕ) : Type 0 where
@@ -133,25 +134,6 @@ pub opened-wrong : {o : Opened} {x : Fault} (s : List ℕ) → answer o ≡ open
 unfolding answer
 opened-wrong s e q = sym e ∙ ap answer q
 
--- Where a test turns a book away with the number m, its number is m; else the rest decides.
-refused-by : {x : Answer} {m n : ℕ} (t : Bool) → (20 ≤ m) × (m ≤ 23) → (x ≡ refused n → (20 ≤ n) × (n ≤ 23))
-    → choose t x (refused m) ≡ refused n → (20 ≤ n) × (n ≤ 23)
-refused-by true g rest e = rest (sym (choose-true _ _) ∙ e)
-refused-by {m = m} {n = n} false g rest e =
-    let number : refused m ≡ refused n = sym (choose-false _ _) ∙ e in
-    let same : m ≡ n = cc in
-    (omega arith, omega arith)
-
--- A book is refused with 20 to 23.
-pub opened-number : (s : List ℕ) (n : ℕ) → opened s ≡ refused n → (20 ≤ n) × (n ≤ 23)
-unfolding opened
-opened-number s n e =
-    refused-by (lengthOk s) (lit≤ tt, lit≤ tt)
-    (λ e₁. refused-by (trailerOk (trailer s) (length s - 32)) (lit≤ tt, lit≤ tt)
-    (λ e₂. refused-by (linesSound unitOk (unitLines (headOf s) s)) (lit≤ tt, lit≤ tt)
-    (λ e₃. refused-by (linesSound fuelOk (fuelLines (headOf s) s)) (lit≤ tt, lit≤ tt)
-    (λ e₄. let z : _≡_ {A = ℕ} 0 1 = cc in absurd (omega arith)) e₃) e₂) e₁) e
-
 -- ---- a book that is accepted
 pub record Accepted (s : List ℕ) (h : Head) : Type 0 where
   pub least : 32 ≤ length s
@@ -165,26 +147,13 @@ pub record Accepted (s : List ℕ) (h : Head) : Type 0 where
   pub units-sound : linesSound unitOk (unitLines h s) ≡ true
   pub fuels-sound : linesSound fuelOk (fuelLines h s) ≡ true
 
--- A test that was passed on the way to acceptance.
-passed : (t : Bool) (rest : Answer) (n : ℕ) (h : Head) → choose t rest (refused n) ≡ accepted h
-    → (t ≡ true) × (rest ≡ accepted h)
-passed true rest n h e = (refl, sym (choose-true _ _) ∙ e)
-passed false rest n h e =
-    let number : refused n ≡ accepted h = sym (choose-false _ _) ∙ e in
-    let never : _≡_ {A = ℕ} 0 1 = cc in
-    absurd (omega arith)
-
 pub accepted-facts : (s : List ℕ) (h : Head) → opened s ≡ accepted h → Accepted s h
-unfolding opened headOf
+unfolding headOf
 accepted-facts s h e =
-    let length-passed = passed _ _ 20 h e in
-    let trailer-passed = passed _ _ 21 h (length-passed .1) in
-    let units-passed = passed _ _ 22 h (trailer-passed .1) in
-    let fuels-passed = passed _ _ 23 h (units-passed .1) in
-    let right = lengthOk→right s (length-passed .0) in
-    let told = trailerOk→right (trailer s) (length s - 32) (trailer-passed .0) in
-    let head : headOf s ≡ h = cc in
-    subst (Accepted s) head (record {
+    let passed = opened-accepted s h .0 e in
+    let right = lengthOk→right s (passed .0) in
+    let told = trailerOk→right (trailer s) (length s - 32) (passed .1) in
+    subst (Accepted s) (sym (passed .4)) (record {
       least = right .least;
       most = right .most;
       length-is = refl;
@@ -193,6 +162,6 @@ accepted-facts s h e =
       fuels-le = told .fuels-le;
       year-least = told .year-least;
       year-most = told .year-most;
-      units-sound = units-passed .0;
-      fuels-sound = fuels-passed .0;
+      units-sound = passed .2;
+      fuels-sound = passed .3;
     })

@@ -2,8 +2,8 @@
 -- reader, worked sums, one whole book, uniqueness.
 pub mod BytesLaws
 pub mod LinesLaws
-pub mod BookLaws
 pub mod NumberLaws
+pub mod BookLaws
 pub mod RightLaws
 pub mod ListingLaws
 pub mod HintsLaws

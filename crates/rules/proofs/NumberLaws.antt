@@ -1,12 +1,12 @@
 -- Which answer any bytes get as a book, and exactly when, by the tests alone: a number where its own
--- test fails and those before it pass, for no two tests give one number. Assumes nothing.
-use Prim.Native.Nat.{ℕ, _-_}
+-- test fails and those before it pass, for no two tests give one number, and no other. Assumes nothing.
+use Prim.Native.Nat.{ℕ, _-_, _≤_}
 use mathlib.Core.Bool.{Bool, true, false}
 use mathlib.Core.List.{List}
 use mathlib.Core.Logic.{_↔_}
 use mathlib.Core.Path.{_≡_, refl, sym, ap, _∙_, subst}
 use native.Mathlib.Omega.{arith}
-use lib.Dec.{T, eqb}
+use lib.Dec.{T, eqb, lit≤}
 use lib.ListN.{length}
 use borrow.Author.Tests.{eq-eqb}
 use Rattle.choice.specs.Tests.{choose}
@@ -18,7 +18,7 @@ use Rattle.rules.specs.Book.{lengthOk, trailerOk, unitOk, fuelOk, linesS
 unlike : (m n : ℕ) → eqb m n ≡ false → refused m ≡ refused n → ⊥
 unlike m n d e = let same : m ≡ n = cc in subst T (sym (eq-eqb m n same) ∙ d) tt
 
-refused-accepted : (n : ℕ) (h : Head) → refused n ≡ accepted h → ⊥
+pub refused-accepted : (n : ℕ) (h : Head) → refused n ≡ accepted h → ⊥
 refused-accepted n h e = let never : _≡_ {A = ℕ} 0 1 = cc in absurd (omega arith)
 
 accepted-inj : (g h : Head) → accepted g ≡ accepted h → g ≡ h
@@ -27,7 +27,7 @@ accepted-inj g h e = cc
 -- ---- a test t that turns away with the number m, x being the answer to what passes it
 module _ {x : Answer} {m : ℕ} where
   -- Another answer is the answer to what passes.
-  passed : {y : Answer} (t : Bool) → choose t x (refused m) ≡ y → (refused m ≡ y → ⊥) → (t ≡ true) × (x ≡ y)
+  pub passed : {y : Answer} (t : Bool) → choose t x (refused m) ≡ y → (refused m ≡ y → ⊥) → (t ≡ true) × (x ≡ y)
   passed true e other = (refl, sym (choose-true _ _) ∙ e)
   passed false e other = absurd (other (sym (choose-false _ _) ∙ e))
 
@@ -123,3 +123,23 @@ module _ (s : List ℕ) where
         let same = ap accepted (sym (q .4)) in
         choose-t _ (q .0) (choose-t _ (q .1) (choose-t _ (q .2) (choose-t _ (q .3) same))),
   )
+
+-- ---- no other number
+-- Where a test turns a book away with the number m, its number is m; else the rest decides.
+refused-by : {x : Answer} {m n : ℕ} (t : Bool) → (20 ≤ m) × (m ≤ 23) → (x ≡ refused n → (20 ≤ n) × (n ≤ 23))
+    → choose t x (refused m) ≡ refused n → (20 ≤ n) × (n ≤ 23)
+refused-by true g rest e = rest (sym (choose-true _ _) ∙ e)
+refused-by {m = m} {n = n} false g rest e =
+    let number : refused m ≡ refused n = sym (choose-false _ _) ∙ e in
+    let same : m ≡ n = cc in
+    (omega arith, omega arith)
+
+-- A book is refused with 20 to 23.
+pub opened-number : (s : List ℕ) (n : ℕ) → opened s ≡ refused n → (20 ≤ n) × (n ≤ 23)
+unfolding opened
+opened-number s n e =
+    refused-by (lengthOk s) (lit≤ tt, lit≤ tt)
+    (λ e₁. refused-by (trailerOk (trailer s) (length s - 32)) (lit≤ tt, lit≤ tt)
+    (λ e₂. refused-by (linesSound unitOk (unitLines (headOf s) s)) (lit≤ tt, lit≤ tt)
+    (λ e₃. refused-by (linesSound fuelOk (fuelLines (headOf s) s)) (lit≤ tt, lit≤ tt)
+    (λ e₄. absurd (accepted-never s n e₄)) e₃) e₂) e₁) e
