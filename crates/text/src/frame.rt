@@ -5,6 +5,7 @@ use crate::page::Page;
 use mass::Ng;
 use mass::Ug;
 use rules::book;
+use rules::bytes::are_zero;
 use rules::bytes::read_word;
 use rules::entry::Destination;
 use rules::entry::Entry;
@@ -72,20 +73,20 @@ fn is_right(head: &[u8]) -> bool
     ensures right { λ r. ⌜ r ≡ headOk (now (head .entry)) ⌝ }
 {
     let call = read_word(head, CALL, 1);
-    let gap = read_word(head, GAP, 3);
+    let gap = are_zero(head, GAP, ARGUMENT);
     let argument_right = is_argument_right(call, read_word(head, ARGUMENT, 4));
     let book = read_word(head, BOOK, 4);
     let checkpoint = read_word(head, CHECKPOINT, 4);
     let out = read_word(head, OUT, 4);
-    let blank = read_word(head, BLANK, 4);
+    let blank = are_zero(head, BLANK, SIZE);
     (1 <= call)
         & (call <= 4)
-        & (gap == 0)
+        & gap
         & argument_right
         & (book <= LONGEST)
         & (checkpoint <= LONGEST)
         & (out <= LONGEST)
-        & (blank == 0)
+        & blank
 }
 
 fn is_argument_right(call: u64, argument: u64) -> bool
