@@ -19,6 +19,8 @@ show: job files io libc
 pub mod ledger;
 === crates/mass/src/ledger.rt
 // The parser passes over a `pub fn` in a comment. A tonne is 10^15 ng; the rest is below it.
+ghost use Rattle.mass.specs.Ledger.{added, Few, restOf};
+
 pub struct Ledger {
     pub rest: u64,
 }
@@ -56,6 +58,27 @@ Few g = g .rest < tonne
 
 pub restOf : Ledger → ℕ
 restOf g = g .rest
+
+pub data Kind : Type 0 where
+  whole : Kind
+
+-- Only a promise reaches it, by the infix name.
+unfoldable pub _within_ : Ledger → Kind → Type 0
+_within_ g whole = Few g
+
+pub record Whole (g : Ledger) : Type 0 where
+  pub below : Few g
+=== crates/mass/specs/Carry.antt
+use Rattle.mass.specs.Ledger as ledger
+
+pub carried : Ledger → Ledger
+carried g = ledger.added g 0
+=== crates/mass/proofs/LedgerLaws.antt
+use Rattle.mass.specs.Ledger.{added, Whole}
+
+pub whole-added : (g : Ledger) → Whole g
+    → Whole (added g 0)
+whole-added g w = w
 === crates/mass/proofs/Unique.antt
 use Rattle.mass.proofs.ledger.Ledger.rest.Reads as rest
 use Rattle.mass.proofs.ledger.add.Reads as add
@@ -73,6 +96,8 @@ file: src/ledger.rt
 old: g.rest + x
 new: g.rest - x
 === crates/job/src/lib.rt
+ghost use Rattle.job.specs.Wake.{woken, tailOf};
+
 #[no_mangle]
 pub extern "C" fn wake(
     book: &[u8],
@@ -100,6 +125,15 @@ woken b = 0
 
 pub tailOf : List ℕ → List ℕ
 tailOf b = drop 1 b
+=== crates/job/proofs/Demands.antt
+use Rattle.mass.specs.Ledger.{added, restOf, _within_, whole}
+use Rattle.job.specs.Wake as wake
+use Rattle.files.specs.Got.{Within}
+
+pub record Demand (g : Ledger) : Type 0 where
+  pub kept : restOf (added g 0) ≡ wake.woken []
+  pub held : g within whole
+  pub read : Within (length (wake.tailOf [])) []
 === crates/job/proofs/Unique.antt
 use Rattle.job.proofs.wake.Reads as wake
 use Rattle.job.proofs.tail.Reads as tail
@@ -130,6 +164,8 @@ returns : tie.Need-returns
 unfolding woken take
 returns c = unfold woken in lemma-of c plus "?"
 === crates/files/src/lib.rt
+ghost use Rattle.files.specs.Got.{Within};
+
 pub fn read_all(fd: i32, buf: &mut [u8]) -> usize
     ensures within { λ r. ⌜ Within r (now (buf .exit)) ⌝ }
 {
@@ -141,6 +177,26 @@ Within n xs = n ≤ length xs
 === crates/show/src/main.rt
 pub fn helper() {}
 fn main() {}
+=== docs/TRUST.md
+| definitions | lines | what they fix |
+|---|---|---|
+| `mass`: [Ledger](../crates/mass/specs/Ledger.antt) | 22 | ledgers |
+| `job`: [Wake](../crates/job/specs/Wake.antt) | 5 | wakes |
+| `files`: [Got](../crates/files/specs/Got.antt) | 2 | counts |
+
+`whole-added` of [LedgerLaws](../crates/mass/proofs/LedgerLaws.antt): a whole ledger stays whole.
+=== docs/FORMAT.md
+## One book
+
+```
+0000  01 ff
+0010  20
+```
+=== crates/rules/proofs/Sample.antt
+sampleBook =
+    0x01 ∷ 0xff
+    ∷ 0x20
+    ∷ []
 === docs/CONTRACTS.md
 # Contracts
 
@@ -211,7 +267,7 @@ LEDGER, WAKE = "crates/mass/src/ledger.rt", "crates/job/src/lib.rt"
 SPEC, PROOF = "crates/mass/specs/Ledger.antt", "crates/job/proofs/wake/Proof.antt"
 FILES = "crates/files/src/lib.rt"
 MASS_LAWS, JOB_LAWS = "crates/mass/proofs/Unique.antt", "crates/job/proofs/Unique.antt"
-PAGE, LOG = "docs/CONTRACTS.md", "target/log/mass.out"
+PAGE, TRUST, LOG = "docs/CONTRACTS.md", "docs/TRUST.md", "target/log/mass.out"
 EDIT_LOG = "target/must-fail/mass/ledger_rest_is_the_carry/.log"
 
 # The rule, the file, old text, new text, and words of the fault. A file of no old text is removed.
@@ -261,6 +317,17 @@ EDITS = [
     ("unfolding", PROOF, "unfold woken in", "unfold woken plus in", "unfolds plus"),
     ("unfolding", PROOF, "{added as plus, restOf}\n", "*\nuse lib.Sum.{plus}\nunfolding restOf\n",
      "unfolds restOf"),
+    ("reading", "crates/job/proofs/Demands.antt", "  pub held : g within whole\n", "",
+     "has Kind, _within_, whole, which nothing promised reaches"),
+    ("reading", TRUST, "`whole-added` of", "`whole-added` in", "has Whole, which nothing promised"),
+    ("reading", TRUST, "[Wake](../crates/job/specs/Wake.antt)", "Wake", "not listed in docs/TRUST.md"),
+    ("reading", TRUST, "[Got](", "[Got](../crates/files/specs/Got.antt), [Got](", "docs/TRUST.md"),
+    ("reading", TRUST, "[Ledger](", "[Carry](../crates/mass/specs/Carry.antt), [Ledger](",
+     "docs/TRUST.md"),
+    ("reading", TRUST, "| 22 |", "| 23 |", "says 23 lines of mass, which has 22"),
+    ("sample", "docs/FORMAT.md", "01 ff", "01 fe", "prints another book"),
+    ("sample", "docs/FORMAT.md", "```\n0000", "0000", "prints another book"),
+    ("sample", "crates/rules/proofs/Sample.antt", "    ∷ 0x20\n", "", "prints another book"),
     ("axiom", PROOF, "lemma-of c", "Prim.lem c", "uses lem"),
     ("axiom", PROOF, "lemma-of c", "(ac c)", "uses ac"),
     ("hole", PROOF, "lemma-of c", "(lemma-of ?)", "has a hole"),
@@ -276,13 +343,13 @@ EDITS = [
     ("check", LOG, "logic=proved", "logic=not-proved", "no log of a proved check"),
     ("check", LOG, None, None, "no log of a proved check"),
     ("leftover", "run.sh", "proofs first", "TODO", "line 2 has a mark of open work"),
-    ("leftover", LEDGER, "    x\n}", "    // let y = x;\n    x\n}", "line 16 is code"),
+    ("leftover", LEDGER, "    x\n}", "    // let y = x;\n    x\n}", "line 18 is code"),
     ("leftover", LEDGER, "// The sum may", "// self.rest = g;\n// The sum may", "is code"),
-    ("leftover", WAKE, "#[no_mangle]", "// use mass::ledger;\n#[no_mangle]", "line 1 is code"),
+    ("leftover", WAKE, "#[no_mangle]", "// use mass::ledger;\n#[no_mangle]", "line 3 is code"),
     ("leftover", PROOF, "use lib", "-- use lib", "line 2 is code"),
     ("leftover", PROOF, "unfolding", "-- unfolding", "is code"),
-    ("leftover", SPEC, "pub restOf", "-- pub total : Ledger → ℕ\npub restOf", "is code"),
-    ("leftover", SPEC, "pub restOf", "-- total g = tonne + g .rest\npub restOf", "is code"),
+    ("leftover", SPEC, "--     added g x    g with x ng more", "-- pub total : Ledger → ℕ", "is code"),
+    ("leftover", SPEC, "--     added g x    g with x ng more", "-- total g = tonne + g .rest", "is code"),
     ("leftover", "run.sh", "exit 0", '# rm -f "$log"\nexit 0', "line 3 is code"),
     ("leftover", "run.sh", "exit 0", "# import os\n# count = 0\nexit 0", "is code"),
 ]
