@@ -5,7 +5,7 @@
 --     reportFor h c    the reply to a report of an opened book with the head h
 --     leftFor h c      the reply to a count of the records left of such a book
 --
--- Laws: proofs/ReportLaws.antt. Definitions only.
+-- Laws: proofs/AdmissionLaws.antt, proofs/ReportLaws.antt. Definitions only.
 use Prim.Native.Nat.{ℕ, _-_}
 use mathlib.Core.List.{List, [], _∷_}
 use Rattle.rules.specs.declared.book.Head.{Head}

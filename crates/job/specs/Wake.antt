@@ -1,13 +1,15 @@
 -- What a fresh start and a wake reply and write. RULES, "Calls" and "Numbers".
 --
---     ifOpen a refuse go          refuse with the number that refused a book, or go with its head
---     admittedFor h c               the head h of a book, or the number that refuses c as its checkpoint
---     admitted k c                  the head of the book k, or the first number that refuses k or c
---     freshAdmitted k out refuse go the first number that refuses a fresh start, or what it does otherwise
---     wakeAdmitted k c out refuse go    the same of a wake
---     freshReply k out, freshBytes k out       the reply, and the output buffer afterwards
---     moves h c b              how many records a wake with budget b goes through
---     wakeReply k c b out, wakeBytes k c b out the reply, and the output buffer afterwards
+--     ifOpen a refuse go                refuse with the number that refused a book, or go with its head
+--     freshAdmitted k out refuse go     the first number that refuses a fresh start, or what it does otherwise
+--     freshReply k out                  the reply to a fresh start
+--     freshBytes k out                  the output buffer after it
+--     admittedFor h c                   the head h of a book, or the number that refuses c as its checkpoint
+--     admitted k c                      the head of the book k, or the first number that refuses k or c
+--     wakeAdmitted k c out refuse go    the first number that refuses a wake, or what it does otherwise
+--     moves h c b                       how many records a wake with budget b goes through
+--     wakeReply k c b out               the reply to a wake
+--     wakeBytes k c b out               the output buffer after it
 --
 -- Laws: proofs/WakeLaws.antt. Definitions only.
 use Prim.Native.Nat.{ℕ, _-_, min}

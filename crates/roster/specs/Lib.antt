@@ -5,4 +5,5 @@ pub mod Lines
 pub mod Plants
 pub mod Right
 pub mod Place
+-- What serves the code alone.
 pub mod Search

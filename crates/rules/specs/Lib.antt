@@ -1,4 +1,5 @@
--- What a reader must believe of a book and its records, in the order of RULES.
+-- What a reader must believe of a book and its records, in the order of RULES; then the hints, which
+-- the contract of their functions needs.
 pub mod Bytes
 pub mod Fields
 pub mod Book
@@ -7,6 +8,7 @@ pub mod Method
 pub mod Entry
 pub mod Record
 pub mod Reason
-pub mod Listing
-pub mod Hints
 pub mod Reader
+pub mod Hints
+-- What serves the code alone.
+pub mod Listing
