@@ -5,12 +5,14 @@ use files::Got;
 use files::kept;
 use files::kept::Kept;
 use files::kept::Place;
+use files::save::LONGEST_PATH;
 use job::checkpoint;
 use job::reply::Refusal;
 use job::reply::Remaining;
 use libc::STDERR_FILENO;
 use libc::STDOUT_FILENO;
 use roster::plants;
+use text::page;
 use text::page::Page;
 use text::progress;
 use text::report;
@@ -115,9 +117,12 @@ fn refuse(line: &[u8], x: Refusal) -> u32 {
     0
 }
 
+// The longest book's path, a space and a page.
+const TOLD_ROOM: usize = LONGEST_PATH + 1 + page::SIZE;
+
 // The plant's book and a space in front of the page, in one piece.
 fn tell(line: &[u8], p: Page) {
-    let mut room = [0u8; 4608];
+    let mut room = [0u8; TOLD_ROOM];
     let n = files::put(&mut room, 0, plants::take_book(line));
     let n = files::put(&mut room, n, b" ");
     let bytes = p.bytes;

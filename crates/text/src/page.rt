@@ -2,11 +2,12 @@
 ghost use mathlib.Core.Path.{_≡_};
 ghost use Rattle.text.specs.Extended as spec;
 
-pub(crate) const SIZE: usize = 512;
+// The most bytes that a page holds.
+pub const SIZE: usize = 512;
 
 pub struct Page {
     // What is written stands in the first `len` bytes; the rest is 0.
-    pub bytes: [u8; 512],
+    pub bytes: [u8; SIZE],
     pub len: usize,
 }
 
@@ -14,7 +15,7 @@ pub(crate) fn take_blank() -> Page
     ensures blank { λ r. ⌜ r ≡ spec.blank ⌝ }
 {
     Page {
-        bytes: [0u8; 512],
+        bytes: [0u8; SIZE],
         len: 0,
     }
 }
