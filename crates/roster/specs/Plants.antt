@@ -2,7 +2,7 @@
 --
 --     mostPlants                 16
 --     longestBookPath            4,095
---     longestCheckpointPath      4,088
+--     longestCheckpointPath      4,083
 --     space                      the byte between BOOK and CHECKPOINT
 --     visible w                  every byte of w is above 32
 --     isWord m w                 w is a word of at most m bytes
@@ -34,7 +34,7 @@ abbrev pub longestBookPath : ℕ
 longestBookPath = 4095
 
 abbrev pub longestCheckpointPath : ℕ
-longestCheckpointPath = 4088
+longestCheckpointPath = 4083
 
 abbrev pub space : ℕ
 space = 32

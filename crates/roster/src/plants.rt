@@ -28,7 +28,8 @@ const MOST_PLANTS: u8 = 16;
 
 const LONGEST_BOOK_PATH: usize = 4095;
 
-const LONGEST_CHECKPOINT_PATH: usize = 4088;
+// A path has at most 4,095 bytes, and the names that are saved beside CHECKPOINT have up to 12 more.
+const LONGEST_CHECKPOINT_PATH: usize = 4083;
 
 const SPACE: u8 = 32;
 
