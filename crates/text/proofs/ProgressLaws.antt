@@ -77,7 +77,7 @@ module _ (gap : List ℕ) (h : Head) (m : ℕ) where
         (wider (refusedText-le n vs) (omega arith)))
 
 -- ---- the hint beside a refusal
-pub hintText-fresh : hintText 30 ≡ ascii "the checkpoint isn't this book's; wake BOOK CHECKPOINT BUDGET fresh starts anew\n"
+pub hintText-fresh : hintText 30 ≡ ascii " isn't this book's checkpoint; wake BOOK CHECKPOINT BUDGET fresh starts anew\n"
 unfolding hintText
 hintText-fresh = choose-t _ (either-t {a = eqb 30 30} (eqb 30 31) refl) refl
 

@@ -6,7 +6,8 @@
 --     progressWith gap k c m   what is printed of a wake of the book k that went through m records and saved c
 --     progressText k c m       the same as `wake` prints it: how far it went in two lines
 --     turnText k c m           the same as `tablet` prints it, behind a plant's name: in one line
---     hintText n               what an operator is told beside a refusal: what 30 and 31 ask for
+--     hintText n               what an operator is told beside a refusal, behind the checkpoint's path: what 30 and
+--                              31 ask for
 --
 -- Laws: proofs/ProgressLaws.antt. Definitions only.
 use Prim.Native.Nat.{ℕ}
@@ -43,5 +44,5 @@ turnText k c m = progressWith (ascii " done ") k c m
 unfoldable pub hintText : ℕ → List ℕ
 hintText n =
     choose (eqb n 30 either eqb n 31)
-    (ascii "the checkpoint isn't this book's; wake BOOK CHECKPOINT BUDGET fresh starts anew\n")
+    (ascii " isn't this book's checkpoint; wake BOOK CHECKPOINT BUDGET fresh starts anew\n")
     []

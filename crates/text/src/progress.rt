@@ -75,7 +75,8 @@ fn say_moved(p: Page, gap: &[u8], h: Head, moved: u32, done: u64) -> Page
     number::say_line(q, b" of ", h.n as u64)
 }
 
-// What the operator does about a refusal, where there is something.
+// What the operator does about a refusal, where there is something: the words stand behind the checkpoint's
+// path.
 pub fn hint(x: Refusal) -> Page
     ensures text { λ r. ⌜ r ≡ pageOf (hintText (refusalNumber x)) ⌝ }
 {
@@ -92,6 +93,6 @@ fn hint_fresh() -> Page
 {
     page::say(
         page::take_blank(),
-        b"the checkpoint isn't this book's; wake BOOK CHECKPOINT BUDGET fresh starts anew\n",
+        b" isn't this book's checkpoint; wake BOOK CHECKPOINT BUDGET fresh starts anew\n",
     )
 }
