@@ -1,4 +1,5 @@
--- What frames say, part by part; each answer is 64 bytes long. Assumes nothing.
+-- What frames say, part by part; each answer is 64 bytes long, and what is told of a broken frame fits on a page.
+-- Assumes nothing.
 use Prim.Native.Nat.{ℕ, suc, _+_, _<_, _≤_}
 use mathlib.Core.Bool.{Bool, true, false}
 use mathlib.Core.List.{List, _∷_, _++_}
@@ -20,13 +21,17 @@ use Rattle.rules.specs.Reader.{shown, sight}
 use Rattle.rules.proofs.BytesLaws.{length-bytesOf}
 use Rattle.rules.proofs.ReaderLaws.{sight-refused, sight-missing, sight-record}
 use Rattle.text.specs.declared.frame.Asked.the-variants.{Call, Stop}
+use Rattle.text.specs.declared.frame.Broken.{Broken}
+use Rattle.text.specs.declared.frame.Broken.the-variants.{Head, Cut}
 use Rattle.text.specs.declared.frame.Frame.{Frame}
 use Rattle.text.specs.declared.frame.Told.{Told}
 use Rattle.text.specs.declared.page.Page.{Page}
 use Rattle.text.specs.Page.{pageOf}
 use Rattle.text.specs.Extended.{blank, extended}
-use Rattle.text.specs.Frame.{headSize, headOk, frameIn, askedIn, callAnswer, numberOf, same, figure, figuresPart, changePart, reportPart, reportAnswer, uncounted, toldOf, toldBytes}
+use Rattle.text.specs.Words.{ascii}
+use Rattle.text.specs.Frame.{headSize, headOk, frameIn, askedIn, callAnswer, numberOf, same, figure, figuresPart, changePart, reportPart, reportAnswer, uncounted, toldOf, toldBytes, breachText, brokenText}
 use Rattle.text.proofs.PageLaws.{extended-blank}
+use Rattle.text.proofs.WordsLaws.{AtMost, append-le, word-le, field-le, wider}
 
 -- ---- the head of a call
 module _ (head : List ℕ) where
@@ -139,3 +144,12 @@ toldOf-missing d = d ∙ ap toldOf (sym sight-missing)
 
 pub toldOf-record : {t : Told} (o : Outcome) → t ≡ toldOf (shown o) → t ≡ toldOf (sight (Record o))
 toldOf-record o d = d ∙ ap toldOf (sym (sight-record o))
+
+-- ---- how long what is told of a broken frame is at most
+breachText-le : (x : Broken) → AtMost 34 (breachText x)
+breachText-le Head = word-le (ascii " has a head that breaks the rules\n")
+breachText-le Cut = wider (word-le (ascii " is cut short\n")) (omega arith)
+
+pub brokenText-le : (i : ℕ) (x : Broken) → AtMost 60 (brokenText i x)
+unfolding brokenText
+brokenText-le i x = append-le (field-le (ascii "frame ") i) (breachText-le x)

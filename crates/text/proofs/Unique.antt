@@ -13,6 +13,7 @@ use Rattle.text.proofs.frame.read.Reads as frame-read
 use Rattle.text.proofs.frame.answer_call.Reads as answer-call
 use Rattle.text.proofs.frame.answer_report.Reads as answer-report
 use Rattle.text.proofs.frame.answer_record.Reads as answer-record
+use Rattle.text.proofs.frame.tell_broken.Reads as tell-broken
 
 pub tell-year-unique : (κs : _) (a : _) (r s : _) (x y : _)
     → tell-year.Post κs a r x → tell-year.Post κs a s y → r ≡ s
@@ -60,3 +61,7 @@ answer-report-unique κs a r s x y p q = p ∙ sym q
 pub answer-record-unique : (κs : _) (a : _) (r s : _) (x y : _)
     → answer-record.Post κs a r x → answer-record.Post κs a s y → r ≡ s
 answer-record-unique κs a r s x y p q = p ∙ sym q
+
+pub tell-broken-unique : (κs : _) (a : _) (r s : _) (x y : _)
+    → tell-broken.Post κs a r x → tell-broken.Post κs a s y → r ≡ s
+tell-broken-unique κs a r s x y p q = p ∙ sym q

@@ -1,4 +1,5 @@
--- Frames of `replay`: the 24 bytes that head a call, and the 64 that answer it. FORMAT, "Frames".
+-- Frames of `replay`: the 24 bytes that head a call, the 64 that answer it, and what is told of a frame at which
+-- the answers end. FORMAT, "Frames".
 --
 --     headSize                     24
 --     longestPart                  the most bytes of a book, of a checkpoint and of a buffer
@@ -21,6 +22,8 @@
 --     toldOf x                     what is told of what was seen of a record
 --     toldBytes t                  the same as bytes
 --     recordAnswer x               answers a look at a record that saw x
+--     breachText x                 what is wrong with a frame
+--     brokenText i x               the line on frame i, counted from 0, at which the answers end
 --
 -- Laws: proofs/FrameLaws.antt. Definitions only.
 use Prim.Native.Nat.{ℕ, _%_}
@@ -38,6 +41,9 @@ use Rattle.text.specs.declared.frame.Frame.{Frame}
 use Rattle.text.specs.declared.frame.Asked.{Asked}
 use Rattle.text.specs.declared.frame.Asked.the-variants.{Call, Stop}
 use Rattle.text.specs.declared.frame.Told.{Told}
+use Rattle.text.specs.declared.frame.Broken.{Broken}
+use Rattle.text.specs.declared.frame.Broken.the-variants.{Head, Cut}
+use Rattle.text.specs.Words.{ascii, field}
 
 -- ---- the head of a call
 abbrev pub headSize : ℕ
@@ -176,3 +182,11 @@ toldBytes t =
 
 unfoldable pub recordAnswer : Sight → List ℕ
 recordAnswer x = toldBytes (toldOf x)
+
+-- ---- the frame at which the answers end
+abbrev pub breachText : Broken → List ℕ
+breachText Head = ascii " has a head that breaks the rules\n"
+breachText Cut = ascii " is cut short\n"
+
+unfoldable pub brokenText : ℕ → Broken → List ℕ
+brokenText i x = field (ascii "frame ") i ++ breachText x

@@ -17,7 +17,7 @@ ghost use Rattle.choice.specs.Tests.{choose};
 ghost use Rattle.rules.specs.Reader.{shown, sight};
 ghost use Rattle.text.specs.Page.{pageOf};
 ghost use Rattle.text.specs.Extended.{extended};
-ghost use Rattle.text.specs.Frame.{argumentOk, headOk, frameIn, askedIn, callAnswer, same, figuresPart, changePart, reportPart, reportAnswer, ledgerNumber, uncounted, toldOf, toldBytes, recordAnswer};
+ghost use Rattle.text.specs.Frame.{argumentOk, headOk, frameIn, askedIn, callAnswer, same, figuresPart, changePart, reportPart, reportAnswer, ledgerNumber, uncounted, toldOf, toldBytes, recordAnswer, breachText, brokenText};
 
 pub struct Frame {
     // 1 fresh start, 2 wake, 3 report, 4 one record.
@@ -34,6 +34,14 @@ pub enum Asked {
     Call(Frame),
     // The bytes are no right head: nothing is answered from here on.
     Stop,
+}
+
+// Why the answers end at a frame.
+pub enum Broken {
+    // Its head breaks a rule.
+    Head,
+    // The input ends within it.
+    Cut,
 }
 
 const SIZE: usize = 24;
@@ -270,5 +278,22 @@ fn number_ledger(d: Destination) -> u64
         Destination::Fossil => 1,
         Destination::Biomass => 2,
         Destination::Nowhere => 0,
+    }
+}
+
+// The line on the frame at which the answers end; the first frame is frame 0.
+pub fn tell_broken(i: u64, x: Broken) -> Page
+    ensures text { λ r. ⌜ r ≡ pageOf (brokenText i x) ⌝ }
+{
+    let p = number::say_field(page::take_blank(), b"frame ", i);
+    say_breach(p, x)
+}
+
+fn say_breach(p: Page, x: Broken) -> Page
+    ensures said { λ r. ⌜ r ≡ extended p (breachText x) ⌝ }
+{
+    match x {
+        Broken::Head => page::say(p, b" has a head that breaks the rules\n"),
+        Broken::Cut => page::say(p, b" is cut short\n"),
     }
 }
