@@ -2,6 +2,7 @@
 pub mod PageLaws
 pub mod WordsLaws
 pub mod ReportLaws
+pub mod RefusalLaws
 pub mod ProgressLaws
 pub mod PlantsLaws
 pub mod LinesLaws

@@ -3,6 +3,7 @@
 use mathlib.Core.Path.{_≡_, sym, _∙_}
 use Rattle.text.proofs.report.tell_year.Reads as tell-year
 use Rattle.text.proofs.report.refuse.Reads as refuse
+use Rattle.text.proofs.refusal.is_told.Reads as is-told
 use Rattle.text.proofs.progress.tell_progress.Reads as tell-progress
 use Rattle.text.proofs.progress.tell_turn.Reads as tell-turn
 use Rattle.text.proofs.progress.hint.Reads as hint
@@ -22,6 +23,10 @@ tell-year-unique κs a r s x y p q = p ∙ sym q
 pub refuse-unique : (κs : _) (a : _) (r s : _) (x y : _)
     → refuse.Post κs a r x → refuse.Post κs a s y → r ≡ s
 refuse-unique κs a r s x y p q = p ∙ sym q
+
+pub is-told-unique : (κs : _) (a : _) (r s : _) (x y : _)
+    → is-told.Post κs a r x → is-told.Post κs a s y → r ≡ s
+is-told-unique κs a r s x y p q = p ∙ sym q
 
 pub tell-progress-unique : (κs : _) (a : _) (r s : _) (x y : _)
     → tell-progress.Post κs a r x → tell-progress.Post κs a s y → r ≡ s

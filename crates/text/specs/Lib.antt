@@ -2,6 +2,7 @@
 pub mod Words
 pub mod Page
 pub mod Report
+pub mod Refusal
 pub mod Progress
 pub mod Plants
 pub mod Lines

@@ -6,4 +6,5 @@ mod number;
 pub mod page;
 pub mod plants;
 pub mod progress;
+pub mod refusal;
 pub mod report;
