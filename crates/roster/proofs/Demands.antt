@@ -1,9 +1,9 @@
 -- What `roster` promises, as theorems. Read this file first.
 --
 -- t and u are lists of plants, i and j lines of them counted from 0, k any bytes that may have been saved.
--- The code gives `verdictOn t`, `lineAt i t`, `bookOf` and `checkpointOf` of a line, `after i t` and `through i t`,
--- and `placed t k`: those are its contracts, taken over below with their proofs. A program that serves plant i
--- saves `kept i t`, which is `after (suc i) t` and then `through (suc i) t`.
+-- The code gives `verdictOn t`, `lineAt i t`, `bookOf`, `checkpointOf` and `mistakeIn` of a line, `after i t` and
+-- `through i t`, and `placed t k`: those are its contracts, taken over below with their proofs. A program that serves
+-- plant i saves `kept i t`, which is `after (suc i) t` and then `through (suc i) t`.
 --
 -- Assumes nothing.
 use Prim.Native.Nat.{ℕ, _<_}
@@ -27,6 +27,7 @@ pub use Rattle.roster.proofs.lines.take_through.Met.{met as take-throug
 pub use Rattle.roster.proofs.plants.judge.Met.{met as judge-meets-its-contract}
 pub use Rattle.roster.proofs.plants.take_book.Met.{met as take-book-meets-its-contract}
 pub use Rattle.roster.proofs.plants.take_checkpoint.Met.{met as take-checkpoint-meets-its-contract}
+pub use Rattle.roster.proofs.mistake.find.Met.{met as find-mistake-meets-its-contract}
 pub use Rattle.roster.proofs.place.find.Met.{met as find-meets-its-contract}
 
 -- ---- 1. What is told of a list is what is true of it. `RightUpTo t i` (specs/Right.antt) is that its first i

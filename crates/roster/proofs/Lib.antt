@@ -2,6 +2,7 @@
 pub mod BytesLaws
 pub mod LinesLaws
 pub mod PlantsLaws
+pub mod MistakeLaws
 pub mod VerdictLaws
 pub mod ToldLaws
 pub mod PlaceLaws

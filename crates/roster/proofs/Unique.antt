@@ -8,6 +8,7 @@ use Rattle.roster.proofs.lines.take_through.Reads as take-through
 use Rattle.roster.proofs.plants.judge.Reads as judge
 use Rattle.roster.proofs.plants.take_book.Reads as take-book
 use Rattle.roster.proofs.plants.take_checkpoint.Reads as take-checkpoint
+use Rattle.roster.proofs.mistake.find.Reads as find-mistake
 use Rattle.roster.proofs.place.find.Reads as find
 
 pub take-line-unique : (κs : _) (a : _) (r s : _) (x y : _)
@@ -33,6 +34,10 @@ take-book-unique κs a r s x y p q = p ∙ sym q
 pub take-checkpoint-unique : (κs : _) (a : _) (r s : _) (x y : _)
     → take-checkpoint.Post κs a r x → take-checkpoint.Post κs a s y → now r ≡ now s
 take-checkpoint-unique κs a r s x y p q = p ∙ sym q
+
+pub find-mistake-unique : (κs : _) (a : _) (r s : _) (x y : _)
+    → find-mistake.Post κs a r x → find-mistake.Post κs a s y → r ≡ s
+find-mistake-unique κs a r s x y p q = p ∙ sym q
 
 pub find-unique : (κs : _) (a : _) (r s : _) (x y : _)
     → find.Post κs a r x → find.Post κs a s y → r ≡ s

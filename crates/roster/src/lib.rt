@@ -2,5 +2,6 @@
 // Slices in, slices and numbers out. Nothing here asks anything of its caller.
 mod bytes;
 pub mod lines;
+pub mod mistake;
 pub mod place;
 pub mod plants;

@@ -26,12 +26,12 @@ pub(crate) enum Part {
 
 const MOST_PLANTS: u8 = 16;
 
-const LONGEST_BOOK_PATH: usize = 4095;
+pub(crate) const LONGEST_BOOK_PATH: usize = 4095;
 
 // A path has at most 4,095 bytes, and the names that are saved beside CHECKPOINT have up to 12 more.
-const LONGEST_CHECKPOINT_PATH: usize = 4083;
+pub(crate) const LONGEST_CHECKPOINT_PATH: usize = 4083;
 
-const SPACE: u8 = 32;
+pub(crate) const SPACE: u8 = 32;
 
 // The verdict on a list: how many plants it names, or its first fault.
 pub fn judge(list: &[u8]) -> Listed
