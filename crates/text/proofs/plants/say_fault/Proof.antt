@@ -13,20 +13,23 @@ enum-told c = search needs
 enum-known-x : tie.Need-enum-known-x
 enum-known-x c = search needs
 
+cast-take-line : tie.Need-cast-take-line
+cast-take-line c = search needs
+
+take-line-requires : tie.Need-take-line-requires
+take-line-requires c κs = search needs
+
+say-wrong-requires : tie.Need-say-wrong-requires
+say-wrong-requires c κs = search needs
+
+enum-known-x-2 : tie.Need-enum-known-x-2
+enum-known-x-2 c = search needs
+
 slice-aggregate-say-of-line : tie.Need-slice-aggregate-say-of-line
 slice-aggregate-say-of-line c = search needs
 
 say-of-line-requires : tie.Need-say-of-line-requires
 say-of-line-requires c κs = search needs
-
-enum-known-x-2 : tie.Need-enum-known-x-2
-enum-known-x-2 c = search needs
-
-slice-aggregate-say-of-line-2 : tie.Need-slice-aggregate-say-of-line-2
-slice-aggregate-say-of-line-2 c = search needs
-
-say-of-line-requires-2 : tie.Need-say-of-line-requires-2
-say-of-line-requires-2 c κs = search needs
 
 enum-told-2 : tie.Need-enum-told-2
 enum-told-2 c = search needs
@@ -38,16 +41,18 @@ say-requires : tie.Need-say-requires
 say-requires c κs = search needs
 
 returns : tie.Need-returns
-returns c = extended-none _ ∙ ap (extended _) (sym (faultText-plants (c .enum-told .given .1)))
+returns c = extended-none _ ∙ ap (extended _) (sym (faultText-plants _ (c .enum-told .given .1)))
 
 returns-2 : tie.Need-returns-2
-returns-2 c = c .say-of-line .ensures ∙ ap (extended _) (sym (faultText-wrong (c .before .before .before .x .given .1)))
+returns-2 c =
+    let wrong = c .before .before .before .x .given .1 in
+    c .say-wrong .ensures ∙ ap (extended _) (sym (faultText-wrong _ _ (c .before .take-line .ensures) wrong))
 
 returns-3 : tie.Need-returns-3
-returns-3 c = c .say-of-line2 .ensures ∙ ap (extended _) (sym (faultText-again (c .before .before .before .x2 .given .1)))
+returns-3 c = c .say-of-line .ensures ∙ ap (extended _) (sym (faultText-again _ (c .before .before .before .x2 .given .1)))
 
 returns-4 : tie.Need-returns-4
-returns-4 c = c .say .ensures ∙ ap (extended _) (sym (faultText-many (c .before .before .enum-told2 .given .1)))
+returns-4 c = c .say .ensures ∙ ap (extended _) (sym (faultText-many _ (c .before .before .enum-told2 .given .1)))
 
 pub say-fault-spec : {M : Type 1} → statement M
 say-fault-spec =
@@ -55,11 +60,12 @@ say-fault-spec =
     (tie.spec
     enum-told
     enum-known-x
+    cast-take-line
+    take-line-requires
+    say-wrong-requires
+    enum-known-x-2
     slice-aggregate-say-of-line
     say-of-line-requires
-    enum-known-x-2
-    slice-aggregate-say-of-line-2
-    say-of-line-requires-2
     enum-told-2
     slice-aggregate-say
     say-requires

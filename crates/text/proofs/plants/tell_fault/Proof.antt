@@ -16,7 +16,7 @@ say-fault-requires c κs = search needs
 returns : tie.Need-returns
 returns c =
     extended-blank _ (c .before .take-blank .ensures) (c .say-fault .ensures)
-    (wider (faultText-le _) (omega arith) .le)
+    (wider (faultText-le _ _) (omega arith) .le)
 
 pub tell-fault-spec : {M : Type 1} → statement M
 tell-fault-spec = tie.close (tie.spec take-blank-requires say-fault-requires returns)
