@@ -2,10 +2,12 @@
 pub mod PageLaws
 pub mod WordsLaws
 pub mod ReportLaws
-pub mod RefusalLaws
 pub mod ProgressLaws
 pub mod PlantsLaws
 pub mod LinesLaws
 pub mod BudgetLaws
 pub mod FrameLaws
+pub mod RefusalLaws
+pub mod QuietLaws
+pub mod ToldLaws
 pub mod Unique
