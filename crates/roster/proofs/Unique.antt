@@ -2,6 +2,7 @@
 -- Assumes nothing.
 use mathlib.Core.Path.{_≡_, sym, _∙_}
 use denote.Ref.{now}
+use Rattle.roster.proofs.bytes.are_same.Reads as are-same
 use Rattle.roster.proofs.lines.take_line.Reads as take-line
 use Rattle.roster.proofs.lines.take_after.Reads as take-after
 use Rattle.roster.proofs.lines.take_through.Reads as take-through
@@ -10,6 +11,10 @@ use Rattle.roster.proofs.plants.take_book.Reads as take-book
 use Rattle.roster.proofs.plants.take_checkpoint.Reads as take-checkpoint
 use Rattle.roster.proofs.mistake.find.Reads as find-mistake
 use Rattle.roster.proofs.place.find.Reads as find
+
+pub are-same-unique : (κs : _) (a : _) (r s : _) (x y : _)
+    → are-same.Post κs a r x → are-same.Post κs a s y → r ≡ s
+are-same-unique κs a r s x y p q = p ∙ sym q
 
 pub take-line-unique : (κs : _) (a : _) (r s : _) (x y : _)
     → take-line.Post κs a r x → take-line.Post κs a s y → now r ≡ now s

@@ -45,7 +45,8 @@ pub(crate) fn take_rest(bytes: &[u8], b: u8) -> &[u8]
     &bytes[n + 1..]
 }
 
-pub(crate) fn are_same(xs: &[u8], ys: &[u8]) -> bool
+// Whether the two are the same bytes.
+pub fn are_same(xs: &[u8], ys: &[u8]) -> bool
     ensures same { λ r. ⌜ r ≡ same (now (xs .entry)) (now (ys .entry)) ⌝ }
 {
     if xs.len() != ys.len() {
