@@ -1,17 +1,24 @@
-// The annual report of the book on standard input, or the line that refuses it.
+// The annual report of the book on standard input, or the line that refuses it: `annual <BOOK`.
 use files::Got;
-use libc::STDIN_FILENO;
-use libc::STDOUT_FILENO;
+use files::ended;
+use files::ended::Ended;
 use text::report;
 
 fn main() {
+    ended::tell(run());
+}
+
+fn run() -> Ended {
+    if os::arg_count() != 1 {
+        return ended::misuse(b"usage: annual <BOOK\n");
+    }
     let mut book = [0u8; files::BOOK_ROOM];
-    match files::read_all(STDIN_FILENO, &mut book) {
-        Got::Failed => os::fail(b"standard input"),
+    match files::read_input(&mut book) {
+        Got::Failed => Ended::Failed,
         Got::Bytes(n) => print_year(files::take_front(&book, n)),
     }
 }
 
-fn print_year(book: &[u8]) {
-    files::write_page(STDOUT_FILENO, report::tell_year(book));
+fn print_year(book: &[u8]) -> Ended {
+    files::print_page(b"standard output", report::tell_year(book))
 }

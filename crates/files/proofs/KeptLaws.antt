@@ -2,7 +2,7 @@
 -- Assumes nothing.
 use Prim.Native.Nat.{ℕ, zero, suc, _<_}
 use mathlib.Core.List.{List, [], _∷_, append-nil}
-use mathlib.Core.Path.{_≡_, refl, sym, ap, _∙_}
+use mathlib.Core.Path.{_≡_, refl, sym, ap, _∙_, subst}
 use native.Mathlib.Nat.{le-of-lt}
 use native.Mathlib.Omega.{arith}
 use lib.ListN.{length, length-take, take-append-drop}
@@ -20,10 +20,11 @@ use Rattle.job.specs.Reply.{Reply, reply, refusalNumber, started, woken}
 use Rattle.job.specs.Wake.{freshReply, freshBytes}
 use Rattle.job.proofs.ReplyLaws.{started-inj, started-notStarted, started-fresh, woken-notWoken, woken-moved}
 use Rattle.job.proofs.WakeLaws.{freshBytes-kept}
+use Rattle.files.specs.declared.kept.Due.{Due}
 use Rattle.files.specs.declared.kept.Place.{Place}
 use Rattle.files.specs.declared.kept.Place.the-variants.{At, Refused, Failed}
 use Rattle.files.specs.Put.{front}
-use Rattle.files.specs.Kept.{replied, placed, counting, anewReply, anewBytes, Found}
+use Rattle.files.specs.Kept.{replied, placed, counting, anewReply, anewBytes, Found, Begun, FoundBy}
 use Rattle.files.proofs.PutLaws.{drop-past}
 
 -- ---- what is said of a place is said of no other
@@ -104,6 +105,17 @@ module _ (k room : List ℕ) where
       → now ≡ anewBytes k room → length now ≡ length room → Found r k room now
   unfolding anewReply
   found-anew r = found-by r (freshReply k (front checkpointSize room)) refl
+
+  pub begun-anew : (r : Place) {now : List ℕ} → placed r ≡ replied (anewReply k room)
+      → now ≡ anewBytes k room → Begun r k room now
+  begun-anew (At n) p e = (p, e)
+  begun-anew (Refused x) p e = (p, e)
+  begun-anew Failed p e = tt
+
+-- ---- where a job stands, by what is due
+pub foundBy-due : (r : Place) (k room now : List ℕ) {d e : Due} → d ≡ e
+    → FoundBy e r k room now → FoundBy d r k room now
+foundBy-due r k room now q = subst (λ (x : Due). FoundBy x r k room now) (sym q)
 
 -- ---- a wake's answer
 module _ {s : Woken} {w : Reply} (p : woken s ≡ w) where

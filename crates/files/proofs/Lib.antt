@@ -4,4 +4,5 @@ pub mod GotLaws
 pub mod PartLaws
 pub mod PutLaws
 pub mod KeptLaws
+pub mod GuardLaws
 pub mod Unique

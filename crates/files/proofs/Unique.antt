@@ -6,6 +6,8 @@ use denote.Ref.{now}
 use Rattle.files.proofs.KeptLaws.{placed-inj}
 use Rattle.files.proofs.take_front.Reads as take-front
 use Rattle.files.proofs.put.Reads as put
+use Rattle.files.proofs.ended.misuse.Reads as misuse
+use Rattle.files.proofs.ended.is_done.Reads as is-done
 use Rattle.files.proofs.kept.start_anew.Reads as start-anew
 use Rattle.files.proofs.kept.wake.Reads as wake
 
@@ -20,6 +22,12 @@ pub put-bytes-unique : (κs : _) (a : _) (r s : _) (x y : _)
     → put.Post κs a r x → put.Post κs a s y → now (x .0) ≡ now (y .0)
 put-bytes-unique κs a r s x y p q = p .1 .1 ∙ sym (q .1 .1)
 
+pub misuse-unique : (κs : _) (a : _) (r s : _) (x y : _) → misuse.Post κs a r x → misuse.Post κs a s y → r ≡ s
+misuse-unique κs a r s x y p q = p ∙ sym q
+
+pub is-done-unique : (κs : _) (a : _) (r s : _) (x y : _) → is-done.Post κs a r x → is-done.Post κs a s y → r ≡ s
+is-done-unique κs a r s x y p q = p ∙ sym q
+
 pub start-anew-unique : (κs : _) (a : _) (r s : _) (x y : _)
     → start-anew.Post κs a r x → start-anew.Post κs a s y → r ≡ s
 start-anew-unique κs a r s x y p q = placed-inj r s (p .0 ∙ sym (q .0))
@@ -30,5 +38,5 @@ start-anew-bytes-unique κs a r s x y p q = p .1 ∙ sym (q .1)
 
 -- Whether the save came off, the operating system decides.
 pub wake-bytes-unique : (κs : _) (a : _) (r s : _) (x y : _)
-    → wake.Post κs a r x → wake.Post κs a s y → now (x .1 .1 .1 .1 .0) ≡ now (y .1 .1 .1 .1 .0)
+    → wake.Post κs a r x → wake.Post κs a s y → now (x .1 .1 .1 .1 .1 .1 .0) ≡ now (y .1 .1 .1 .1 .1 .1 .0)
 wake-bytes-unique κs a r s x y p q = p .1 ∙ sym (q .1)

@@ -3,16 +3,25 @@
 //
 // No contract can say what a call of the operating system read or wrote. Beside what it states, each
 // function is proved to end if those calls return.
+pub mod copy;
+pub mod ended;
 pub mod kept;
+mod real;
 pub mod save;
 
+use ended::Ended;
 use job::checkpoint;
+use libc::STDERR_FILENO;
+use libc::STDIN_FILENO;
+use libc::STDOUT_FILENO;
 use rules::book::LONGEST_BOOK;
 use text::page::Page;
+use text::refusal;
 ghost use mathlib.Core.Path.{_≡_};
 ghost use Rattle.io.specs.Counts.{Counts};
 ghost use Rattle.files.specs.Got.{Within};
 ghost use Rattle.files.specs.Put.{front, putEnd, putBytes};
+ghost use Rattle.files.specs.Ended.{Printed};
 
 // One byte more than the longest book, so that a longer one is seen and refused as such.
 pub const BOOK_ROOM: usize = LONGEST_BOOK + 1;
@@ -50,25 +59,50 @@ pub fn read_all(fd: i32, buf: &mut [u8]) -> Got
     Got::Bytes(n)
 }
 
-// Reads the file at path as read_all does; if it can't, standard error says why.
-pub fn read_file(path: &[u8], buf: &mut [u8]) -> Got
+// Reads standard input as read_all does; if it can't, standard error says why.
+pub fn read_input(buf: &mut [u8]) -> Got
+    ensures within { λ r. ⌜ Within r (now (buf .exit)) ⌝ }
+{
+    let got = read_all(STDIN_FILENO, buf);
+    match got {
+        Got::Failed => os::fail(b"standard input"),
+        Got::Bytes(_) => {}
+    }
+    got
+}
+
+// Reads the file at path as read_all does; if it can't, standard error says why, behind `whose`.
+pub fn read_file(whose: &[u8], path: &[u8], buf: &mut [u8]) -> Got
     ensures within { λ r. ⌜ Within r (now (buf .exit)) ⌝ }
 {
     let fd = os::open_read(path);
     if fd < 0 {
-        os::fail(path);
+        fail(whose, path);
         return Got::Failed;
     }
-    read_open(fd, path, buf)
+    read_open(fd, whose, path, buf)
+}
+
+// Reads the book at path likewise, and puts the path by which the system knows it at the start of real.
+pub fn read_book(whose: &[u8], path: &[u8], buf: &mut [u8], real: &mut [u8]) -> Got
+    ensures within { λ r. ⌜ Within r (now (buf .exit)) ⌝ }
+{
+    let fd = os::open_read(path);
+    if fd < 0 {
+        fail(whose, path);
+        return Got::Failed;
+    }
+    real::find_path(fd, real);
+    read_open(fd, whose, path, buf)
 }
 
 // Reads an open file and closes it. A failure is told before the close, which may set errno.
-pub fn read_open(fd: i32, path: &[u8], buf: &mut [u8]) -> Got
+pub fn read_open(fd: i32, whose: &[u8], path: &[u8], buf: &mut [u8]) -> Got
     ensures within { λ r. ⌜ Within r (now (buf .exit)) ⌝ }
 {
     let got = read_all(fd, buf);
     match got {
-        Got::Failed => os::fail(path),
+        Got::Failed => fail(whose, path),
         Got::Bytes(_) => {}
     }
     libc::close(fd);
@@ -76,7 +110,7 @@ pub fn read_open(fd: i32, path: &[u8], buf: &mut [u8]) -> Got
 }
 
 // One read. Only at the end of the input does it come to no bytes, for room isn't empty.
-fn read_some(fd: i32, room: &mut [u8]) -> Got
+pub(crate) fn read_some(fd: i32, room: &mut [u8]) -> Got
     ensures within { λ r. ⌜ Within r (now (room .exit)) ⌝ }
 {
     let got = libc::read(fd, room);
@@ -111,17 +145,49 @@ pub fn put(dst: &mut [u8], n: usize, src: &[u8]) -> usize
     n + bytes::copy(fitting, &mut dst[n..])
 }
 
-// Writes the bytes, and answers whether it could; if not, standard error says why.
-pub fn write_bytes(fd: i32, bytes: &[u8]) -> bool {
-    let is_written = io::write_all(fd, bytes);
-    if !is_written {
-        os::fail(b"write");
+// Writes the bytes to standard output, and answers whether it could; if not, standard error says why,
+// and calls it by this name.
+pub fn print_bytes(name: &[u8], bytes: &[u8]) -> bool {
+    let is_printed = io::write_all(STDOUT_FILENO, bytes);
+    if !is_printed {
+        os::fail(name);
     }
-    is_written
+    is_printed
 }
 
-// Writes what stands on the page, and answers as write_bytes does.
-pub fn write_page(fd: i32, p: Page) -> bool {
+// Prints what stands on the page likewise, and answers how that ends the program.
+pub fn print_page(name: &[u8], p: Page) -> Ended
+    ensures printed { λ r. ⌜ Printed r (front (p .len) (p .bytes)) ⌝ }
+{
     let bytes = p.bytes;
-    write_bytes(fd, take_front(&bytes, p.len))
+    let text = take_front(&bytes, p.len);
+    if !print_bytes(name, text) {
+        return Ended::Failed;
+    }
+    if refusal::is_told(text) {
+        return Ended::Refused;
+    }
+    Ended::Done
+}
+
+// Says on standard error what failed last at a path, behind the name of whoever it is told of.
+pub(crate) fn fail(whose: &[u8], path: &[u8]) {
+    io::write_all(STDERR_FILENO, whose);
+    os::fail(path);
+}
+
+// Says on standard error what is to be said of a path, likewise.
+pub(crate) fn tell(whose: &[u8], path: &[u8], words: &[u8]) {
+    io::write_all(STDERR_FILENO, whose);
+    io::write_all(STDERR_FILENO, path);
+    io::write_all(STDERR_FILENO, words);
+}
+
+// Says what stands on the page likewise, if anything does.
+pub fn tell_page(whose: &[u8], path: &[u8], p: Page) {
+    if p.len == 0 {
+        return;
+    }
+    let bytes = p.bytes;
+    tell(whose, path, take_front(&bytes, p.len));
 }

@@ -14,19 +14,41 @@ pub const LONGEST_PATH: usize = PATH_MAX - 1;
 pub const LONGEST_SAVED: usize = LONGEST_PATH - 7;
 
 // Saves the bytes, which come in two parts, at path, and answers whether it could; if not, standard
-// error says why.
-pub fn save(path: &[u8], front: &[u8], back: &[u8]) -> bool {
+// error says why, behind `whose`.
+pub fn save(whose: &[u8], path: &[u8], front: &[u8], back: &[u8]) -> bool {
     // The folder is opened first: then only its sync can fail once path has changed.
     let folder = open_folder(path);
     if folder < 0 {
-        os::fail(path);
+        crate::fail(whose, path);
         return false;
     }
     let mut room = [0u8; LONGEST_PATH];
     let n = name_beside(path, &mut room);
-    let is_saved = replace(path, &mut room[..n], front, back, folder);
+    let is_saved = replace(whose, path, &mut room[..n], front, back, folder);
     libc::close(folder);
     is_saved
+}
+
+// Removes the file at path, if there is one, so that its absence lasts, and answers as save does.
+pub(crate) fn remove(whose: &[u8], path: &[u8]) -> bool {
+    let folder = open_folder(path);
+    if folder < 0 {
+        crate::fail(whose, path);
+        return false;
+    }
+    let is_removed = unlink(path) && 0 <= libc::fsync(folder);
+    if !is_removed {
+        crate::fail(whose, path);
+    }
+    libc::close(folder);
+    is_removed
+}
+
+fn unlink(path: &[u8]) -> bool {
+    if 0 <= os::unlink(path) {
+        return true;
+    }
+    os::errno() == libc::ENOENT
 }
 
 // The folder that holds path: all of path up to its last slash, or where the program runs.
@@ -60,30 +82,37 @@ fn name_beside(path: &[u8], room: &mut [u8]) -> usize
     crate::put(room, n, b".XXXXXX")
 }
 
-fn replace(path: &[u8], name: &mut [u8], front: &[u8], back: &[u8], folder: i32) -> bool {
+fn replace(
+    whose: &[u8],
+    path: &[u8],
+    name: &mut [u8],
+    front: &[u8],
+    back: &[u8],
+    folder: i32,
+) -> bool {
     let fd = os::create_temp(name);
     if fd < 0 {
-        os::fail(path);
+        crate::fail(whose, path);
         return false;
     }
     if !write_through(fd, front, back) {
-        os::fail(path);
+        crate::fail(whose, path);
         libc::close(fd);
         os::unlink(name);
         return false;
     }
     if libc::close(fd) < 0 {
-        os::fail(path);
+        crate::fail(whose, path);
         os::unlink(name);
         return false;
     }
     if os::rename(name, path) < 0 {
-        os::fail(path);
+        crate::fail(whose, path);
         os::unlink(name);
         return false;
     }
     if libc::fsync(folder) < 0 {
-        os::fail(path);
+        crate::fail(whose, path);
         return false;
     }
     true

@@ -1,29 +1,35 @@
-// A line for each record of the book on standard input, or the line that refuses the book.
+// A line for each record of the book on standard input, or the line that refuses the book:
+// `lines <BOOK`.
 use files::Got;
-use libc::STDIN_FILENO;
-use libc::STDOUT_FILENO;
+use files::ended;
+use files::ended::Ended;
 use rules::reader;
 use text::lines;
 
 fn main() {
+    ended::tell(run());
+}
+
+fn run() -> Ended {
+    if os::arg_count() != 1 {
+        return ended::misuse(b"usage: lines <BOOK\n");
+    }
     let mut book = [0u8; files::BOOK_ROOM];
-    match files::read_all(STDIN_FILENO, &mut book) {
-        Got::Failed => os::fail(b"standard input"),
+    match files::read_input(&mut book) {
+        Got::Failed => Ended::Failed,
         Got::Bytes(n) => print_lines(files::take_front(&book, n)),
     }
 }
 
 // Each step sees a record and leads to the next one; a refused book has one step.
-fn print_lines(book: &[u8]) {
+fn print_lines(book: &[u8]) -> Ended {
     let mut at = 0;
     loop {
         let step = reader::take_step(book, at);
         let seen = step.seen;
-        if !files::write_page(STDOUT_FILENO, lines::tell_record(at, seen)) {
-            return;
-        }
-        if step.left == 0 {
-            return;
+        let printed = files::print_page(b"standard output", lines::tell_record(at, seen));
+        if step.left == 0 || !ended::is_done(printed) {
+            return printed;
         }
         at = step.next;
     }

@@ -1,10 +1,11 @@
-// Answers a stream of calls, so that any other program can drive the library.
+// Answers a stream of calls, so that any other program can drive the library: `replay <FRAMES`.
 use files::Got;
-use libc::STDIN_FILENO;
-use libc::STDOUT_FILENO;
+use files::ended;
+use files::ended::Ended;
 use rules::reader;
 use text::frame;
 use text::frame::Asked;
+use text::frame::Broken;
 use text::frame::Frame;
 use text::page::Page;
 use wetherstep::face;
@@ -21,75 +22,136 @@ const JUNK: [u64; 6] = [
 
 const ROOM: usize = frame::LONGEST as usize;
 
+// What came of a frame, or of filling one of its parts.
+enum Answered {
+    Whole,
+    // The input is over.
+    Over,
+    Broken(Broken),
+    // Standard error says what failed.
+    Failed,
+}
+
 fn main() {
+    ended::tell(run());
+}
+
+fn run() -> Ended {
+    if os::arg_count() != 1 {
+        return ended::misuse(b"usage: replay <FRAMES\n");
+    }
     let mut book = [0u8; ROOM];
     let mut checkpoint = [0u8; ROOM];
     let mut out = [0u8; ROOM];
-    answer_all(&mut book, &mut checkpoint, &mut out);
+    answer_all(&mut book, &mut checkpoint, &mut out)
 }
 
-// A proved loop has to end, and nothing says that the input does. So the loop counts its turns
-// down, from a number that no run uses up.
-fn answer_all(book: &mut [u8], checkpoint: &mut [u8], out: &mut [u8]) {
-    let mut turns = u64::MAX;
-    while turns > 0 && answer_next(book, checkpoint, out) {
-        turns -= 1;
+// A proved loop has to end, and nothing says that the input does. So the loop counts to a number that
+// no run reaches.
+fn answer_all(book: &mut [u8], checkpoint: &mut [u8], out: &mut [u8]) -> Ended {
+    let mut i = 0;
+    while i < u64::MAX {
+        let answered = answer_next(book, checkpoint, out);
+        if !is_whole(answered) {
+            return end_at(i, answered);
+        }
+        i += 1;
+    }
+    Ended::Done
+}
+
+// How the program ends that stops at frame i.
+fn end_at(i: u64, x: Answered) -> Ended {
+    match x {
+        Answered::Whole => Ended::Done,
+        Answered::Over => Ended::Done,
+        Answered::Broken(how) => {
+            files::tell_page(b"", b"", frame::tell_broken(i, how));
+            Ended::Failed
+        }
+        Answered::Failed => Ended::Failed,
     }
 }
 
-// Answers one frame, and says whether to go on.
-fn answer_next(book: &mut [u8], checkpoint: &mut [u8], out: &mut [u8]) -> bool {
+fn answer_next(book: &mut [u8], checkpoint: &mut [u8], out: &mut [u8]) -> Answered {
     let mut head = [0u8; 24];
-    if !fill(&mut head) {
-        return false;
-    }
-    match frame::read(&head) {
-        Asked::Stop => false,
-        Asked::Call(f) => answer_frame(f, book, checkpoint, out),
+    match files::read_input(&mut head) {
+        Got::Failed => Answered::Failed,
+        Got::Bytes(n) => {
+            if n == 0 {
+                return Answered::Over;
+            }
+            if n < head.len() {
+                return Answered::Broken(Broken::Cut);
+            }
+            match frame::read(&head) {
+                Asked::Stop => Answered::Broken(Broken::Head),
+                Asked::Call(f) => answer_frame(f, book, checkpoint, out),
+            }
+        }
     }
 }
 
 // The buffers are as long as the longest that a head may ask for.
-fn answer_frame(f: Frame, book: &mut [u8], checkpoint: &mut [u8], out: &mut [u8]) -> bool {
+fn answer_frame(f: Frame, book: &mut [u8], checkpoint: &mut [u8], out: &mut [u8]) -> Answered {
     let n = f.book;
     let m = f.checkpoint;
     let k = f.out;
     if book.len() < n {
-        return false;
+        return Answered::Broken(Broken::Head);
     }
     if checkpoint.len() < m {
-        return false;
+        return Answered::Broken(Broken::Head);
     }
     if out.len() < k {
-        return false;
+        return Answered::Broken(Broken::Head);
     }
     answer_parts(f, &mut book[..n], &mut checkpoint[..m], &mut out[..k])
 }
 
-fn answer_parts(f: Frame, book: &mut [u8], checkpoint: &mut [u8], out: &mut [u8]) -> bool {
-    if !fill(book) {
-        return false;
+fn answer_parts(f: Frame, book: &mut [u8], checkpoint: &mut [u8], out: &mut [u8]) -> Answered {
+    let filled = fill(book);
+    if !is_whole(filled) {
+        return filled;
     }
-    if !fill(checkpoint) {
-        return false;
+    let filled = fill(checkpoint);
+    if !is_whole(filled) {
+        return filled;
     }
-    if !fill(out) {
-        return false;
+    let filled = fill(out);
+    if !is_whole(filled) {
+        return filled;
     }
-    if !files::write_page(STDOUT_FILENO, call(f, book, checkpoint, out)) {
-        return false;
+    let p = call(f, book, checkpoint, out);
+    let bytes = p.bytes;
+    if !files::print_bytes(b"standard output", files::take_front(&bytes, p.len)) {
+        return Answered::Failed;
     }
-    files::write_bytes(STDOUT_FILENO, out)
+    if !files::print_bytes(b"standard output", out) {
+        return Answered::Failed;
+    }
+    Answered::Whole
 }
 
-// Reads until buf is full; false where the input ends or a read fails.
-fn fill(buf: &mut [u8]) -> bool {
-    match files::read_all(STDIN_FILENO, buf) {
-        Got::Failed => {
-            os::fail(b"standard input");
-            false
+fn is_whole(x: Answered) -> bool {
+    match x {
+        Answered::Whole => true,
+        Answered::Over => false,
+        Answered::Broken(_) => false,
+        Answered::Failed => false,
+    }
+}
+
+// Reads until buf is full.
+fn fill(buf: &mut [u8]) -> Answered {
+    match files::read_input(buf) {
+        Got::Failed => Answered::Failed,
+        Got::Bytes(n) => {
+            if n < buf.len() {
+                return Answered::Broken(Broken::Cut);
+            }
+            Answered::Whole
         }
-        Got::Bytes(n) => n == buf.len(),
     }
 }
 

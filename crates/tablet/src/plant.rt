@@ -1,19 +1,19 @@
 // One plant: its book and its place in it, what is told of it, and a turn.
+use crate::log;
+use crate::log::Log;
 use files::BOOK_ROOM;
 use files::CHECKPOINT_ROOM;
 use files::Got;
 use files::kept;
+use files::kept::Due;
 use files::kept::Kept;
 use files::kept::Place;
 use files::save::LONGEST_PATH;
 use job::checkpoint;
 use job::reply::Refusal;
 use job::reply::Remaining;
-use libc::STDERR_FILENO;
-use libc::STDOUT_FILENO;
+use libc::PATH_MAX;
 use roster::plants;
-use text::page;
-use text::page::Page;
 use text::progress;
 use text::report;
 
@@ -22,78 +22,95 @@ use text::report;
 pub(crate) struct Turn {
     pub moved: u32,
     pub left: u32,
+    pub log: Log,
 }
 
-// The records left of a plant. One that can't be served is named, and has none.
-pub(crate) fn count(line: &[u8]) -> u32 {
+// What a plant is asked: how many records it has left, or a turn of so many.
+pub(crate) enum Asked {
+    Count,
+    Turn(u32),
+}
+
+// A plant is read from its files each time, for another program may have changed them.
+pub(crate) fn ask(line: &[u8], asked: Asked, log: Log) -> Turn {
+    let mut room = [0u8; LONGEST_PATH + 1];
+    let n = files::put(&mut room, 0, plants::take_book(line));
+    let n = files::put(&mut room, n, b" ");
+    let whose = &room[..n];
+    let mut real = [0u8; PATH_MAX];
     let mut book = [0u8; BOOK_ROOM];
-    match files::read_file(plants::take_book(line), &mut book) {
-        Got::Failed => 0,
-        Got::Bytes(n) => count_book(line, files::take_front(&book, n)),
+    match files::read_book(b"", plants::take_book(line), &mut book, &mut real) {
+        Got::Failed => take_none(log::fail(log)),
+        Got::Bytes(n) => {
+            let book = files::take_front(&book, n);
+            let due = kept::find_due(book, &real, whose, plants::take_checkpoint(line), false);
+            ask_book(line, whose, book, due, asked, log)
+        }
     }
 }
 
-fn count_book(line: &[u8], book: &[u8]) -> u32 {
+fn ask_book(line: &[u8], whose: &[u8], book: &[u8], due: Due, asked: Asked, log: Log) -> Turn {
     let mut room = [0u8; CHECKPOINT_ROOM];
-    match kept::find_place(book, plants::take_checkpoint(line), &mut room) {
-        Place::Failed => 0,
-        Place::Refused(x) => refuse(line, x),
-        Place::At(n) => count_from(line, book, files::take_front(&room, n)),
+    match kept::find_place(book, due, whose, plants::take_checkpoint(line), &mut room) {
+        Place::Failed => take_none(log::fail(log)),
+        Place::Refused(x) => refuse(line, whose, x, log),
+        Place::At(n) => {
+            let from = files::take_front(&room, n);
+            match asked {
+                Asked::Count => count(line, whose, book, from, due, log),
+                Asked::Turn(budget) => wake(line, whose, book, from, budget, due, log),
+            }
+        }
     }
 }
 
-// A book that is done is told at once: what it was told by before may have been killed.
-fn count_from(line: &[u8], book: &[u8], from: &[u8]) -> u32 {
+// A book that is done is told at once: what it was told by before may have been killed. If its copy
+// is due, that takes a wake that moves nothing.
+fn count(line: &[u8], whose: &[u8], book: &[u8], from: &[u8], due: Due, log: Log) -> Turn {
     match job::report::count_left(book, from) {
-        Remaining::Unknown(x) => refuse(line, x),
+        Remaining::Unknown(x) => refuse(line, whose, x, log),
         Remaining::Left(left) => {
             if left == 0 {
-                tell(line, progress::tell_turn(book, from, 0));
+                return tell_done(line, whose, book, from, due, log);
             }
-            left
+            Turn {
+                moved: 0,
+                left,
+                log,
+            }
         }
     }
 }
 
-// One turn, read from the files anew: another program may have changed them.
-pub(crate) fn serve(line: &[u8], budget: u32) -> Turn {
-    let mut book = [0u8; BOOK_ROOM];
-    match files::read_file(plants::take_book(line), &mut book) {
-        Got::Failed => take_none(),
-        Got::Bytes(n) => serve_book(line, files::take_front(&book, n), budget),
+fn tell_done(line: &[u8], whose: &[u8], book: &[u8], from: &[u8], due: Due, log: Log) -> Turn {
+    match due {
+        Due::Nothing => take_none(log::tell(whose, progress::tell_turn(book, from, 0), log)),
+        Due::Copy => wake(line, whose, book, from, 0, due, log),
+        Due::Anew => wake(line, whose, book, from, 0, due, log),
+        Due::Refused(_) => take_none(log),
+        Due::Failed => take_none(log),
     }
 }
 
-fn serve_book(line: &[u8], book: &[u8], budget: u32) -> Turn {
-    let mut room = [0u8; CHECKPOINT_ROOM];
-    match kept::find_place(book, plants::take_checkpoint(line), &mut room) {
-        Place::Failed => take_none(),
-        Place::Refused(x) => {
-            refuse(line, x);
-            take_none()
-        }
-        Place::At(n) => wake(line, book, files::take_front(&room, n), budget),
-    }
-}
-
-fn wake(line: &[u8], book: &[u8], from: &[u8], budget: u32) -> Turn {
+fn wake(
+    line: &[u8],
+    whose: &[u8],
+    book: &[u8],
+    from: &[u8],
+    budget: u32,
+    due: Due,
+    log: Log,
+) -> Turn {
+    let path = plants::take_checkpoint(line);
+    kept::tell_change(due, plants::take_book(line), path);
     let mut saved = [0u8; checkpoint::SIZE];
-    match kept::wake(
-        book,
-        from,
-        budget,
-        plants::take_checkpoint(line),
-        &mut saved,
-    ) {
-        Kept::Failed => take_none(),
-        Kept::Refused(x) => {
-            refuse(line, x);
-            take_none()
-        }
+    match kept::wake(book, from, budget, due, whose, path, &mut saved) {
+        Kept::Failed => take_none(log::fail(log)),
+        Kept::Refused(x) => refuse(line, whose, x, log),
         Kept::Moved(moved) => {
-            tell(line, progress::tell_turn(book, &saved, moved));
+            let log = log::tell(whose, progress::tell_turn(book, &saved, moved), log);
             let left = count_saved(book, &saved);
-            Turn { moved, left }
+            Turn { moved, left, log }
         }
     }
 }
@@ -106,26 +123,17 @@ fn count_saved(book: &[u8], saved: &[u8]) -> u32 {
     }
 }
 
-fn take_none() -> Turn {
-    Turn { moved: 0, left: 0 }
+fn take_none(log: Log) -> Turn {
+    Turn {
+        moved: 0,
+        left: 0,
+        log,
+    }
 }
 
 // Names a plant that is refused, which has no records to serve.
-fn refuse(line: &[u8], x: Refusal) -> u32 {
-    tell(line, report::refuse(x));
-    files::write_page(STDERR_FILENO, progress::hint(x));
-    0
-}
-
-// The longest book's path, a space and a page.
-const TOLD_ROOM: usize = LONGEST_PATH + 1 + page::SIZE;
-
-// The plant's book and a space in front of the page, in one piece.
-fn tell(line: &[u8], p: Page) {
-    let mut room = [0u8; TOLD_ROOM];
-    let n = files::put(&mut room, 0, plants::take_book(line));
-    let n = files::put(&mut room, n, b" ");
-    let bytes = p.bytes;
-    let n = files::put(&mut room, n, files::take_front(&bytes, p.len));
-    files::write_bytes(STDOUT_FILENO, &room[..n]);
+fn refuse(line: &[u8], whose: &[u8], x: Refusal, log: Log) -> Turn {
+    let log = log::tell(whose, report::refuse(x), log);
+    files::tell_page(whose, plants::take_checkpoint(line), progress::hint(x));
+    take_none(log)
 }

@@ -2,8 +2,12 @@
 // is served is kept beside LIST before it is, so that a run that is killed costs that plant one round
 // at most, and the next goes on behind it.
 use crate::LIST_ROOM;
+use crate::log;
+use crate::log::Log;
 use crate::plant;
+use crate::plant::Asked;
 use files::Got;
+use files::ended::Ended;
 use files::save;
 use files::save::LONGEST_SAVED;
 use queue::books;
@@ -21,23 +25,31 @@ use rules::book::LONGEST_BOOK;
 // on with those.
 const MOST_TURNS: u32 = (SLOT_COUNT * (LONGEST_BOOK / 32 - 1)) as u32;
 
-pub(crate) fn run(list: &[u8], n: usize, path: &[u8], budget: u32) {
+// The queue, and what was told while it was filled or served.
+struct Round {
+    queue: Queue,
+    log: Log,
+}
+
+pub(crate) fn run(list: &[u8], n: usize, path: &[u8], budget: u32) -> Ended {
     let mut room = [0u8; LONGEST_SAVED];
     let end = files::put(&mut room, 0, path);
     let end = files::put(&mut room, end, b".place");
-    go_on(list, n, &room[..end], budget);
+    go_on(list, n, &room[..end], budget)
 }
 
 // Goes on behind the plant that was served last. A place that can't be read is no reason to begin
 // with the first plant again.
-fn go_on(list: &[u8], n: usize, path: &[u8], budget: u32) {
+fn go_on(list: &[u8], n: usize, path: &[u8], budget: u32) -> Ended {
     let mut kept = [0u8; LIST_ROOM];
     match read_kept(path, &mut kept) {
-        Got::Failed => {}
+        Got::Failed => Ended::Failed,
         Got::Bytes(k) => {
-            let mut q = fill(list, n);
+            let filled = fill(list, n);
+            let mut q = filled.queue;
             q.last = (place::find(list, files::take_front(&kept, k)) % SLOT_COUNT) as u8;
-            take_turns(list, q, path, budget);
+            let begun = filled.log;
+            log::end(take_turns(list, q, begun, path, budget))
         }
     }
 }
@@ -46,7 +58,7 @@ fn go_on(list: &[u8], n: usize, path: &[u8], budget: u32) {
 fn read_kept(path: &[u8], kept: &mut [u8]) -> Got {
     let fd = os::open_read(path);
     if 0 <= fd {
-        return files::read_open(fd, path, kept);
+        return files::read_open(fd, b"", path, kept);
     }
     if os::errno() == libc::ENOENT {
         return Got::Bytes(0);
@@ -55,43 +67,51 @@ fn read_kept(path: &[u8], kept: &mut [u8]) -> Got {
     Got::Failed
 }
 
-fn fill(list: &[u8], n: usize) -> Queue {
-    let mut q = slots::begin();
+fn fill(list: &[u8], n: usize) -> Round {
+    let mut queue = slots::begin();
+    let mut log = log::begin();
     let mut i = 0;
     while i < n {
-        let r = books::add(q, plant::count(lines::take_line(list, i)));
-        q = r.queue;
+        let t = plant::ask(lines::take_line(list, i), Asked::Count, log);
+        let r = books::add(queue, t.left);
+        queue = r.queue;
+        log = t.log;
         i += 1;
     }
-    q
+    Round { queue, log }
 }
 
-fn take_turns(list: &[u8], first: Queue, path: &[u8], budget: u32) {
+fn take_turns(list: &[u8], first: Queue, begun: Log, path: &[u8], budget: u32) -> Log {
     let mut q = first;
+    let mut log = begun;
     let mut turns = 0;
     while turns < MOST_TURNS {
         let r = round::turn(q, budget);
         let answer = r.answer;
         match answer {
             Turned::NotTurned(_) => {
-                return;
+                return log;
             }
             Turned::Served(i, moved) => {
                 let after = r.queue;
                 if !keep(list, after.last, path) {
-                    return;
+                    return log::fail(log);
                 }
-                q = serve(list, i, after, moved, budget);
+                let t = serve(list, i, after, moved, budget, log);
+                q = t.queue;
+                log = t.log;
             }
         }
         turns += 1;
     }
+    log
 }
 
 // The list turned round, so that the plant in this slot stands last.
 fn keep(list: &[u8], slot: u8, path: &[u8]) -> bool {
     let n = slot as usize + 1;
     save::save(
+        b"",
         path,
         lines::take_after(list, n),
         lines::take_through(list, n),
@@ -100,12 +120,14 @@ fn keep(list: &[u8], slot: u8, path: &[u8]) -> bool {
 
 // A turn that moved as many records as the queue counted leaves the queue as it is. After any other the
 // plant is counted anew: it can't be served, or another program woke it meanwhile.
-fn serve(list: &[u8], i: usize, q: Queue, moved: u32, budget: u32) -> Queue {
-    let t = plant::serve(lines::take_line(list, i), budget);
+fn serve(list: &[u8], i: usize, q: Queue, moved: u32, budget: u32, log: Log) -> Round {
+    let t = plant::ask(lines::take_line(list, i), Asked::Turn(budget), log);
+    let log = t.log;
     if t.moved == moved {
-        return q;
+        return Round { queue: q, log };
     }
-    recount(q, i, t.left)
+    let queue = recount(q, i, t.left);
+    Round { queue, log }
 }
 
 // Every slot below is taken, so that the plant gets its own again.

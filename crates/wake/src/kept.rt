@@ -1,51 +1,57 @@
 // One wake of a job that is kept in files: its book read, a wake from its place, then what to print.
 use files::Got;
+use files::ended::Ended;
 use files::kept;
+use files::kept::Due;
 use files::kept::Kept;
 use files::kept::Place;
 use job::checkpoint;
 use job::reply::Refusal;
-use libc::STDERR_FILENO;
-use libc::STDOUT_FILENO;
+use libc::PATH_MAX;
 use text::progress;
 use text::report;
 
-pub(crate) fn run(book_path: &[u8], path: &[u8], budget: u32, anew: bool) {
+pub(crate) fn run(book_path: &[u8], path: &[u8], budget: u32, anew: bool) -> Ended {
+    let mut real = [0u8; PATH_MAX];
     let mut book = [0u8; files::BOOK_ROOM];
-    match files::read_file(book_path, &mut book) {
-        Got::Failed => {}
-        Got::Bytes(n) => go_on(files::take_front(&book, n), path, budget, anew),
-    }
-}
-
-fn go_on(book: &[u8], path: &[u8], budget: u32, anew: bool) {
-    let mut room = [0u8; files::CHECKPOINT_ROOM];
-    match find_place(book, path, anew, &mut room) {
-        Place::Failed => {}
-        Place::Refused(x) => refuse(x),
-        Place::At(n) => wake_from(book, files::take_front(&room, n), path, budget),
-    }
-}
-
-fn find_place(book: &[u8], path: &[u8], anew: bool, room: &mut [u8]) -> Place {
-    if anew {
-        return kept::start_anew(book, room);
-    }
-    kept::find_place(book, path, room)
-}
-
-fn wake_from(book: &[u8], from: &[u8], path: &[u8], budget: u32) {
-    let mut saved = [0u8; checkpoint::SIZE];
-    match kept::wake(book, from, budget, path, &mut saved) {
-        Kept::Failed => {}
-        Kept::Refused(x) => refuse(x),
-        Kept::Moved(moved) => {
-            files::write_page(STDOUT_FILENO, progress::tell_progress(book, &saved, moved));
+    match files::read_book(b"", book_path, &mut book, &mut real) {
+        Got::Failed => Ended::Failed,
+        Got::Bytes(n) => {
+            let book = files::take_front(&book, n);
+            let due = kept::find_due(book, &real, b"", path, anew);
+            go_on(book, due, book_path, path, budget, anew)
         }
     }
 }
 
-fn refuse(x: Refusal) {
-    files::write_page(STDOUT_FILENO, report::refuse(x));
-    files::write_page(STDERR_FILENO, progress::hint(x));
+fn go_on(book: &[u8], due: Due, book_path: &[u8], path: &[u8], budget: u32, anew: bool) -> Ended {
+    let mut room = [0u8; files::CHECKPOINT_ROOM];
+    match kept::find_place(book, due, b"", path, &mut room) {
+        Place::Failed => Ended::Failed,
+        Place::Refused(x) => refuse(x, path),
+        Place::At(n) => {
+            if !anew {
+                kept::tell_change(due, book_path, path);
+            }
+            wake_from(book, files::take_front(&room, n), due, path, budget)
+        }
+    }
+}
+
+fn wake_from(book: &[u8], from: &[u8], due: Due, path: &[u8], budget: u32) -> Ended {
+    let mut saved = [0u8; checkpoint::SIZE];
+    match kept::wake(book, from, budget, due, b"", path, &mut saved) {
+        Kept::Failed => Ended::Failed,
+        Kept::Refused(x) => refuse(x, path),
+        Kept::Moved(moved) => files::print_page(
+            b"standard output (the checkpoint is saved)",
+            progress::tell_progress(book, &saved, moved),
+        ),
+    }
+}
+
+fn refuse(x: Refusal, path: &[u8]) -> Ended {
+    let ended = files::print_page(b"standard output", report::refuse(x));
+    files::tell_page(b"", path, progress::hint(x));
+    ended
 }

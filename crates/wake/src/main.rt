@@ -1,69 +1,65 @@
 // One wake of a job that is kept in files: `wake BOOK CHECKPOINT BUDGET [fresh]`.
 mod kept;
 
+use files::copy::LONGEST_CHECKPOINT;
+use files::ended;
+use files::ended::Ended;
 use files::save::LONGEST_PATH;
-use files::save::LONGEST_SAVED;
-use libc::STDERR_FILENO;
 use text::budget;
 use text::budget::Budget;
 
 fn main() {
-    let words = os::arg_count();
-    if words == 4 {
-        read_budget(false);
-        return;
-    }
-    if words == 5 && is_fresh_asked() {
-        read_budget(true);
-        return;
-    }
-    tell_usage();
+    ended::tell(run());
 }
 
-fn tell_usage() {
-    io::write_all(
-        STDERR_FILENO,
-        b"usage: wake BOOK CHECKPOINT BUDGET [fresh]\n",
-    );
+fn run() -> Ended {
+    let words = os::arg_count();
+    if words == 4 {
+        return read_budget(false);
+    }
+    if words == 5 && is_fresh_asked() {
+        return read_budget(true);
+    }
+    misuse()
+}
+
+fn misuse() -> Ended {
+    ended::misuse(b"usage: wake BOOK CHECKPOINT BUDGET [fresh]\n")
 }
 
 // Whether the fourth argument is `fresh`.
 fn is_fresh_asked() -> bool {
     let mut word = [0u8; 5];
     let n = os::arg(4, &mut word);
-    n == 5
-        && word[0] == b'f'
-        && word[1] == b'r'
-        && word[2] == b'e'
-        && word[3] == b's'
-        && word[4] == b'h'
+    roster::bytes::are_same(&word[..n], b"fresh")
 }
 
-fn read_budget(anew: bool) {
+fn read_budget(anew: bool) -> Ended {
     let mut word = [0u8; 4096];
     let n = os::arg(3, &mut word);
     if os::errno() != 0 {
-        tell_usage();
-        return;
+        return misuse();
     }
     match budget::read(&word[..n]) {
-        Budget::Wrong => tell_usage(),
+        Budget::Wrong => misuse(),
         Budget::Records(b) => read_paths(b, anew),
     }
 }
 
-fn read_paths(b: u32, anew: bool) {
+fn read_paths(b: u32, anew: bool) -> Ended {
     let mut book = [0u8; LONGEST_PATH];
     let n = os::arg(1, &mut book);
     if os::errno() != 0 {
-        tell_usage();
-        return;
+        return ended::misuse(b"wake: BOOK is longer than 4095 bytes\n");
     }
-    let mut checkpoint = [0u8; LONGEST_SAVED];
+    let mut checkpoint = [0u8; LONGEST_CHECKPOINT];
     let m = os::arg(2, &mut checkpoint);
     if os::errno() != 0 {
-        tell_usage();
-        return;
+        return ended::misuse(b"wake: CHECKPOINT is longer than 4083 bytes\n");
     }
-    kept::run(&book[..n], &checkpoint[..m], b, anew);
+    // The copy beside no name would have one, and the checkpoint none.
+    if m == 0 {
+        return misuse();
+    }
+    kept::run(&book[..n], &checkpoint[..m], b, anew)
 }

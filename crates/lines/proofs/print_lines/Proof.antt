@@ -6,10 +6,10 @@ use Rattle.lines.proofs.print_lines.Statement.{statement}
 use Rattle.lines.proofs.print_lines.Tie as tie
 
 abbrev Inv-loop : tie.InvT-loop
-Inv-loop book at₀ at = Unit {0}
+Inv-loop book at₀ name at = Unit {0}
 
 abbrev μ-loop : tie.MeasureT-loop
-μ-loop book at₀ at = leftFrom book at
+μ-loop book at₀ name at = leftFrom book at
 
 loop-holds : tie.Need-loop-holds Inv-loop μ-loop
 loop-holds c = search needs
@@ -17,22 +17,25 @@ loop-holds c = search needs
 take-step-requires : tie.Need-take-step-requires Inv-loop μ-loop
 take-step-requires c κs = search needs
 
+slice-aggregate-print-page : tie.Need-slice-aggregate-print-page Inv-loop μ-loop
+slice-aggregate-print-page c = search needs
+
 tell-record-requires : tie.Need-tell-record-requires Inv-loop μ-loop
 tell-record-requires c κs = search needs
 
-write-page-requires : tie.Need-write-page-requires Inv-loop μ-loop
-write-page-requires c κs = search needs
+print-page-requires : tie.Need-print-page-requires Inv-loop μ-loop
+print-page-requires c κs = search needs
+
+is-done-requires : tie.Need-is-done-requires Inv-loop μ-loop
+is-done-requires c κs = search needs
 
 returns : tie.Need-returns Inv-loop μ-loop
 returns c = search needs
 
-returns-2 : tie.Need-returns-2 Inv-loop μ-loop
-returns-2 c = search needs
-
 loop-less : tie.Need-loop-less Inv-loop μ-loop
 loop-less c =
-    let step = c .before .before .before .before .before .take-step .ensures in
-    leftFrom-placeAfter-lt _ _ (step .1 .0) (step .1 .1) (c .if2 .left)
+    let step = c .before .before .before .before .before .before .before .take-step .ensures in
+    leftFrom-placeAfter-lt _ _ (step .1 .0) (step .1 .1) (c .before .before .if1 .left)
 
 loop-again : tie.Need-loop-again Inv-loop μ-loop
 loop-again c = search needs
@@ -45,9 +48,10 @@ print-lines-spec =
     μ-loop
     loop-holds
     take-step-requires
+    slice-aggregate-print-page
     tell-record-requires
-    write-page-requires
+    print-page-requires
+    is-done-requires
     returns
-    returns-2
     loop-less
     loop-again)

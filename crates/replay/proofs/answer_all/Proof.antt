@@ -1,4 +1,5 @@
--- The measure is the number of turns left, and no call changes a length. Assumes nothing.
+-- Each turn counts up to the last number, and no call changes a length. Assumes nothing.
+use Prim.Native.Nat.{_-_}
 use mathlib.Core.Path.{_≡_}
 use lib.ListN.{length}
 use borrow.Author.Needs.{needs}
@@ -6,13 +7,13 @@ use Rattle.replay.proofs.answer_all.Statement.{statement}
 use Rattle.replay.proofs.answer_all.Tie as tie
 
 abbrev Inv-loop : tie.InvT-loop
-Inv-loop book₀ checkpoint₀ out₀ turns₀ book checkpoint out turns =
+Inv-loop book₀ checkpoint₀ out₀ i₀ book checkpoint out i =
     (length book ≡ length book₀)
     × (length checkpoint ≡ length checkpoint₀)
     × (length out ≡ length out₀)
 
 abbrev μ-loop : tie.MeasureT-loop
-μ-loop book₀ checkpoint₀ out₀ turns₀ book checkpoint out turns = turns
+μ-loop book₀ checkpoint₀ out₀ i₀ book checkpoint out i = 18446744073709551615 - i
 
 loop-holds : tie.Need-loop-holds Inv-loop μ-loop
 loop-holds c = search needs
@@ -20,14 +21,11 @@ loop-holds c = search needs
 answer-next-requires : tie.Need-answer-next-requires Inv-loop μ-loop
 answer-next-requires c κs = search needs
 
-sub-turns : tie.Need-sub-turns Inv-loop μ-loop
-sub-turns c = search needs
+is-whole-requires : tie.Need-is-whole-requires Inv-loop μ-loop
+is-whole-requires c κs = search needs
 
-loop-less : tie.Need-loop-less Inv-loop μ-loop
-loop-less c = search needs
-
-loop-again : tie.Need-loop-again Inv-loop μ-loop
-loop-again c = search needs
+end-at-requires : tie.Need-end-at-requires Inv-loop μ-loop
+end-at-requires c κs = search needs
 
 same-length : tie.Need-same-length Inv-loop μ-loop
 same-length c = search needs
@@ -40,6 +38,15 @@ same-length-3 c = search needs
 
 returns : tie.Need-returns Inv-loop μ-loop
 returns c = search needs
+
+add-i : tie.Need-add-i Inv-loop μ-loop
+add-i c = search needs
+
+loop-less : tie.Need-loop-less Inv-loop μ-loop
+loop-less c = search needs
+
+loop-again : tie.Need-loop-again Inv-loop μ-loop
+loop-again c = search needs
 
 same-length-4 : tie.Need-same-length-4 Inv-loop μ-loop
 same-length-4 c = search needs
@@ -61,13 +68,15 @@ answer-all-spec =
     μ-loop
     loop-holds
     answer-next-requires
-    sub-turns
-    loop-less
-    loop-again
+    is-whole-requires
+    end-at-requires
     same-length
     same-length-2
     same-length-3
     returns
+    add-i
+    loop-less
+    loop-again
     same-length-4
     same-length-5
     same-length-6

@@ -13,6 +13,9 @@ enum-known-x c = search needs
 enum-known-moved : tie.Need-enum-known-moved
 enum-known-moved c = search needs
 
+settle-requires : tie.Need-settle-requires
+settle-requires c κs = search needs
+
 slice-aggregate-save : tie.Need-slice-aggregate-save
 slice-aggregate-save c = search needs
 
@@ -24,7 +27,7 @@ same-length c = search needs
 
 returns : tie.Need-returns
 returns c =
-    let moved = c .before .before .before .before .before in
+    let moved = c .before .before .before .before .before .before .before in
     let wake = moved .before .before .before .before .wake .ensures in
     (reply-moved (wake .0) (moved .moved .given .1), wake .1)
 
@@ -41,7 +44,7 @@ same-length-3 c = search needs
 
 returns-3 : tie.Need-returns-3
 returns-3 c =
-    let moved = c .before .before .before .before .before in
+    let moved = c .before .before .before in
     let wake = moved .before .before .before .before .wake .ensures in
     (record { moved = _; accepts = reply-moved (wake .0) (moved .moved .given .1) }, wake .1)
 
@@ -52,6 +55,7 @@ wake-spec =
     wake-requires
     enum-known-x
     enum-known-moved
+    settle-requires
     slice-aggregate-save
     save-requires
     same-length

@@ -5,13 +5,16 @@ use Rattle.tablet.proofs.round.fill.Statement.{statement}
 use Rattle.tablet.proofs.round.fill.Tie as tie
 
 abbrev Inv-loop : tie.InvT-loop
-Inv-loop list n q₀ i₀ q i = Unit {0}
+Inv-loop list n queue₀ log₀ i₀ queue log i = Unit {0}
 
 abbrev μ-loop : tie.MeasureT-loop
-μ-loop list n q₀ i₀ q i = n - i
+μ-loop list n queue₀ log₀ i₀ queue log i = n - i
 
 begin-requires : tie.Need-begin-requires Inv-loop μ-loop
 begin-requires c κs = search needs
+
+begin-requires-2 : tie.Need-begin-requires-2 Inv-loop μ-loop
+begin-requires-2 c κs = search needs
 
 loop-holds : tie.Need-loop-holds Inv-loop μ-loop
 loop-holds c = search needs
@@ -19,8 +22,8 @@ loop-holds c = search needs
 take-line-requires : tie.Need-take-line-requires Inv-loop μ-loop
 take-line-requires c κs = search needs
 
-count-requires : tie.Need-count-requires Inv-loop μ-loop
-count-requires c κs = search needs
+ask-requires : tie.Need-ask-requires Inv-loop μ-loop
+ask-requires c κs = search needs
 
 add-requires : tie.Need-add-requires Inv-loop μ-loop
 add-requires c κs = search needs
@@ -44,9 +47,10 @@ fill-spec =
     Inv-loop
     μ-loop
     begin-requires
+    begin-requires-2
     loop-holds
     take-line-requires
-    count-requires
+    ask-requires
     add-requires
     add-i
     loop-less

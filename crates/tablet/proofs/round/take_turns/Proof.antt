@@ -7,10 +7,10 @@ use Rattle.tablet.proofs.round.take_turns.Statement.{statement}
 use Rattle.tablet.proofs.round.take_turns.Tie as tie
 
 abbrev Inv-loop : tie.InvT-loop
-Inv-loop list path budget q₀ turns₀ q turns = Unit {0}
+Inv-loop list path budget q₀ log₀ turns₀ q log turns = Unit {0}
 
 abbrev μ-loop : tie.MeasureT-loop
-μ-loop list path budget q₀ turns₀ q turns = slotCount * (longestBook / 32 - 1) - turns
+μ-loop list path budget q₀ log₀ turns₀ q log turns = slotCount * (longestBook / 32 - 1) - turns
 
 loop-holds : tie.Need-loop-holds Inv-loop μ-loop
 loop-holds c = search needs
@@ -29,6 +29,9 @@ enum-known-answer c = search needs
 
 keep-requires : tie.Need-keep-requires Inv-loop μ-loop
 keep-requires c κs = search needs
+
+fail-requires : tie.Need-fail-requires Inv-loop μ-loop
+fail-requires c κs = search needs
 
 returns-2 : tie.Need-returns-2 Inv-loop μ-loop
 returns-2 c = search needs
@@ -60,6 +63,7 @@ take-turns-spec =
     returns
     enum-known-answer
     keep-requires
+    fail-requires
     returns-2
     serve-requires
     add-turns
