@@ -55,6 +55,14 @@ pub reported-given : (f : Figures) → reported (Given f) ≡ reply 0 (figureVal
 unfolding reported
 reported-given f = refl
 
+pub remaining-unknown : (x : Refusal) → remaining (Unknown x) ≡ reply (refusalNumber x) []
+unfolding remaining
+remaining-unknown x = refl
+
+pub remaining-left : (m : ℕ) → remaining (Left m) ≡ reply 0 (m ∷ [])
+unfolding remaining
+remaining-left m = refl
+
 pub figureValues-six : (f : Figures) {m : ℕ} → choose (f .reportable) 1 0 ≡ m
     → figureValues f
     ≡ (f .fossil .0 ∷ f .biomass .0 ∷ f .ch4 .0 ∷ f .n2o .0 ∷ f .co2e .0 ∷ m ∷ [])

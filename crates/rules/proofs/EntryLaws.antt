@@ -1,5 +1,5 @@
 -- What the tests of a record and of its fuel line say of the numbers that masses are made of, and how
--- large an entry gets. Assumes nothing.
+-- large an entry's numbers get. Assumes nothing.
 use Prim.Native.Nat.{ℕ, _≤_, zero-le}
 use mathlib.Core.Bool.{true}
 use mathlib.Core.List.{List}
@@ -20,6 +20,7 @@ use Rattle.rules.specs.Book.{fuelHeadOk, fuelOk}
 use Rattle.rules.specs.Method.{methodOf}
 use Rattle.rules.specs.Entry.{heatInUse, co2By, fuelEntry, hourEntry}
 use Rattle.rules.specs.Record.{heatRange, carbonLimit, fuelRanges}
+use Rattle.rules.proofs.MethodLaws.{methodOf-le}
 
 -- ---- ranges
 carbonLimit-le : (f : List ℕ) → carbonLimit f ≤ 4000000
@@ -60,8 +61,9 @@ reach l f h k =
       by-carbon = record { amount-le = amount-in; carbon-le = le-trans carbon-in (carbonLimit-le f) };
     }
 
--- ---- no entry gives a ledger more than one record can
+-- ---- no entry gives a ledger more than one record can, and its method is one of the list
 pub record Bounded (e : Entry) : Type 0 where
+  pub method-le : e .method ≤ 4
   pub co2-le : e .co2 .0 ≤ mostEach
   pub ch4-le : e .ch4 .0 ≤ mostEach
   pub n2o-le : e .n2o .0 ≤ mostEach
@@ -81,6 +83,7 @@ unfolding fuelEntry
 bounded-fuelEntry l u f h k =
     let r = reach l f h k in
     record {
+      method-le = methodOf-le l u f;
       co2-le = co2By-le (methodOf l u f) l f r;
       ch4-le = traceOfHeat-le _ _ _ (r .by-ch4);
       n2o-le = traceOfHeat-le _ _ _ (r .by-n2o);
@@ -88,4 +91,9 @@ bounded-fuelEntry l u f h k =
 
 pub bounded-hourEntry : (r : Readings) → InRange r → Bounded (hourEntry r)
 unfolding hourEntry
-bounded-hourEntry r h = record { co2-le = le-trans (hourMass-le r h) (lit≤ tt); ch4-le = zero-le; n2o-le = zero-le }
+bounded-hourEntry r h = record {
+  method-le = zero-le;
+  co2-le = le-trans (hourMass-le r h) (lit≤ tt);
+  ch4-le = zero-le;
+  n2o-le = zero-le;
+}

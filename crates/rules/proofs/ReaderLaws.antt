@@ -1,6 +1,6 @@
 -- The sight of each answer and of each record, that it is of one answer only, and that a way through
 -- a book by steps ends. Assumes nothing.
-use Prim.Native.Nat.{ℕ, _-_, _<_}
+use Prim.Native.Nat.{ℕ, _-_, _<_, _≤_}
 use mathlib.Core.List.{List}
 use mathlib.Core.Path.{_≡_, refl, sym, ap, subst, _∙_}
 use native.Mathlib.Omega.{arith}
@@ -19,6 +19,8 @@ use Rattle.rules.specs.Book.{Answer, refused, accepted, opened, faultNum
 use Rattle.rules.specs.Record.{outcomeAt}
 use Rattle.rules.specs.Reader.{Sight, turnedAway, missing, shown, sightBy, sightAt, sight, leftBy, leftFrom, placeAfter}
 use Rattle.rules.proofs.BookLaws.{Accepted, accepted-facts}
+use Rattle.rules.proofs.NumberLaws.{opened-number}
+use Rattle.rules.proofs.RecordLaws.{Within, within-outcomeAt}
 
 -- ---- the sight of each answer
 pub sight-refused : (x : Fault) → sight (Refused x) ≡ turnedAway (faultNumber x)
@@ -39,6 +41,18 @@ pub sightAt-shown : (s : List ℕ) (h : Head) (i : ℕ) → opened s ≡ accepte
 unfolding sightAt sightBy
 sightAt-shown s h i e l =
     ap (λ (a : Answer). sightBy a s i) e ∙ choose-t missing (lt-ltb i (h .n) l) refl
+
+-- ---- what holds of every refusal, of no record, and of every outcome holds of every sight
+module _ (P : Sight → Type 0) (s : List ℕ) (i : ℕ) where
+  pub sightAt-each : ((n : ℕ) → 20 ≤ n → n ≤ 23 → P (turnedAway n)) → P missing
+      → ((o : Outcome) → Within o → P (shown o)) → P (sightAt s i)
+  unfolding sightAt sightBy
+  sightAt-each refuse none show = at (opened s) refl
+    where
+      at : (a : Answer) → opened s ≡ a → P (sightBy a s i)
+      at (refused n) e = let range = opened-number s n e in refuse n (range .0) (range .1)
+      at (accepted h) e =
+          if-choose P (ltb i (h .n)) (λ l. show (outcomeAt h s i) (within-outcomeAt h s i e)) (λ l. none)
 
 -- ---- one answer only
 -- What `look` gave, from the sight that it stands for.
