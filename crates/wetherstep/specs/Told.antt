@@ -5,6 +5,7 @@
 --     freshTold w            the reply that the word of a fresh start tells
 --     wakeTold w             the reply that the word of a wake tells
 --     reportTold w fs        the reply that the word of a report tells, fs being the figures after it
+--     leftTold w             the reply that the word of a count tells
 --
 -- Laws: proofs/ToldLaws.antt. Definitions only.
 use Prim.Native.Nat.{ℕ, _/_, _%_}
@@ -34,3 +35,7 @@ reportTold w fs =
     (choose (eqb (toldNumber w) 40) (reply 40 (toldCount w ∷ []))
     (choose (eqb (toldNumber w) 41) (reply 41 (toldCount w ∷ toldReason w ∷ []))
     (reply (toldNumber w) [])))
+
+-- As of a wake.
+abbrev pub leftTold : ℕ → Reply
+leftTold w = wakeTold w

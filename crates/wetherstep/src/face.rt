@@ -1,6 +1,7 @@
-// The three calls of the job for C: a reply is one word, and figures go to a buffer that the caller
-// lends. include/wetherstep.h declares them.
+// The calls of the job for C: a reply is one word, and figures go to a buffer that the caller lends.
+// include/wetherstep.h declares them.
 use job::reply;
+use job::reply::Remaining;
 use job::reply::Reported;
 use job::reply::Started;
 use job::reply::Woken;
@@ -8,9 +9,9 @@ use job::report;
 use job::wake;
 use mass::figures::Figures;
 ghost use mathlib.Core.Path.{_≡_};
-ghost use Rattle.job.specs.Reply.{figureValues, started, woken, reported};
+ghost use Rattle.job.specs.Reply.{figureValues, started, woken, reported, remaining};
 ghost use Rattle.job.specs.Wake.{freshReply, freshBytes, wakeReply, wakeBytes};
-ghost use Rattle.job.specs.Report.{reportReply};
+ghost use Rattle.job.specs.Report.{reportReply, leftReply};
 ghost use Rattle.wetherstep.specs.Face.{packed, wordOf, figuresAfter};
 
 // What one of the reason, and one of the count, is worth in a word.
@@ -51,6 +52,13 @@ pub extern "C" fn wetherstep_report(book: &[u8], checkpoint: &[u8], figures: &mu
     ensures figures { λ _. ⌜ now (figures .exit) ≡ figuresAfter (reportReply (now (book .entry)) (now (checkpoint .entry))) (now (figures .entry)) ⌝ }
 {
     tell_report(report::report(book, checkpoint), figures)
+}
+
+#[no_mangle]
+pub extern "C" fn wetherstep_left(book: &[u8], checkpoint: &[u8]) -> u64
+    ensures word { λ r. ⌜ r ≡ wordOf (leftReply (now (book .entry)) (now (checkpoint .entry))) ⌝ }
+{
+    tell_left(report::count_left(book, checkpoint))
 }
 
 fn tell_start(s: Started) -> u64
@@ -96,9 +104,18 @@ fn list(f: Figures) -> [u64; 6]
     [f.fossil.0, f.biomass.0, f.ch4.0, f.n2o.0, f.co2e.0, must]
 }
 
+fn tell_left(m: Remaining) -> u64
+    ensures word { λ r. ⌜ r ≡ wordOf (remaining m) ⌝ }
+{
+    match m {
+        Remaining::Unknown(x) => pack(reply::number_refusal(x), 0, 0),
+        Remaining::Left(count) => pack(ACCEPTED, 0, count),
+    }
+}
+
 // The types bound each field, so that none runs into the next.
 fn pack(number: u8, reason: u8, count: u32) -> u64
-    ensures word { λ r. ⌜ r ≡ packed number reason count ⌝ }
+    ensures word { λ r. ⌜ r ≡ packed number reason 0 0 count ⌝ }
 {
     number as u64 + REASON_UNIT * (reason as u64) + COUNT_UNIT * (count as u64)
 }

@@ -1,2 +1,2 @@
-// The three calls for C: include/wetherstep.h tells a C caller of them. They decide nothing.
+// The job's calls for C: include/wetherstep.h tells a C caller of them. They decide nothing.
 pub mod face;

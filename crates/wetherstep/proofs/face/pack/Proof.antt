@@ -1,5 +1,5 @@
 -- The word is the sum that `packed` defines. Assumes nothing.
-use mathlib.Core.Path.{refl}
+use native.Mathlib.Omega.{arith}
 use borrow.Author.Needs.{needs}
 use Rattle.wetherstep.specs.Face.{packed}
 use Rattle.wetherstep.proofs.face.pack.Statement.{statement}
@@ -19,7 +19,7 @@ add-result-2 c = search needs
 
 returns : tie.Need-returns
 unfolding packed
-returns c = refl
+returns c = omega arith
 
 pub pack-spec : {M : Type 1} → statement M
 pack-spec = tie.close (tie.spec mul-result add-result mul-result-2 add-result-2 returns)
