@@ -14,7 +14,13 @@
 
 enum { ROOM = 128, SIZE = WETHERSTEP_CHECKPOINT_SIZE, FUZZED = 30000 };
 
-static unsigned long compared, numbers[256], reasons[256];
+enum call { FRESH, WAKE, REPORT, LEFT, RECORD, CALLS };
+enum field { NUMBER, REASON, METHOD, LEDGER, FIELDS }; /* the lowest bytes of a reply */
+
+static const char *const calls[CALLS] = {"fresh", "wake", "report", "left", "record"};
+static const char *const fields[FIELDS] = {"number", "reason", "method", "ledger"};
+
+static unsigned long compared, counts[CALLS][FIELDS][256];
 
 /* A buffer longer than any output, filled, so that a byte too many or too few shows. */
 struct out {
@@ -28,15 +34,27 @@ static struct out filled(void)
     return out;
 }
 
-static void same(const char *name, const char *call, uint64_t library, uint64_t plain,
+/* Method and ledger are counted where they are told: of a record that is there and isn't set aside,
+   the method also where there is no record. */
+static void count(enum call call, uint64_t reply)
+{
+    counts[call][NUMBER][wetherstep_number(reply)]++;
+    counts[call][REASON][wetherstep_reason(reply)]++;
+    if (wetherstep_number(reply) != 0 || wetherstep_reason(reply) != 0)
+        return;
+    counts[call][METHOD][wetherstep_method(reply)]++;
+    if (wetherstep_method(reply) != WETHERSTEP_NO_RECORD)
+        counts[call][LEDGER][wetherstep_ledger(reply)]++;
+}
+
+static void same(const char *name, enum call call, uint64_t library, uint64_t plain,
                  const void *library_out, const void *plain_out, size_t length)
 {
     compared++;
-    numbers[wetherstep_number(plain)]++;
-    reasons[wetherstep_reason(plain)]++;
+    count(call, plain);
     if (library == plain && memcmp(library_out, plain_out, length) == 0)
         return;
-    printf("%s: %s differs: library %016" PRIx64 ", C %016" PRIx64 "\n", name, call, library,
+    printf("%s: %s differs: library %016" PRIx64 ", C %016" PRIx64 "\n", name, calls[call], library,
            plain);
     exit(1);
 }
@@ -46,7 +64,7 @@ static struct out compare_fresh(const struct bytes *b, const char *name, size_t 
     struct out one = filled(), two = filled();
     uint64_t library = wetherstep_fresh(b->book, b->length, one.bytes, out_len);
     uint64_t plain = plain_fresh(b->book, b->length, two.bytes, out_len);
-    same(name, "fresh", library, plain, &one, &two, sizeof one);
+    same(name, FRESH, library, plain, &one, &two, sizeof one);
     return one;
 }
 
@@ -59,7 +77,7 @@ static uint32_t compare_wake(const struct bytes *b, const char *name, struct out
         wetherstep_wake(b->book, b->length, from->bytes, from_len, budget, one.bytes, out_len);
     uint64_t plain =
         plain_wake(b->book, b->length, from->bytes, from_len, budget, two.bytes, out_len);
-    same(name, "wake", library, plain, &one, &two, sizeof one);
+    same(name, WAKE, library, plain, &one, &two, sizeof one);
     if (wetherstep_number(plain) == 0)
         *from = one;
     return wetherstep_count(plain);
@@ -71,7 +89,31 @@ static void compare_report(const struct bytes *b, const char *name, const struct
     uint64_t one[8] = {9, 9, 9, 9, 9, 9, 9, 9}, two[8] = {9, 9, 9, 9, 9, 9, 9, 9};
     uint64_t library = wetherstep_report(b->book, b->length, from->bytes, from_len, one);
     uint64_t plain = plain_report(b->book, b->length, from->bytes, from_len, two);
-    same(name, "report", library, plain, one, two, sizeof one);
+    same(name, REPORT, library, plain, one, two, sizeof one);
+}
+
+static void compare_left(const struct bytes *b, const char *name, const struct out *from,
+                         size_t from_len)
+{
+    uint64_t library = wetherstep_left(b->book, b->length, from->bytes, from_len);
+    uint64_t plain = plain_left(b->book, b->length, from->bytes, from_len);
+    same(name, LEFT, library, plain, "", "", 0);
+}
+
+static void compare_record(const struct bytes *b, const char *name, uint32_t index)
+{
+    uint64_t one[5] = {9, 9, 9, 9, 9}, two[5] = {9, 9, 9, 9, 9};
+    uint64_t library = wetherstep_record(b->book, b->length, index, one);
+    uint64_t plain = plain_record(b->book, b->length, index, two);
+    same(name, RECORD, library, plain, one, two, sizeof one);
+}
+
+/* Every record, and two that aren't there. */
+static void compare_records(const struct bytes *b, const char *name)
+{
+    for (size_t i = 0; i <= b->records; i++)
+        compare_record(b, name, (uint32_t)i);
+    compare_record(b, name, UINT32_MAX);
 }
 
 /* One byte changed: anything, or by one, or to an end of its range. */
@@ -93,11 +135,14 @@ void compare_book(const struct bytes *b, const char *name)
             struct out damaged = at;
             damage(damaged.bytes, SIZE, &row);
             compare_report(b, name, &damaged, SIZE);
+            compare_left(b, name, &damaged, SIZE);
             compare_wake(b, name, &damaged, SIZE, budgets[i], SIZE);
             compare_report(b, name, &at, SIZE);
+            compare_left(b, name, &at, SIZE);
         } while (compare_wake(b, name, &at, SIZE, budgets[i], SIZE) != 0);
         compare_report(b, name, &at, SIZE);
     }
+    compare_records(b, name);
 }
 
 /* Lengths that are wrong, one at a time and together. */
@@ -114,10 +159,13 @@ static void compare_lengths(struct bytes *b)
         compare_wake(b, "lengths", &at, SIZE, 1, short_one);
         compare_wake(b, "lengths", &at, short_one, 1, short_one);
         compare_report(b, "lengths", &at, short_one);
+        compare_left(b, "lengths", &at, short_one);
         b->length = wrong[i];
         compare_fresh(b, "lengths", short_one);
         compare_wake(b, "lengths", &at, SIZE, 1, SIZE);
         compare_report(b, "lengths", &at, SIZE);
+        compare_left(b, "lengths", &at, SIZE);
+        compare_record(b, "lengths", 0);
         b->length = right;
     }
 }
@@ -132,10 +180,33 @@ static void compare_too_many(struct bytes *b)
     compare_book(b, fuels.name);
 }
 
+/* What each call has to have answered. */
+static void see_all(void)
+{
+    static const struct {
+        enum call call;
+        enum field field;
+        unsigned least, most;
+    } due[] = {
+        {FRESH, NUMBER, 0, 0},   {FRESH, NUMBER, 20, 23},  {FRESH, NUMBER, 32, 32},
+        {WAKE, NUMBER, 0, 0},    {WAKE, NUMBER, 20, 23},   {WAKE, NUMBER, 30, 32},
+        {REPORT, NUMBER, 0, 0},  {REPORT, NUMBER, 20, 23}, {REPORT, NUMBER, 30, 31},
+        {REPORT, NUMBER, 40, 41}, {REPORT, REASON, 1, 7},
+        {LEFT, NUMBER, 0, 0},    {LEFT, NUMBER, 20, 23},   {LEFT, NUMBER, 30, 31},
+        {RECORD, NUMBER, 0, 0},  {RECORD, NUMBER, 20, 23}, {RECORD, REASON, 1, 7},
+        {RECORD, METHOD, 0, 4},  {RECORD, METHOD, 255, 255}, {RECORD, LEDGER, 0, 2},
+    };
+    for (size_t i = 0; i < sizeof due / sizeof *due; i++)
+        for (unsigned x = due[i].least; x <= due[i].most; x++)
+            if (counts[due[i].call][due[i].field][x] == 0) {
+                printf("no %s answered with %s %u\n", calls[due[i].call], fields[due[i].field], x);
+                exit(1);
+            }
+}
+
 void compare_damaged(void)
 {
     static struct bytes b;
-    static const unsigned all[] = {0, 20, 21, 22, 23, 30, 31, 32, 40, 41};
     const struct recipe small = {"small", MIXED, 10, 4, 4};
     uint64_t row = 5;
     make_book(&b, &small);
@@ -152,11 +223,7 @@ void compare_damaged(void)
         compare_book(&b, "damaged");
     }
     compare_too_many(&b);
-    for (size_t i = 0; i < sizeof all / sizeof *all; i++)
-        if (numbers[all[i]] == 0)
-            printf("no call answered with number %u\n", all[i]), exit(1);
-    for (unsigned reason = 1; reason <= 7; reason++)
-        if (reasons[reason] == 0)
-            printf("no record had reason %u\n", reason), exit(1);
-    printf("compared: %lu calls, every number and every reason among them; all alike\n", compared);
+    see_all();
+    printf("compared: %lu calls, every number, reason, method and ledger among them; all alike\n",
+           compared);
 }

@@ -4,11 +4,12 @@
 
 #include "books.h"
 
-/* Every call on a book, by wakes of several budgets, and from checkpoints that were damaged. */
+/* Every call on a book, by wakes of several budgets, from checkpoints that were damaged too, and a
+   look at every record. */
 void compare_book(const struct bytes *b, const char *name);
 
 /* Books and buffers that are refused, and records set aside. Says how many calls were compared, and
-   stops unless every number and every reason was among the answers. */
+   stops unless each call gave every number, reason, method and ledger that it can. */
 void compare_damaged(void);
 
 #endif

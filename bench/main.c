@@ -34,7 +34,7 @@ struct job {
 
 typedef void work(const struct calls *calls, const struct job *job);
 
-/* The three calls, the wake in one piece. */
+/* A whole job, the wake in one piece. */
 static void do_whole(const struct calls *calls, const struct job *job)
 {
     const struct bytes *b = job->book;
@@ -227,6 +227,18 @@ static void call_report(void)
     do_report(&library, deep);
 }
 
+static void call_left(void)
+{
+    wetherstep_left(deep->book->book, deep->book->length, deep->at, SIZE);
+}
+
+static void call_record(void)
+{
+    uint64_t masses[3];
+    for (uint32_t i = 0; i < deep->book->records; i++)
+        wetherstep_record(deep->book->book, deep->book->length, i, masses);
+}
+
 static void call_nothing(void)
 {
 }
@@ -234,19 +246,26 @@ static void call_nothing(void)
 /* The most that a call touches on any of the books, less what the way to it takes. */
 static void tell_stack(struct bytes *b)
 {
-    static void (*const run[])(void) = {call_fresh, call_wake, call_report};
-    size_t most[3] = {0};
+    static const struct {
+        const char *name;
+        void (*run)(void);
+    } calls[] = {{"fresh", call_fresh}, {"wake", call_wake}, {"report", call_report},
+                 {"left", call_left}, {"record", call_record}};
+    enum { CALLS = sizeof calls / sizeof *calls };
+    size_t most[CALLS] = {0};
     for (int i = 0; i < BOOKS; i++) {
         struct job job = begin(b, &books[i], false);
         job.budget = UINT32_MAX;
         deep = &job;
-        for (int j = 0; j < 3; j++) {
-            size_t used = stack_of(run[j]) - stack_of(call_nothing);
+        for (int j = 0; j < CALLS; j++) {
+            size_t used = stack_of(calls[j].run) - stack_of(call_nothing);
             most[j] = used > most[j] ? used : most[j];
         }
     }
-    printf("\nstack of the library, bytes: fresh %zu, wake %zu, report %zu\n", most[0], most[1],
-           most[2]);
+    printf("\nstack of the library, bytes:");
+    for (int j = 0; j < CALLS; j++)
+        printf(" %s %zu", calls[j].name, most[j]);
+    printf("\n");
 }
 
 int main(int count, char **words)

@@ -1,5 +1,5 @@
 /*
- * The library's three calls again, in plain C written from the requirements alone and for speed:
+ * The library's calls again, in plain C written from the requirements alone and for speed:
  * what the library is timed against. Buffers, lengths and replies are as in include/wetherstep.h.
  */
 #ifndef PLAIN_H
@@ -13,5 +13,8 @@ uint64_t plain_wake(const uint8_t *book, size_t book_len, const uint8_t *checkpo
                     size_t checkpoint_len, uint32_t budget, uint8_t *out, size_t out_len);
 uint64_t plain_report(const uint8_t *book, size_t book_len, const uint8_t *checkpoint,
                       size_t checkpoint_len, uint64_t figures[6]);
+uint64_t plain_left(const uint8_t *book, size_t book_len, const uint8_t *checkpoint,
+                    size_t checkpoint_len);
+uint64_t plain_record(const uint8_t *book, size_t book_len, uint32_t index, uint64_t masses[3]);
 
 #endif
