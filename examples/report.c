@@ -1,7 +1,9 @@
 /*
  * The year's report of a book, worked out as a tablet does it: a fresh start, wakes of ten records
- * from checkpoint to checkpoint, and the report. A tablet saves each checkpoint before it goes on.
+ * from checkpoint to checkpoint until none is left, and the report. A tablet saves each checkpoint
+ * before it goes on, and a copy of the book before the first: wetherstep.h says how.
  */
+#include <errno.h>
 #include <inttypes.h>
 #include <stdio.h>
 #include <string.h>
@@ -10,12 +12,23 @@
 
 enum { BUDGET = 10, LONGEST = 65536, LINE = 32 };
 
-static int refuse(uint64_t reply) {
+enum status { PRINTED, FAILED, WRONG_ARGUMENTS, REFUSED };
+
+static enum status fail(const char *where) {
+    fprintf(stderr, "%s: %s\n", where, strerror(errno));
+    return FAILED;
+}
+
+static int is_refused(uint64_t reply) {
+    return wetherstep_number(reply) != WETHERSTEP_ACCEPTED;
+}
+
+static enum status refuse(uint64_t reply) {
     printf("refused %u", wetherstep_number(reply));
     if (wetherstep_number(reply) == WETHERSTEP_RECORD_ASIDE)
         printf(" record %" PRIu32 " reason %u", wetherstep_count(reply), wetherstep_reason(reply));
     printf("\n");
-    return 0;
+    return REFUSED;
 }
 
 static void print(const uint8_t *book, size_t length, const uint64_t *figures) {
@@ -34,41 +47,47 @@ static void print(const uint8_t *book, size_t length, const uint64_t *figures) {
     printf("must-report %s\n", figures[WETHERSTEP_MUST_REPORT] ? "yes" : "no");
 }
 
-static int report(const uint8_t *book, size_t length) {
+static enum status report(const uint8_t *book, size_t length) {
     uint8_t checkpoint[WETHERSTEP_CHECKPOINT_SIZE], next[WETHERSTEP_CHECKPOINT_SIZE];
     uint64_t figures[WETHERSTEP_FIGURES];
     uint64_t reply = wetherstep_fresh(book, length, checkpoint, sizeof checkpoint);
 
-    if (wetherstep_number(reply) != WETHERSTEP_ACCEPTED)
+    if (is_refused(reply))
         return refuse(reply);
-    do {
+    /* A count that is refused is 0 too, and then the report tells why. */
+    while (wetherstep_count(wetherstep_left(book, length, checkpoint, sizeof checkpoint)) > 0) {
         reply = wetherstep_wake(book, length, checkpoint, sizeof checkpoint, BUDGET,
                                 next, sizeof next);
-        if (wetherstep_number(reply) != WETHERSTEP_ACCEPTED)
+        if (is_refused(reply))
             return refuse(reply);
         memcpy(checkpoint, next, sizeof checkpoint);
-    } while (wetherstep_count(reply) == BUDGET);
+    }
     reply = wetherstep_report(book, length, checkpoint, sizeof checkpoint, figures);
-    if (wetherstep_number(reply) != WETHERSTEP_ACCEPTED)
+    if (is_refused(reply))
         return refuse(reply);
     print(book, length, figures);
-    return 0;
+    return PRINTED;
 }
 
 int main(int argc, char **argv) {
     static uint8_t book[LONGEST + 1]; /* a byte more, so that a book that is too long is seen */
-    FILE *file = argc == 2 ? fopen(argv[1], "rb") : NULL;
+    enum status status;
     size_t length;
+    FILE *file;
 
-    if (!file) {
-        fprintf(stderr, argc == 2 ? "report: can't open the book\n" : "usage: report BOOK\n");
-        return 1;
+    if (argc != 2) {
+        fprintf(stderr, "usage: report BOOK\n");
+        return WRONG_ARGUMENTS;
     }
+    file = fopen(argv[1], "rb");
+    if (!file)
+        return fail(argv[1]);
     length = fread(book, 1, sizeof book, file);
-    if (ferror(file)) {
-        fprintf(stderr, "report: can't read the book\n");
-        return 1;
-    }
+    if (ferror(file))
+        return fail(argv[1]);
     fclose(file);
-    return report(book, length);
+    status = report(book, length);
+    if (fflush(stdout) != 0 || ferror(stdout)) /* until here it may wait in memory */
+        return fail("standard output");
+    return status;
 }
