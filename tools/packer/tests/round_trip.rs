@@ -19,8 +19,8 @@ use std::path::Path;
 
 use bad_books::{changed, sized, BYTES, TEXT};
 use bad_texts::{one_line_too_many, rows, BAD_AFTER_NO_YEAR, BAD_AFTER_SOUND, NO_YEAR, SOUND};
-use book::{pack, unpack};
 use dice::Dice;
+use packer::{pack, unpack};
 use program::{fresh_folder, names_in, refused, run};
 use random_books::{Sample, LONGEST, MOST_LINES};
 use random_lines::LINE;
@@ -158,7 +158,7 @@ fn wrong_arguments_get_the_usage() {
         assert_eq!(ended.status, Some(2), "{arguments:?}");
         assert_eq!(
             ended.message,
-            "usage: book pack TEXT BOOK | book unpack BOOK TEXT\n"
+            "usage: packer pack TEXT BOOK | packer unpack BOOK TEXT\n"
         );
     }
     assert_eq!(names_in(&folder), ["from"]);

@@ -1,4 +1,4 @@
-//! The program `book`: a text packed into a book, or a book unpacked into its text.
+//! The program `packer`: a text packed into a book, or a book unpacked into its text.
 
 mod files;
 
@@ -7,7 +7,7 @@ use std::fs;
 use std::path::Path;
 use std::process::ExitCode;
 
-const USAGE: &str = "usage: book pack TEXT BOOK | book unpack BOOK TEXT";
+const USAGE: &str = "usage: packer pack TEXT BOOK | packer unpack BOOK TEXT";
 const WRONG_ARGUMENTS: u8 = 2;
 
 fn main() -> ExitCode {
@@ -38,12 +38,12 @@ fn wrong_arguments() -> ExitCode {
 type Convert = fn(&Path, &[u8]) -> Result<Vec<u8>, String>;
 
 fn pack(path: &Path, text: &[u8]) -> Result<Vec<u8>, String> {
-    book::pack(text)
+    packer::pack(text)
         .map_err(|fault| format!("{}:{}: {}", path.display(), fault.line, fault.message))
 }
 
 fn unpack(path: &Path, bytes: &[u8]) -> Result<Vec<u8>, String> {
-    let text = book::unpack(bytes).map_err(|refusal| format!("{}: {refusal}", path.display()))?;
+    let text = packer::unpack(bytes).map_err(|refusal| format!("{}: {refusal}", path.display()))?;
     Ok(text.into_bytes())
 }
 

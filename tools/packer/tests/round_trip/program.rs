@@ -10,7 +10,7 @@ pub struct Ended {
 }
 
 pub fn run(arguments: &[&Path]) -> Ended {
-    let program = env!("CARGO_BIN_EXE_book");
+    let program = env!("CARGO_BIN_EXE_packer");
     let output = Command::new(program).args(arguments).output().unwrap();
     assert_eq!(output.stdout, b"", "the program prints nothing but faults");
     Ended {
