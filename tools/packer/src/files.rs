@@ -6,7 +6,7 @@ use std::io::{self, Write};
 use std::path::{Path, PathBuf};
 use std::process;
 
-/// A slip such as `packer pack plant.txt plant.txt` would cost the text with its comments.
+/// A slip such as `tools/book pack plant.txt plant.txt` would cost the text with its comments.
 pub fn check_apart(from: &Path, to: &Path) -> io::Result<()> {
     match (fs::canonicalize(from), fs::canonicalize(to)) {
         (Ok(from), Ok(to)) if from == to => Err(io::Error::other("this is the file that was read")),

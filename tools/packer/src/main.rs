@@ -1,26 +1,32 @@
-//! The program `packer`: a text packed into a book, or a book unpacked into its text.
+//! The program that tools/book runs: a text packed into a book, or a book unpacked into its text.
 
 mod files;
 
 use std::env;
 use std::fs;
+use std::io::{self, Write};
 use std::path::Path;
 use std::process::ExitCode;
 
-const USAGE: &str = "usage: packer pack TEXT BOOK | packer unpack BOOK TEXT";
+const USAGE: &str = "\
+usage: tools/book pack TEXT BOOK      packs a text into a book
+       tools/book unpack BOOK TEXT    unpacks a book into its text
+";
 const WRONG_ARGUMENTS: u8 = 2;
 
 fn main() -> ExitCode {
     let arguments: Vec<_> = env::args_os().skip(1).collect();
-    let convert: Convert = match arguments.first().and_then(|verb| verb.to_str()) {
-        Some("pack") => pack,
-        Some("unpack") => unpack,
-        _ => return wrong_arguments(),
+    let verb = arguments.first().and_then(|verb| verb.to_str());
+    let ended = match (verb, arguments.as_slice()) {
+        (Some("--help"), [_]) => print(USAGE),
+        (Some("pack"), [_, text, book]) => turn(text.as_ref(), book.as_ref(), pack),
+        (Some("unpack"), [_, book, text]) => turn(book.as_ref(), text.as_ref(), unpack),
+        _ => {
+            eprint!("{USAGE}");
+            return ExitCode::from(WRONG_ARGUMENTS);
+        }
     };
-    let [_, from, to] = arguments.as_slice() else {
-        return wrong_arguments();
-    };
-    match turn(Path::new(from), Path::new(to), convert) {
+    match ended {
         Ok(()) => ExitCode::SUCCESS,
         Err(message) => {
             eprintln!("{message}");
@@ -29,9 +35,11 @@ fn main() -> ExitCode {
     }
 }
 
-fn wrong_arguments() -> ExitCode {
-    eprintln!("{USAGE}");
-    ExitCode::from(WRONG_ARGUMENTS)
+fn print(words: &str) -> Result<(), String> {
+    let mut out = io::stdout();
+    out.write_all(words.as_bytes())
+        .and_then(|()| out.flush())
+        .map_err(|fault| format!("standard output: {fault}"))
 }
 
 /// Gives the content of the new file, or one line that says what is wrong with the old one.

@@ -7,6 +7,7 @@ mod bad_books;
 mod bad_texts;
 #[path = "round_trip/dice.rs"]
 mod dice;
+mod folder;
 #[path = "round_trip/program.rs"]
 mod program;
 #[path = "round_trip/random_books.rs"]
@@ -20,13 +21,19 @@ use std::path::Path;
 use bad_books::{changed, sized, BYTES, TEXT};
 use bad_texts::{one_line_too_many, rows, BAD_AFTER_NO_YEAR, BAD_AFTER_SOUND, NO_YEAR, SOUND};
 use dice::Dice;
+use folder::fresh_folder;
 use packer::{pack, unpack};
-use program::{fresh_folder, names_in, refused, run};
+use program::{names_in, refused, run};
 use random_books::{Sample, LONGEST, MOST_LINES};
 use random_lines::LINE;
 
 const BOOKS: usize = 3000;
 const SEED: u64 = 2010;
+
+const USAGE: &str = "\
+usage: tools/book pack TEXT BOOK      packs a text into a book
+       tools/book unpack BOOK TEXT    unpacks a book into its text
+";
 
 fn each_random_book(mut visit: impl FnMut(Sample, &mut Dice)) {
     let mut dice = Dice::new(SEED);
@@ -131,7 +138,8 @@ fn the_program_turns_files_both_ways() {
         ["unpack".as_ref(), &*book, &*back],
     ] {
         let ended = run(&arguments);
-        assert_eq!((ended.status, ended.message.as_str()), (Some(0), ""));
+        let told = (ended.printed.as_str(), ended.message.as_str());
+        assert_eq!((ended.status, told), (Some(0), ("", "")));
     }
     assert_eq!(fs::read(&book).unwrap(), BYTES);
     assert_eq!(fs::read_to_string(&back).unwrap(), TEXT);
@@ -151,17 +159,27 @@ fn wrong_arguments_get_the_usage() {
         &["pack".as_ref(), &from],
         &["pack".as_ref(), &from, &to, &to],
         &["print".as_ref(), &from, &to],
-        &["--help".as_ref()],
+        &["--help".as_ref(), &from],
     ];
     for arguments in wrong {
         let ended = run(arguments);
         assert_eq!(ended.status, Some(2), "{arguments:?}");
         assert_eq!(
-            ended.message,
-            "usage: packer pack TEXT BOOK | packer unpack BOOK TEXT\n"
+            (ended.printed.as_str(), ended.message.as_str()),
+            ("", USAGE)
         );
     }
     assert_eq!(names_in(&folder), ["from"]);
+}
+
+#[test]
+fn help_is_the_usage_on_standard_output() {
+    let ended = run(&["--help".as_ref()]);
+    assert_eq!(ended.status, Some(0));
+    assert_eq!(
+        (ended.printed.as_str(), ended.message.as_str()),
+        (USAGE, "")
+    );
 }
 
 #[test]

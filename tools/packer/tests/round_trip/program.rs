@@ -1,31 +1,23 @@
 //! The program run on files of a folder made for one test.
 
 use std::fs;
-use std::path::{Path, PathBuf};
+use std::path::Path;
 use std::process::Command;
 
 pub struct Ended {
     pub status: Option<i32>,
+    pub printed: String,
     pub message: String,
 }
 
 pub fn run(arguments: &[&Path]) -> Ended {
     let program = env!("CARGO_BIN_EXE_packer");
     let output = Command::new(program).args(arguments).output().unwrap();
-    assert_eq!(output.stdout, b"", "the program prints nothing but faults");
     Ended {
         status: output.status.code(),
+        printed: String::from_utf8(output.stdout).unwrap(),
         message: String::from_utf8(output.stderr).unwrap(),
     }
-}
-
-pub fn fresh_folder(name: &str) -> PathBuf {
-    let folder = Path::new(env!("CARGO_TARGET_TMPDIR")).join(name);
-    if folder.exists() {
-        fs::remove_dir_all(&folder).unwrap();
-    }
-    fs::create_dir_all(&folder).unwrap();
-    folder
 }
 
 /// Runs the verb on a bad input, without an output file and with one, which must stay as they are.
@@ -37,6 +29,7 @@ pub fn refused(folder: &Path, verb: &str, input: &[u8]) -> String {
 
     let without = run(&arguments);
     assert_eq!(without.status, Some(1), "{}", without.message);
+    assert_eq!(without.printed, "");
     assert_eq!(names_in(folder), ["input"], "{}", without.message);
 
     fs::write(&to, "what was there").unwrap();
