@@ -145,6 +145,14 @@ impl Book {
         &self.records
     }
 
+    pub fn unit(&self, number: u16) -> Option<&Unit> {
+        self.units.iter().find(|unit| unit.number == number)
+    }
+
+    pub fn fuel(&self, number: u16) -> Option<&Fuel> {
+        self.fuels.iter().find(|fuel| fuel.number == number)
+    }
+
     pub fn add_unit(&mut self, unit: Unit) -> Result<(), String> {
         check_number("unit", unit.number, self.units.last().map(|u| u.number))?;
         check_count("unit", self.units.len(), MOST_UNITS)?;
@@ -179,6 +187,22 @@ impl Book {
             ));
         }
         Ok(())
+    }
+}
+
+impl Record {
+    pub fn unit(&self) -> Option<u16> {
+        match *self {
+            Record::Delivery { unit, .. } | Record::Hour { unit, .. } => Some(unit),
+            Record::Raw(_) => None,
+        }
+    }
+
+    pub fn fuel(&self) -> Option<u16> {
+        match *self {
+            Record::Delivery { fuel, .. } => Some(fuel),
+            Record::Hour { .. } | Record::Raw(_) => None,
+        }
     }
 }
 

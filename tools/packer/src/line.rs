@@ -133,15 +133,33 @@ pub fn encode_record(record: &Record) -> Line {
 
 /// A record is said in words only if the words give back all of its bytes.
 pub fn decode_record(line: &Line) -> Record {
-    let in_words = match line[0] {
-        DELIVERY => decode_delivery(line),
-        HOUR => decode_hour(line),
-        _ => return Record::Raw(*line),
+    match in_words(line) {
+        Some(record) if encode_record(&record) == *line => record,
+        _ => Record::Raw(*line),
+    }
+}
+
+/// Says which byte of a line no words give back, if there is one.
+pub fn form_fault(line: &Line) -> Option<String> {
+    let kind = line[0];
+    let Some(record) = in_words(line) else {
+        return Some(format!(
+            "kind {kind} is neither {DELIVERY}, a delivery, nor {HOUR}, an hour"
+        ));
     };
-    if encode_record(&in_words) == *line {
-        in_words
-    } else {
-        Record::Raw(*line)
+    let at = first_difference(line, &encode_record(&record))?;
+    Some(match (kind, at) {
+        (DELIVERY, 12..=15) => "it has a heat without the flag for one".to_string(),
+        (DELIVERY, 16..=19) => "it has carbon without the flag for it".to_string(),
+        _ => must_be_zero(at),
+    })
+}
+
+fn in_words(line: &Line) -> Option<Record> {
+    match line[0] {
+        DELIVERY => Some(decode_delivery(line)),
+        HOUR => Some(decode_hour(line)),
+        _ => None,
     }
 }
 

@@ -10,8 +10,15 @@ pub struct TextFault {
     pub message: String,
 }
 
-pub fn parse(text: &[u8]) -> Result<Book, TextFault> {
+pub struct Text {
+    pub book: Book,
+    /// The line of each record, counting from 1.
+    pub record_lines: Vec<usize>,
+}
+
+pub fn parse(text: &[u8]) -> Result<Text, TextFault> {
     let mut book = None;
+    let mut record_lines = Vec::new();
     let mut last = 1;
     for (i, line) in text.split(|&byte| byte == b'\n').enumerate() {
         last = i + 1;
@@ -19,11 +26,16 @@ pub fn parse(text: &[u8]) -> Result<Book, TextFault> {
             line: last,
             message,
         })?;
+        let records = book.as_ref().map_or(0, |book: &Book| book.records().len());
+        record_lines.resize(records, last);
     }
-    book.ok_or(TextFault {
-        line: last,
-        message: "the text ends and has said no year".to_string(),
-    })
+    match book {
+        Some(book) => Ok(Text { book, record_lines }),
+        None => Err(TextFault {
+            line: last,
+            message: "the text ends and has said no year".to_string(),
+        }),
+    }
 }
 
 fn parse_line(line: &[u8], book: &mut Option<Book>) -> Result<(), String> {

@@ -36,7 +36,7 @@ fn fuel_line(fuel: &Fuel) -> String {
     )
 }
 
-fn record_line(record: &Record) -> String {
+pub fn record_line(record: &Record) -> String {
     match record {
         Record::Delivery {
             unit,

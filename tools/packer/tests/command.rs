@@ -2,14 +2,16 @@
 //! what it says where it can't build. A stand-in for cargo makes a stand-in for the packer.
 
 mod folder;
+mod stand_in;
 
 use std::fs;
-use std::os::unix::fs::{symlink, PermissionsExt};
+use std::os::unix::fs::symlink;
 use std::path::{Path, PathBuf};
 use std::process::{Child, Command, Output, Stdio};
-use std::sync::{Mutex, MutexGuard, PoisonError};
+use std::sync::MutexGuard;
 
 use folder::fresh_folder;
+use stand_in::{alone, stand_in};
 
 /// What the script and the stand-ins call. A PATH of these alone has no cargo.
 const TOOLS: [&str; 15] = [
@@ -31,9 +33,14 @@ END
 chmod +x \"$CARGO_TARGET_DIR/release/packer\"
 ";
 
-/// A child of another test may hold a file open that this one has just written, and what is open for
-/// writing can't be run.
-static ALONE: Mutex<()> = Mutex::new(());
+/// Knows no cargo-web.
+const APT_OF_LATER_DEBIAN: &str = "\
+case \"$*\" in
+update*) ;;
+*cargo-web) exit 100 ;;
+*) mv \"${0%/*}/kept\" \"${0%/*}/cargo\" ;;
+esac
+";
 
 struct Repository {
     home: PathBuf,
@@ -43,7 +50,7 @@ struct Repository {
 
 impl Repository {
     fn new(name: &str) -> Repository {
-        let alone = ALONE.lock().unwrap_or_else(PoisonError::into_inner);
+        let alone = alone();
         let home = fresh_folder(name);
         let tools = home.join("bin");
         fs::create_dir_all(&tools).unwrap();
@@ -64,9 +71,7 @@ impl Repository {
     }
 
     fn stand_in(&self, tool: &str, script: &str) {
-        let path = self.tools.join(tool);
-        fs::write(&path, format!("#!/usr/bin/env bash\n{script}")).unwrap();
-        fs::set_permissions(&path, PermissionsExt::from_mode(0o755)).unwrap();
+        stand_in(&self.tools.join(tool), script);
     }
 
     fn start(&self, script: &Path) -> Child {
@@ -100,7 +105,7 @@ impl Repository {
         assert_eq!(ended.stderr, b"fault\n");
     }
 
-    /// Without a packer nothing is printed, and the last line on standard error starts with these words.
+    /// Without a packer nothing is printed, and the last line on standard error starts with these.
     fn assert_stopped(&self, ended: &Output, words: &str) {
         let message = String::from_utf8_lossy(&ended.stderr);
         assert_eq!(ended.status.code(), Some(1), "{message}");
@@ -186,7 +191,7 @@ fn a_failed_build_names_its_log_and_leaves_no_old_packer_to_run() {
     assert_eq!(fs::read_to_string(&log).unwrap(), "error: wrong\n");
 }
 
-/// Root has cargo installed, under the name that this Debian knows; others are told what to install.
+/// Root gets cargo by the name that this Debian has for it; others are told what to install.
 #[test]
 fn where_cargo_is_missing_it_is_installed_or_asked_for() {
     let repository = Repository::new("no_cargo");
@@ -201,8 +206,7 @@ fn where_cargo_is_missing_it_is_installed_or_asked_for() {
     repository.assert_stopped(&repository.run(), refusal);
 
     repository.stand_in("kept", CARGO);
-    let installs = "case \"$1 ${*: -1}\" in update*) ;; *cargo-web) exit 100 ;; *) mv \"${0%/*}/kept\" \"${0%/*}/cargo\" ;; esac";
-    repository.stand_in("apt-get", installs);
+    repository.stand_in("apt-get", APT_OF_LATER_DEBIAN);
     let ended = repository.run();
     if is_root {
         assert_eq!(ended.status.code(), Some(7), "{ended:?}");

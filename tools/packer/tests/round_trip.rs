@@ -31,8 +31,9 @@ const BOOKS: usize = 3000;
 const SEED: u64 = 2010;
 
 const USAGE: &str = "\
-usage: tools/book pack TEXT BOOK      packs a text into a book
-       tools/book unpack BOOK TEXT    unpacks a book into its text
+usage: tools/book pack TEXT BOOK         packs a text into a book
+       tools/book unpack BOOK TEXT       unpacks a book into its text
+       tools/book explain BOOK [TEXT]    says which records are set aside, why, and what to do
 ";
 
 fn each_random_book(mut visit: impl FnMut(Sample, &mut Dice)) {
@@ -153,11 +154,13 @@ fn wrong_arguments_get_the_usage() {
     let folder = fresh_folder("wrong_arguments");
     let (from, to) = (folder.join("from"), folder.join("to"));
     fs::write(&from, TEXT).unwrap();
-    let wrong: [&[&Path]; 6] = [
+    let wrong: [&[&Path]; 8] = [
         &[],
         &["pack".as_ref()],
         &["pack".as_ref(), &from],
         &["pack".as_ref(), &from, &to, &to],
+        &["explain".as_ref()],
+        &["explain".as_ref(), &from, &from, &from],
         &["print".as_ref(), &from, &to],
         &["--help".as_ref(), &from],
     ];

@@ -1,0 +1,80 @@
+//! Which values of a record are out of which range: docs/FORMAT.md, "Fuel record", "Monitor hour".
+
+use std::fmt::Display;
+use std::ops::RangeInclusive;
+
+use crate::book::{Fuel, Kind, Record};
+use crate::single;
+
+const MONTHS: RangeInclusive<u32> = 1..=12;
+const AMOUNTS: RangeInclusive<u32> = 0..=100_000_000;
+const MEASURED_HEATS: RangeInclusive<u32> = 1..=200_000;
+const CARBONS: RangeInclusive<u32> = 0..=1_000_000;
+const GAS_CARBONS: RangeInclusive<u32> = 0..=4_000_000;
+const HOURS: RangeInclusive<u32> = 1..=8_784;
+const MOST_PERCENT: u32 = 100;
+const MOST_FLOW: u32 = 1_000_000_000;
+
+/// A value of a record that is out of its range.
+pub struct Beyond {
+    pub field: &'static str,
+    pub words: String,
+}
+
+/// Gives every such value. The fuel is the record's, if it is listed: a gas may have more carbon.
+pub fn beyond(record: &Record, fuel: Option<&Fuel>) -> Vec<Beyond> {
+    let found = match *record {
+        Record::Delivery {
+            month,
+            amount,
+            heat,
+            carbon,
+            ..
+        } => {
+            let is_gas = fuel.is_some_and(|fuel| fuel.kind == Kind::Gas);
+            let carbons = if is_gas { GAS_CARBONS } else { CARBONS };
+            vec![
+                number("month", month.into(), MONTHS),
+                number("amount", amount, AMOUNTS),
+                heat.and_then(|heat| number("heat", heat, MEASURED_HEATS)),
+                carbon.and_then(|carbon| number("carbon", carbon, carbons)),
+            ]
+        }
+        Record::Hour {
+            hour,
+            percent,
+            flow,
+            ..
+        } => vec![
+            number("hour", hour.into(), HOURS),
+            reading("percent", percent, MOST_PERCENT),
+            reading("flow", flow, MOST_FLOW),
+        ],
+        Record::Raw(_) => Vec::new(),
+    };
+    found.into_iter().flatten().collect()
+}
+
+fn number(field: &'static str, value: u32, range: RangeInclusive<u32>) -> Option<Beyond> {
+    let out = !range.contains(&value);
+    let (least, most) = range.into_inner();
+    out.then(|| isnt_from(field, value, least, most))
+}
+
+fn reading(field: &'static str, bits: u32, most: u32) -> Option<Beyond> {
+    let value = f32::from_bits(bits);
+    // As doubles, which hold every single and every limit. Minus zero is from 0 on.
+    let in_range = (0.0..=f64::from(most)).contains(&f64::from(value));
+    let note = match value {
+        _ if value.is_nan() => ", no number,",
+        _ if value.is_infinite() => ", infinite,",
+        _ => "",
+    };
+    let spelling = single::spell(bits) + note;
+    (!in_range).then(|| isnt_from(field, spelling, 0, most))
+}
+
+fn isnt_from(field: &'static str, value: impl Display, least: u32, most: u32) -> Beyond {
+    let words = format!("{field} {value} isn't from {least} to {most}");
+    Beyond { field, words }
+}

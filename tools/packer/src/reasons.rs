@@ -1,0 +1,141 @@
+//! The reasons of docs/RULES.md in words: why a record is set aside, and what to do. The number is
+//! given; beside its general words only that is said which the record and its book bear out.
+
+use crate::book::{Book, Fuel, Record, Unit};
+use crate::line::form_fault;
+use crate::method::no_method;
+use crate::ranges::beyond;
+
+/// What is said of a record that is set aside.
+pub struct Account {
+    pub why: String,
+    pub remedy: String,
+}
+
+impl Account {
+    pub fn of(reason: u8, record: &Record, book: &Book) -> Account {
+        let (why, remedy) = general(reason);
+        match particular(reason, record, book) {
+            Some(found) => Account {
+                why: format!("{why}: {}", found.why),
+                remedy: found.remedy,
+            },
+            None => Account {
+                why: why.to_string(),
+                remedy: remedy.to_string(),
+            },
+        }
+    }
+}
+
+fn general(reason: u8) -> (&'static str, &'static str) {
+    match reason {
+        1 => ("its form is wrong", "say it as a `delivery` or an `hour`"),
+        2 => ("its unit isn't listed", "list it, or correct its number"),
+        3 => ("its fuel isn't listed", "list it, or correct its number"),
+        4 => (
+            "a value is out of range",
+            "correct its month, hour, amount, heat, carbon or reading",
+        ),
+        5 => (
+            "an hour of a unit without a monitor",
+            "correct the hour's unit, or the unit's line",
+        ),
+        6 => (
+            "no method is permitted",
+            "give the measured carbon, or correct the unit's rating",
+        ),
+        7 => (
+            "there is no heat in use",
+            "give the measured heat, or give the fuel a default heat",
+        ),
+        _ => (
+            "one that isn't known here",
+            "see docs/RULES.md, \"Reasons\"",
+        ),
+    }
+}
+
+/// What can be told of this record. None if nothing here agrees with the reason.
+fn particular(reason: u8, record: &Record, book: &Book) -> Option<Account> {
+    let unit = record.unit().and_then(|number| book.unit(number));
+    let fuel = record.fuel().and_then(|number| book.fuel(number));
+    match reason {
+        1 => form(record),
+        2 => {
+            let listed = book.units().iter().map(|unit| unit.number);
+            unlisted("unit", record.unit()?, listed.collect())
+        }
+        3 => {
+            let listed = book.fuels().iter().map(|fuel| fuel.number);
+            unlisted("fuel", record.fuel()?, listed.collect())
+        }
+        4 => range(record, fuel),
+        5 => monitor(record, unit?),
+        6 => method(record, unit?, fuel?),
+        7 => heat(record, fuel?),
+        _ => None,
+    }
+}
+
+fn form(record: &Record) -> Option<Account> {
+    let Record::Raw(line) = record else {
+        return None;
+    };
+    form_fault(line).map(|why| Account {
+        why,
+        remedy: general(1).1.to_string(),
+    })
+}
+
+fn unlisted(what: &str, number: u16, listed: Vec<u16>) -> Option<Account> {
+    if listed.contains(&number) {
+        return None;
+    }
+    let listed: Vec<_> = listed.iter().map(u16::to_string).collect();
+    let why = match listed.as_slice() {
+        [] => format!("the book has no {what} at all"),
+        _ => format!("{what} {number} is none of {}", listed.join(", ")),
+    };
+    let remedy = match number {
+        0 => format!("correct the record's {what}; {what} numbers start at 1"),
+        _ => format!("list {what} {number}, or correct the record's {what}"),
+    };
+    Some(Account { why, remedy })
+}
+
+fn range(record: &Record, fuel: Option<&Fuel>) -> Option<Account> {
+    let (fields, whys): (Vec<_>, Vec<_>) = beyond(record, fuel)
+        .into_iter()
+        .map(|value| (value.field, value.words))
+        .unzip();
+    (!fields.is_empty()).then(|| Account {
+        why: whys.join("; "),
+        remedy: format!("correct the {}", fields.join(", ")),
+    })
+}
+
+fn monitor(record: &Record, unit: &Unit) -> Option<Account> {
+    let is_hour = matches!(record, Record::Hour { .. });
+    let number = unit.number;
+    (is_hour && !unit.monitor).then(|| Account {
+        why: format!("unit {number} has none"),
+        remedy: format!("correct the hour's unit, or add `monitor` to unit {number}"),
+    })
+}
+
+fn method(record: &Record, unit: &Unit, fuel: &Fuel) -> Option<Account> {
+    let Record::Delivery { heat, carbon, .. } = *record else {
+        return None;
+    };
+    no_method(unit, fuel, heat, carbon)
+}
+
+fn heat(record: &Record, fuel: &Fuel) -> Option<Account> {
+    let is_measured = matches!(record, Record::Delivery { heat: Some(_), .. });
+    let number = fuel.number;
+    (!is_measured && fuel.heat == 0).then(|| Account {
+        why: format!("no heat was measured, and fuel {number} has no default heat"),
+        remedy: format!("give the measured heat, or give fuel {number} a default heat"),
+    })
+}
