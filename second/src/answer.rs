@@ -1,5 +1,5 @@
-//! The four calls, each giving what an answer of `replay` must hold: 64 bytes
-//! and the output buffer as it stands afterwards.
+//! The calls, each giving what its answer must hold: 64 bytes and the output
+//! buffer as it stands afterwards. `replay` knows the first four.
 
 use crate::book::Book;
 use crate::checkpoint::{Checkpoint, LENGTH};
@@ -17,6 +17,7 @@ pub enum Call {
     Wake = 2,
     Report = 3,
     Record = 4,
+    Left = 5,
 }
 
 /// One call as a frame carries it.
@@ -43,6 +44,7 @@ pub fn answer(frame: &Frame) -> Answer {
         Call::Wake => wake(frame.book, frame.checkpoint, frame.argument, &mut output),
         Call::Report => report(frame.book, frame.checkpoint),
         Call::Record => one_record(frame.book, frame.argument),
+        Call::Left => left(frame.book, frame.checkpoint),
     };
     Answer { head, output }
 }
@@ -100,6 +102,19 @@ pub fn one_record(book: &[u8], index: u32) -> [u8; HEAD] {
         }
     }
     head
+}
+
+/// The records that are left: of the n of a book, those that a checkpoint has
+/// not done.
+pub fn left(book: &[u8], checkpoint: &[u8]) -> [u8; HEAD] {
+    let counted = Book::read(book).and_then(|book| {
+        let checkpoint = Checkpoint::read(checkpoint, &book)?;
+        Ok(book.record_count() - checkpoint.done)
+    });
+    match counted {
+        Ok(count) => with_count([0; HEAD], count),
+        Err(refusal) => refused(refusal),
+    }
 }
 
 /// A report, or the smallest number that withholds it.

@@ -1,4 +1,5 @@
-//! A stream of frames and the stream of their answers, as `replay` has them.
+//! A stream of frames and the stream of their answers, as `replay` and the
+//! driver of the C face have them.
 
 use std::io::{self, BufReader, BufWriter, Read, Write};
 
@@ -58,6 +59,7 @@ impl Head {
             2 => Call::Wake,
             3 => Call::Report,
             4 => Call::Record,
+            5 => Call::Left,
             _ => return None,
         };
         let head = Head {

@@ -4,7 +4,7 @@ use std::io::{self, Read, Write};
 use std::thread;
 use std::time::Duration;
 
-use second::answer::{answer, Answer, Frame};
+use second::answer::{answer, Answer, Call, Frame};
 use second::replay::serve;
 
 use crate::link::Connection;
@@ -35,6 +35,7 @@ fn peer(answering: Peer) -> io::Result<Connection> {
 
 fn new_run() -> Run {
     Run::new(Settings {
+        asks_left: true,
         patience: Duration::from_secs(20),
         failures_folder: std::env::temp_dir().join("second-failures-of-wrong-peers"),
         ..Settings::default()
@@ -82,6 +83,8 @@ caught! {
     knows_eight_reasons by ["damage", "histories"];
     overlooks_the_last_byte_of_lines by ["books", "damage", "histories"];
     minds_the_output_buffer_first by ["histories"];
+    tells_the_records_done_as_left by ALL;
+    asks_if_a_checkpoint_is_sound_before_its_length by ["damage", "histories"];
 }
 
 #[test]
@@ -93,6 +96,22 @@ fn the_right_peer_passes_every_group_and_every_count() {
     counts::tell(&mut run);
     assert_eq!(run.failed, 0);
     assert!(run.passed > 200);
+}
+
+/// `replay` doesn't know call 5, so it isn't asked unless that is wanted.
+#[test]
+fn a_peer_without_the_records_left_passes_where_they_are_not_asked() {
+    let mut run = new_run();
+    run.settings.asks_left = false;
+    let knows_four = |frame: &Frame| {
+        assert_ne!(frame.call, Call::Left);
+        answer(frame)
+    };
+    for (name, group) in GROUPS {
+        run_group(&mut run, name, group, peer(knows_four));
+    }
+    counts::tell(&mut run);
+    assert_eq!(run.failed, 0);
 }
 
 #[test]

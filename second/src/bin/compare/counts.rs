@@ -9,6 +9,8 @@ use crate::run::Run;
 use crate::specials::{class, is_usable, CLASSES, FLOW_LIMIT, PERCENT_LIMIT};
 
 const NUMBERS: [u8; 10] = [0, 20, 21, 22, 23, 30, 31, 32, 40, 41];
+/// "Numbers 20 to 23, 30, 31", and 0 where records are counted.
+const NUMBERS_OF_LEFT: [u8; 7] = [0, 20, 21, 22, 23, 30, 31];
 const METHODS: [u8; 6] = [0, 1, 2, 3, 4, NO_SUCH_RECORD];
 const HOUR: u8 = 2;
 const SET_ASIDE: u8 = 41;
@@ -17,6 +19,7 @@ const SET_ASIDE: u8 = 41;
 pub struct Counts {
     calls: [u64; 4],
     numbers: [u64; NUMBERS.len()],
+    numbers_of_left: [u64; NUMBERS_OF_LEFT.len()],
     reasons_of_records: [u64; 7],
     reasons_of_refusals: [u64; 7],
     methods: [u64; METHODS.len()],
@@ -29,6 +32,10 @@ impl Counts {
     /// Counts one call from its frame and the answer of both sides.
     pub fn count(&mut self, frame: &[u8], answer: &Answer) {
         let [number, reason, ..] = answer.head;
+        if frame[0] == Call::Left as u8 {
+            // Or the numbers of this call would stand for those of the others.
+            return add_at(&mut self.numbers_of_left, &NUMBERS_OF_LEFT, number);
+        }
         self.calls[usize::from(frame[0]) - 1] += 1;
         add_at(&mut self.numbers, &NUMBERS, number);
         if frame[0] == Call::Record as u8 && number == 0 {
@@ -69,7 +76,7 @@ impl Counts {
     }
 
     /// What is told apart, and for each part its name and count.
-    fn table(&self) -> Vec<(&'static str, Vec<(String, u64)>)> {
+    fn table(&self, asks_left: bool) -> Vec<(&'static str, Vec<(String, u64)>)> {
         let named = |names: &[&str], counts: &[u64]| -> Vec<(String, u64)> {
             let names = names.iter().map(|name| name.to_string());
             names.zip(counts.iter().copied()).collect()
@@ -78,7 +85,7 @@ impl Counts {
         let reasons = ["1", "2", "3", "4", "5", "6", "7"];
         let methods = ["0 (hour)", "1", "2", "3", "4", "none (no such record)"];
         let calls = ["fresh", "wake", "report", "one record"];
-        vec![
+        let mut table = vec![
             ("call", named(&calls, &self.calls)),
             ("number", numbers.collect()),
             ("record's reason", named(&reasons, &self.reasons_of_records)),
@@ -93,7 +100,13 @@ impl Counts {
             ),
             ("percent", named(&CLASSES, &self.percents)),
             ("flow", named(&CLASSES, &self.flows)),
-        ]
+        ];
+        if asks_left {
+            let numbers = NUMBERS_OF_LEFT.iter().map(u8::to_string);
+            let rows = numbers.zip(self.numbers_of_left).collect();
+            table.push(("records left, number", rows));
+        }
+        table
     }
 }
 
@@ -106,7 +119,7 @@ fn add_at(counts: &mut [u64], keys: &[u8], key: u8) {
 /// Each count is one check: what was never compared is not known to agree.
 pub fn tell(run: &mut Run) {
     println!("counts of what was compared:");
-    for (subject, rows) in run.counts.table() {
+    for (subject, rows) in run.counts.table(run.settings.asks_left) {
         for (name, count) in rows {
             let row = format!("{subject} {name}");
             run.tell("counts", &format!("{row:<38}{count:>9}"), count > 0, "");

@@ -6,7 +6,7 @@ use std::fs;
 use std::rc::Rc;
 use std::sync::Arc;
 
-use second::answer::{answer, Answer, Frame, HEAD};
+use second::answer::{answer, Answer, Call, Frame, HEAD};
 use second::replay::encode;
 
 use crate::expectation::Expectation;
@@ -80,7 +80,20 @@ impl<'a> Exchange<'a> {
     }
 
     /// Compares one call, and holds both answers against printed figures.
+    /// Wherever a report is asked of a book and a checkpoint, the records left
+    /// of them are asked too, so that every sort of checkpoint has that call.
     pub fn hold(&mut self, frame: &Frame, printed: Vec<Expectation>) -> Outcome<Rc<Answer>> {
+        if frame.call == Call::Report && self.run.settings.asks_left {
+            let left = Frame {
+                call: Call::Left,
+                ..*frame
+            };
+            self.send(&left, Vec::new())?;
+        }
+        self.send(frame, printed)
+    }
+
+    fn send(&mut self, frame: &Frame, printed: Vec<Expectation>) -> Outcome<Rc<Answer>> {
         let answer = Rc::new(answer(frame));
         let bytes = Arc::new(encode(frame));
         self.link.send(bytes.clone());

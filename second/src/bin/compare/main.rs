@@ -1,5 +1,7 @@
-//! `compare [--long] [--seed N] -- COMMAND ARGS..`: drives a program that
-//! speaks the frames of `replay` and compares every answer with second's.
+//! `compare [--long] [--seed N] [--left] [--keep FOLDER] -- COMMAND ARGS..`:
+//! drives a program that speaks the frames of `replay`, with --left also those
+//! of call 5, and compares every answer with second's. Frames that fail are
+//! kept in FOLDER.
 
 mod books;
 #[cfg(test)]
@@ -32,7 +34,7 @@ use link::Connection;
 use random::Random;
 use run::{Run, Settings};
 
-const USAGE: &str = "usage: compare [--long] [--seed N] -- COMMAND ARGS..";
+const USAGE: &str = "usage: compare [--long] [--seed N] [--left] [--keep FOLDER] -- COMMAND ARGS..";
 const LONG: usize = 25;
 
 type Group = fn(&mut Exchange, &mut Random) -> Outcome<()>;
@@ -77,6 +79,14 @@ fn parse(arguments: &[String]) -> Option<(Settings, &[String])> {
                 settings.seed = seed.parse().ok()?;
                 after
             }
+            [option, after @ ..] if option == "--left" => {
+                settings.asks_left = true;
+                after
+            }
+            [option, folder, after @ ..] if option == "--keep" => {
+                settings.failures_folder = folder.into();
+                after
+            }
             [end, command @ ..] if end == "--" && !command.is_empty() => {
                 return Some((settings, command));
             }
@@ -110,22 +120,32 @@ fn run_group(run: &mut Run, name: &'static str, group: Group, other: io::Result<
 mod tests {
     use super::*;
 
-    fn parsed(line: &str) -> Option<(u64, usize, Vec<String>)> {
+    fn parsed(line: &str) -> Option<(Settings, Vec<String>)> {
         let arguments: Vec<String> = line.split(' ').map(String::from).collect();
-        parse(&arguments).map(|(settings, command)| {
-            let command = command.to_vec();
-            (settings.seed, settings.times, command)
-        })
+        parse(&arguments).map(|(settings, command)| (settings, command.to_vec()))
     }
 
     #[test]
     fn arguments_are_options_then_a_command() {
         let command = vec!["replay".to_string(), "--long".to_string()];
         let plain = parsed("-- replay --long");
-        assert_eq!(plain, Some((run::DEFAULT_SEED, 1, command.clone())));
-        let all = parsed("--seed 7 --long -- replay --long");
-        assert_eq!(all, Some((7, LONG, command)));
-        for wrong in ["replay", "--", "--seed x -- replay", "--short -- replay"] {
+        assert_eq!(plain, Some((Settings::default(), command.clone())));
+        let all = parsed("--keep kept --left --seed 7 --long -- replay --long");
+        let settings = Settings {
+            seed: 7,
+            times: LONG,
+            asks_left: true,
+            failures_folder: "kept".into(),
+            ..Settings::default()
+        };
+        assert_eq!(all, Some((settings, command)));
+        for wrong in [
+            "replay",
+            "--",
+            "--seed x -- replay",
+            "--short -- replay",
+            "--keep",
+        ] {
             assert_eq!(parsed(wrong), None, "{wrong}");
         }
     }

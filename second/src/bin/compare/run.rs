@@ -7,10 +7,13 @@ use crate::counts::Counts;
 
 pub const DEFAULT_SEED: u64 = 20_100_401;
 
+#[derive(Debug, PartialEq)]
 pub struct Settings {
     pub seed: u64,
     /// Random cases are run this many times over.
     pub times: usize,
+    /// The other program knows call 5, the records left.
+    pub asks_left: bool,
     /// How long the other program may be silent.
     pub patience: Duration,
     pub failures_folder: PathBuf,
@@ -21,6 +24,7 @@ impl Default for Settings {
         Settings {
             seed: DEFAULT_SEED,
             times: 1,
+            asks_left: false,
             patience: Duration::from_secs(60),
             failures_folder: PathBuf::from("target/second-failures"),
         }

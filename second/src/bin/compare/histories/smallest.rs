@@ -91,7 +91,7 @@ fn smallest(numbers: &[u64]) -> u64 {
 }
 
 /// "A fresh start knows 20 to 23 and 32, a wake 20 to 32, a report 20 to 31,
-/// 40, 41"; one record knows 20 to 23.
+/// 40, 41"; one record knows 20 to 23, and the records left 20 to 23, 30, 31.
 fn calls(
     exchange: &mut Exchange,
     book: &Numbered,
@@ -103,12 +103,15 @@ fn calls(
     } else {
         0
     };
-    let expected = [
+    let mut expected = vec![
         (Call::Fresh, smallest(&[book.1, output.1])),
         (Call::Wake, smallest(&[book.1, checkpoint.1, output.1])),
         (Call::Report, smallest(&[book.1, checkpoint.1, unfinished])),
         (Call::Record, book.1),
     ];
+    if exchange.run.settings.asks_left {
+        expected.push((Call::Left, smallest(&[book.1, checkpoint.1])));
+    }
     for (call, number) in expected {
         let frame = Frame {
             call,

@@ -107,3 +107,20 @@ pub fn minds_the_output_buffer_first(frame: &Frame) -> Answer {
     }
     answered
 }
+
+pub fn tells_the_records_done_as_left(frame: &Frame) -> Answer {
+    let mut answered = answer(frame);
+    if frame.call == Call::Left && answered.head[0] == 0 {
+        answered.head[4..8].copy_from_slice(&frame.checkpoint[..4]);
+    }
+    answered
+}
+
+/// That is, tells 31 before 30.
+pub fn asks_if_a_checkpoint_is_sound_before_its_length(frame: &Frame) -> Answer {
+    let mut answered = answer(frame);
+    if frame.call == Call::Left && answered.head[0] == 30 {
+        answered.head[0] = 31;
+    }
+    answered
+}
