@@ -8,7 +8,7 @@ use std::thread;
 
 /// The repository's folder, as tools/book says it.
 const HOME: &str = "WETHERSTEP";
-/// It printed each record, or, from tools/program's status on, that the book is refused.
+/// The statuses of a run that told of each record, or that the book is refused.
 const ANSWERED: [i32; 2] = [0, 3];
 
 pub fn ask(book: &[u8]) -> Result<String, String> {
