@@ -1,14 +1,13 @@
--- What is told of a line, test by test; and of a plant's line no mistake is told but that it begins as a comment
--- does. Assumes nothing.
+-- What is told of a line, test by test; and of a plant's line no mistake is told that has a name. Assumes nothing.
 use Prim.Native.Nat.{ℕ, zero, suc, _+_, _-_, _<_, _≤_}
-use mathlib.Core.Bool.{true, false}
+use mathlib.Core.Bool.{true, false, not}
 use mathlib.Core.List.{List, [], _∷_}
 use mathlib.Core.Path.{_≡_, refl, sym, ap, _∙_}
 use native.Mathlib.Omega.{arith}
 use lib.Dec.{eqb, ltb, leb}
 use lib.ListN.{length, getD, drop, length-drop}
 use lib.Seq.{getD-drop}
-use borrow.Author.Tests.{eq-eqb, ne-eqb, ltb-true, leb-true, le-ltb, le-leb, lt-leb}
+use borrow.Author.Tests.{not-true, eq-eqb, ne-eqb, ltb-true, leb-true, le-ltb, le-leb, lt-leb}
 use Rattle.choice.specs.Tests.{_also_, choose}
 use Rattle.choice.proofs.Splitting.{if-test, if-eq}
 use Rattle.choice.proofs.TestsLaws.{worked-out, also-l, also-r, either-f, choose-t, choose-f}
@@ -16,8 +15,8 @@ use Rattle.roster.specs.declared.mistake.Mistake.{Mistake}
 use Rattle.roster.specs.declared.mistake.Mistake.the-variants.{Comment, Return, Space, Long, Form}
 use Rattle.roster.specs.Bytes.{span, front, rest}
 use Rattle.roster.specs.Search.{has}
-use Rattle.roster.specs.Plants.{longestBookPath, longestCheckpointPath, space, visible, isWord, bookOf, checkpointOf, isPlant}
-use Rattle.roster.specs.Mistake.{hash, return, lastByte, spaces, isLong, mistakeIn}
+use Rattle.roster.specs.Plants.{longestBookPath, longestCheckpointPath, space, visible, isWord, bookOf, checkpointOf, isComment, isPlant}
+use Rattle.roster.specs.Mistake.{return, lastByte, spaces, isLong, mistakeIn}
 use Rattle.roster.proofs.BytesLaws.{length-none, span-zero, span-suc, span-nil, has→lt, has→le, rest-none}
 
 -- ---- spaces are counted
@@ -76,18 +75,18 @@ mistakeIn-nil l z =
     nothing ∙ ap mistakeIn (sym (length-none l (omega arith)))
   where
     nothing : Form ≡ mistakeIn []
-    nothing = unfold mistakeIn spaces isLong bookOf checkpointOf front rest span in sym (simp worked-out)
+    nothing = unfold mistakeIn isComment spaces isLong bookOf checkpointOf front rest span in sym (simp worked-out)
 
 module _ (l : List ℕ) where
-  pub mistakeIn-comment : getD l 0 0 ≡ hash → Comment ≡ mistakeIn l
+  pub mistakeIn-comment : isComment l ≡ true → Comment ≡ mistakeIn l
   unfolding mistakeIn
-  mistakeIn-comment e = sym (choose-t _ (eq-eqb (getD l 0 0) hash e) refl)
+  mistakeIn-comment h = sym (choose-t _ h refl)
 
-  module _ (no-comment : getD l 0 0 ≡ hash → ⊥) where
+  module _ (no-comment : isComment l ≡ false) where
     later : {r : Mistake} → choose (eqb (lastByte l) return) Return (choose (leb 2 (spaces l)) Space (choose (isLong l) Long Form)) ≡ r
         → r ≡ mistakeIn l
     unfolding mistakeIn
-    later e = sym (choose-f Comment (ne-eqb (getD l 0 0) hash no-comment) e)
+    later e = sym (choose-f Comment no-comment e)
 
     pub mistakeIn-return : lastByte l ≡ return → Return ≡ mistakeIn l
     mistakeIn-return e = later (choose-t _ (eq-eqb (lastByte l) return e) refl)
@@ -155,20 +154,20 @@ last-checkpoint l h =
     let place : k + (length (drop k l) - 1) ≡ length l - 1 = omega arith in
     getD-drop k l (length (drop k l) - 1) 0 ∙ ap (λ (j : ℕ). getD l j 0) place
 
-pub mistakeIn-plant : (l : List ℕ) → isPlant l ≡ true → mistakeIn l ≡ choose (eqb (getD l 0 0) hash) Comment Form
+pub mistakeIn-plant : (l : List ℕ) → isPlant l ≡ true → mistakeIn l ≡ Form
 unfolding isPlant
 mistakeIn-plant l h =
-    let words = isWord longestBookPath (bookOf l) in
-    let book = word longestBookPath (bookOf l) (also-l words (isWord longestCheckpointPath (checkpointOf l)) h) in
-    let checkpoint = word longestCheckpointPath (checkpointOf l) (also-r words (isWord longestCheckpointPath (checkpointOf l)) h) in
+    let book-fits = isWord longestBookPath (bookOf l) in
+    let checkpoint-fits = isWord longestCheckpointPath (checkpointOf l) in
+    let words = also-l (book-fits also checkpoint-fits) (not (isComment l)) h in
+    let book = word longestBookPath (bookOf l) (also-l book-fits checkpoint-fits words) in
+    let checkpoint = word longestCheckpointPath (checkpointOf l) (also-r book-fits checkpoint-fits words) in
     let end = visible-at (checkpointOf l) (length (checkpointOf l) - 1) (checkpoint .seen) (omega (arith, checkpoint .some)) in
     let short : isLong l ≡ false =
     unfold isLong in
     either-f (le-ltb longestBookPath (length (bookOf l)) (book .few))
     (le-ltb longestCheckpointPath (length (checkpointOf l)) (checkpoint .few)) in
-    if-eq (getD l 0 0) hash
-    (λ e. sym (mistakeIn-comment l e) ∙ sym (choose-t Form (eq-eqb (getD l 0 0) hash e) refl))
-    (λ n.
-    sym (mistakeIn-form l n (λ e. omega (arith, end, last-checkpoint l (checkpoint .some), e)) refl
+    let no-comment = not-true (isComment l) (also-r (book-fits also checkpoint-fits) (not (isComment l)) h) in
+    sym (mistakeIn-form l no-comment
+    (λ e. omega (arith, end, last-checkpoint l (checkpoint .some), e)) refl
     (has-visible (checkpointOf l) (checkpoint .seen)) short)
-    ∙ sym (choose-f Comment (ne-eqb (getD l 0 0) hash n) refl))

@@ -14,8 +14,8 @@ use Rattle.choice.proofs.TestsLaws.{worked-out, choose-t, choose-f, also-t, als
 use Rattle.roster.specs.Bytes.{span, front, rest, same}
 use Rattle.roster.specs.Search.{has}
 use Rattle.roster.specs.Lines.{newline, Split, linesOf}
-use Rattle.roster.specs.Plants.{space, visible, isWord, bookOf, checkpointOf, isPlant, indexFrom}
-use Rattle.roster.proofs.BytesLaws.{drop-next, has→lt, has→le, same→eq, same-refl}
+use Rattle.roster.specs.Plants.{space, visible, isWord, bookOf, checkpointOf, isComment, isPlant, indexFrom}
+use Rattle.roster.proofs.BytesLaws.{length-none, drop-next, has→lt, has→le, same→eq, same-refl}
 use Rattle.roster.proofs.LinesLaws.{split-ended, split-unended}
 
 -- ---- a word's bytes
@@ -36,6 +36,13 @@ module _ {r : Bool} (w : List ℕ) (i : ℕ) (whole : visible (drop i w) ≡ r) 
   visible-end l = sym (ap visible (drop-of-length-le w {i = i} l)) ∙ whole
 
 -- ---- a plant's line
+pub isComment-nil : (l : List ℕ) → length l ≡ 0 → false ≡ isComment l
+isComment-nil l z =
+    nothing ∙ ap isComment (sym (length-none l (omega arith)))
+  where
+    nothing : false ≡ isComment []
+    nothing = unfold isComment in refl
+
 pub isPlant-nil : isPlant [] ≡ false
 unfolding isPlant isWord bookOf front span
 isPlant-nil = simp worked-out

@@ -1,6 +1,5 @@
 -- What is told of a line that isn't a plant's. RULES, "List of plants".
 --
---     hash             the byte `#`
 --     return           the byte that some systems put before a newline
 --     lastByte l       the last byte of the line l; 0, if it has none
 --     spaces l         how many spaces l has
@@ -16,10 +15,7 @@ use lib.ListN.{length, getD}
 use Rattle.choice.specs.Tests.{_either_, choose}
 use Rattle.roster.specs.declared.mistake.Mistake.{Mistake}
 use Rattle.roster.specs.declared.mistake.Mistake.the-variants.{Comment, Return, Space, Long, Form}
-use Rattle.roster.specs.Plants.{longestBookPath, longestCheckpointPath, space, bookOf, checkpointOf}
-
-abbrev pub hash : ℕ
-hash = 35
+use Rattle.roster.specs.Plants.{longestBookPath, longestCheckpointPath, space, bookOf, checkpointOf, isComment}
 
 abbrev pub return : ℕ
 return = 13
@@ -36,7 +32,7 @@ isLong l = ltb longestBookPath (length (bookOf l)) either ltb longestCheckpointP
 
 unfoldable pub mistakeIn : List ℕ → Mistake
 mistakeIn l =
-    choose (eqb (getD l 0 0) hash) Comment
+    choose (isComment l) Comment
     (choose (eqb (lastByte l) return) Return
     (choose (leb 2 (spaces l)) Space
     (choose (isLong l) Long

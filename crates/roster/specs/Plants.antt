@@ -4,10 +4,12 @@
 --     longestBookPath            4,095
 --     longestCheckpointPath      4,083
 --     space                      the byte between BOOK and CHECKPOINT
+--     hash                       the byte `#`
 --     visible w                  every byte of w is above 32
 --     isWord m w                 w is a word of at most m bytes
 --     bookOf l                   the BOOK that the line l names
 --     checkpointOf l             the CHECKPOINT that the line l names
+--     isComment l                l begins with `#`
 --     isPlant l                  l is a plant's line
 --     indexFrom j n w ws         where w first stands in ws, whose first is number j; n, if it doesn't
 --     namedBefore cs i l         a line before line i names the CHECKPOINT of l, cs being those of the whole list
@@ -17,10 +19,10 @@
 --
 -- Laws: proofs/PlantsLaws.antt, proofs/VerdictLaws.antt, proofs/ToldLaws.antt. Definitions only.
 use Prim.Native.Nat.{ℕ, suc}
-use mathlib.Core.Bool.{Bool, true}
+use mathlib.Core.Bool.{Bool, true, not}
 use mathlib.Core.List.{List, [], _∷_, map}
-use lib.Dec.{ltb, leb}
-use lib.ListN.{length}
+use lib.Dec.{eqb, ltb, leb}
+use lib.ListN.{length, getD}
 use Rattle.choice.specs.Tests.{_also_, choose}
 use Rattle.roster.specs.declared.plants.Listed.{Listed}
 use Rattle.roster.specs.declared.plants.Listed.the-variants.{Plants, Wrong, Again, Many}
@@ -39,6 +41,9 @@ longestCheckpointPath = 4083
 abbrev pub space : ℕ
 space = 32
 
+abbrev pub hash : ℕ
+hash = 35
+
 unfoldable pub visible : List ℕ → Bool
 visible [] = true
 visible (b ∷ w) = ltb 32 b also visible w
@@ -52,10 +57,16 @@ bookOf l = front space l
 unfoldable pub checkpointOf : List ℕ → List ℕ
 checkpointOf l = rest space l
 
+unfoldable pub isComment : List ℕ → Bool
+isComment l = eqb (getD l 0 0) hash
+
 -- A line with no space names an empty CHECKPOINT, and one with a second space has it in its CHECKPOINT: neither
 -- is a plant's.
 unfoldable pub isPlant : List ℕ → Bool
-isPlant l = isWord longestBookPath (bookOf l) also isWord longestCheckpointPath (checkpointOf l)
+isPlant l =
+    isWord longestBookPath (bookOf l)
+    also isWord longestCheckpointPath (checkpointOf l)
+    also not (isComment l)
 
 unfoldable pub indexFrom : ℕ → ℕ → List ℕ → List (List ℕ) → ℕ
 indexFrom j n w [] = n

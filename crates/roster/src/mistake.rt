@@ -17,12 +17,9 @@ pub enum Mistake {
     Form,
 }
 
-const HASH: u8 = 35;
-
 const RETURN: u8 = 13;
 
-// The first mistake that a line shows. One that is a plant's may be asked too, and is told as a comment or as
-// of no mistake that has a name.
+// The first mistake that a line shows. One that is a plant's may be asked too: it shows none that has a name.
 pub fn find(line: &[u8]) -> Mistake
     ensures mistake { λ r. ⌜ r ≡ mistakeIn (now (line .entry)) ⌝ }
 {
@@ -30,7 +27,7 @@ pub fn find(line: &[u8]) -> Mistake
     if n == 0 {
         return Mistake::Form;
     }
-    if line[0] == HASH {
+    if plants::is_comment(line) {
         return Mistake::Comment;
     }
     if line[n - 1] == RETURN {

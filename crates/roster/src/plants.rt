@@ -4,13 +4,13 @@ use crate::lines;
 ghost use mathlib.Core.Path.{_≡_};
 ghost use mathlib.Core.List.{map};
 ghost use Rattle.roster.specs.Lines.{linesOf};
-ghost use Rattle.roster.specs.Plants.{visible, isWord, bookOf, checkpointOf, isPlant, indexFrom, namedBefore, verdictOn};
+ghost use Rattle.roster.specs.Plants.{visible, isWord, bookOf, checkpointOf, isComment, isPlant, indexFrom, namedBefore, verdictOn};
 ghost use Rattle.roster.specs.Search.{partOf};
 
 pub enum Listed {
     // So many plants, one a line.
     Plants(u8),
-    // The line of this index isn't `BOOK CHECKPOINT`, or isn't ended.
+    // The line of this index isn't a plant's, or isn't ended.
     Wrong(u8),
     // The line of this index names a CHECKPOINT that a line before it names.
     Again(u8),
@@ -32,6 +32,8 @@ pub(crate) const LONGEST_BOOK_PATH: usize = 4095;
 pub(crate) const LONGEST_CHECKPOINT_PATH: usize = 4083;
 
 pub(crate) const SPACE: u8 = 32;
+
+const HASH: u8 = 35;
 
 // The verdict on a list: how many plants it names, or its first fault.
 pub fn judge(list: &[u8]) -> Listed
@@ -114,7 +116,18 @@ fn is_plant(line: &[u8]) -> bool
 {
     let book = is_word(take_book(line), LONGEST_BOOK_PATH);
     let checkpoint = is_word(take_checkpoint(line), LONGEST_CHECKPOINT_PATH);
-    book & checkpoint
+    let comment = is_comment(line);
+    book & checkpoint & !comment
+}
+
+// Whether a line begins with `#`: whoever wrote it meant no plant.
+pub(crate) fn is_comment(line: &[u8]) -> bool
+    ensures comment { λ r. ⌜ r ≡ isComment (now (line .entry)) ⌝ }
+{
+    if line.len() == 0 {
+        return false;
+    }
+    line[0] == HASH
 }
 
 fn is_word(w: &[u8], most: usize) -> bool

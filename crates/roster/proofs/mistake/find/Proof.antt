@@ -8,11 +8,11 @@ use Rattle.roster.proofs.mistake.find.Tie as tie
 returns : tie.Need-returns
 returns c = mistakeIn-nil _ (c .if1 .taken)
 
-shared-slice-read-if2 : tie.Need-shared-slice-read-if2
-shared-slice-read-if2 c = search needs
+is-comment-requires : tie.Need-is-comment-requires
+is-comment-requires c κs = search needs
 
 returns-2 : tie.Need-returns-2
-returns-2 c = mistakeIn-comment _ (c .if2 .taken)
+returns-2 c = mistakeIn-comment _ (is (c .before .is-comment .ensures) (c .if2 .taken))
 
 sub-if3 : tie.Need-sub-if3
 sub-if3 c = search needs
@@ -21,7 +21,9 @@ shared-slice-read-if3 : tie.Need-shared-slice-read-if3
 shared-slice-read-if3 c = search needs
 
 returns-3 : tie.Need-returns-3
-returns-3 c = mistakeIn-return _ (c .before .before .if2 .left) (c .if3 .taken)
+returns-3 c =
+    let begun = c .before .before in
+    mistakeIn-return _ (is (begun .before .is-comment .ensures) (begun .if2 .left)) (c .if3 .taken)
 
 take-checkpoint-requires : tie.Need-take-checkpoint-requires
 take-checkpoint-requires c κs = search needs
@@ -32,7 +34,8 @@ has-byte-requires c κs = search needs
 returns-4 : tie.Need-returns-4
 returns-4 c =
     let named = c .before .before in
-    mistakeIn-space _ (named .before .before .before .if2 .left) (named .before .if3 .left)
+    let begun = named .before .before .before in
+    mistakeIn-space _ (is (begun .before .is-comment .ensures) (begun .if2 .left)) (named .before .if3 .left)
     (named .take-checkpoint .ensures) (is (c .before .has-byte .ensures) (c .if4 .taken))
 
 is-long-requires : tie.Need-is-long-requires
@@ -42,7 +45,8 @@ returns-5 : tie.Need-returns-5
 returns-5 c =
     let spaced = c .before .before in
     let named = spaced .before .before in
-    mistakeIn-long _ (named .before .before .before .if2 .left) (named .before .if3 .left)
+    let begun = named .before .before .before in
+    mistakeIn-long _ (is (begun .before .is-comment .ensures) (begun .if2 .left)) (named .before .if3 .left)
     (named .take-checkpoint .ensures) (is (spaced .before .has-byte .ensures) (spaced .if4 .left))
     (is (c .before .is-long .ensures) (c .if5 .taken))
 
@@ -50,7 +54,8 @@ returns-6 : tie.Need-returns-6
 returns-6 c =
     let spaced = c .before .before in
     let named = spaced .before .before in
-    mistakeIn-form _ (named .before .before .before .if2 .left) (named .before .if3 .left)
+    let begun = named .before .before .before in
+    mistakeIn-form _ (is (begun .before .is-comment .ensures) (begun .if2 .left)) (named .before .if3 .left)
     (named .take-checkpoint .ensures) (is (spaced .before .has-byte .ensures) (spaced .if4 .left))
     (is (c .before .is-long .ensures) (c .if5 .left))
 
@@ -59,7 +64,7 @@ find-spec =
     tie.close
     (tie.spec
     returns
-    shared-slice-read-if2
+    is-comment-requires
     returns-2
     sub-if3
     shared-slice-read-if3

@@ -1,4 +1,5 @@
--- The two words are those of the definition. Assumes nothing.
+-- The two words and the first byte are tested as in the definition. Assumes nothing.
+use mathlib.Core.Bool.{not}
 use mathlib.Core.Path.{ap, _∙_}
 use borrow.Author.Needs.{needs}
 use Rattle.choice.proofs.TestsLaws.{both}
@@ -18,13 +19,19 @@ take-checkpoint-requires c κs = search needs
 is-word-requires-2 : tie.Need-is-word-requires-2
 is-word-requires-2 c κs = search needs
 
+is-comment-requires : tie.Need-is-comment-requires
+is-comment-requires c κs = search needs
+
 returns : tie.Need-returns
 unfolding isPlant
 returns c =
-    let book = c .before .before in
+    let checkpoint = c .before in
+    let book = checkpoint .before .before in
     both
+    (both
     (book .is-word .ensures ∙ ap (isWord longestBookPath) (book .before .take-book .ensures))
-    (c .is-word2 .ensures ∙ ap (isWord longestCheckpointPath) (c .before .take-checkpoint .ensures))
+    (checkpoint .is-word2 .ensures ∙ ap (isWord longestCheckpointPath) (checkpoint .before .take-checkpoint .ensures)))
+    (ap not (c .is-comment .ensures))
 
 pub is-plant-spec : {M : Type 1} → statement M
 is-plant-spec =
@@ -34,4 +41,5 @@ is-plant-spec =
     is-word-requires
     take-checkpoint-requires
     is-word-requires-2
+    is-comment-requires
     returns)
