@@ -17,10 +17,8 @@ use roster::plants;
 use text::progress;
 use text::report;
 
-// What came of a turn: how many records were gone through, and how many are left. Both are 0 of a
-// plant that can't be served.
-pub(crate) struct Turn {
-    pub moved: u32,
+// What came of a question: how many records are left, 0 of a plant that can't be served.
+pub(crate) struct Answer {
     pub left: u32,
     pub log: Log,
 }
@@ -32,7 +30,7 @@ pub(crate) enum Asked {
 }
 
 // A plant is read from its files each time, for another program may have changed them.
-pub(crate) fn ask(line: &[u8], asked: Asked, log: Log) -> Turn {
+pub(crate) fn ask(line: &[u8], asked: Asked, log: Log) -> Answer {
     let mut room = [0u8; LONGEST_PATH + 1];
     let n = files::put(&mut room, 0, plants::take_book(line));
     let n = files::put(&mut room, n, b" ");
@@ -49,7 +47,7 @@ pub(crate) fn ask(line: &[u8], asked: Asked, log: Log) -> Turn {
     }
 }
 
-fn ask_book(line: &[u8], whose: &[u8], book: &[u8], due: Due, asked: Asked, log: Log) -> Turn {
+fn ask_book(line: &[u8], whose: &[u8], book: &[u8], due: Due, asked: Asked, log: Log) -> Answer {
     let mut room = [0u8; CHECKPOINT_ROOM];
     match kept::find_place(book, due, whose, plants::take_checkpoint(line), &mut room) {
         Place::Failed => take_none(log::fail(log)),
@@ -66,23 +64,19 @@ fn ask_book(line: &[u8], whose: &[u8], book: &[u8], due: Due, asked: Asked, log:
 
 // A book that is done is told at once: what it was told by before may have been killed. If its copy
 // is due, that takes a wake that moves nothing.
-fn count(line: &[u8], whose: &[u8], book: &[u8], from: &[u8], due: Due, log: Log) -> Turn {
+fn count(line: &[u8], whose: &[u8], book: &[u8], from: &[u8], due: Due, log: Log) -> Answer {
     match job::report::count_left(book, from) {
         Remaining::Unknown(x) => refuse(line, whose, x, log),
         Remaining::Left(left) => {
             if left == 0 {
                 return tell_done(line, whose, book, from, due, log);
             }
-            Turn {
-                moved: 0,
-                left,
-                log,
-            }
+            Answer { left, log }
         }
     }
 }
 
-fn tell_done(line: &[u8], whose: &[u8], book: &[u8], from: &[u8], due: Due, log: Log) -> Turn {
+fn tell_done(line: &[u8], whose: &[u8], book: &[u8], from: &[u8], due: Due, log: Log) -> Answer {
     match due {
         Due::Nothing => take_none(log::tell(whose, progress::tell_turn(book, from, 0), log)),
         Due::Copy => wake(line, whose, book, from, 0, due, log),
@@ -100,7 +94,7 @@ fn wake(
     budget: u32,
     due: Due,
     log: Log,
-) -> Turn {
+) -> Answer {
     let path = plants::take_checkpoint(line);
     kept::tell_change(due, plants::take_book(line), path);
     let mut saved = [0u8; checkpoint::SIZE];
@@ -110,7 +104,7 @@ fn wake(
         Kept::Moved(moved) => {
             let log = log::tell(whose, progress::tell_turn(book, &saved, moved), log);
             let left = count_saved(book, &saved);
-            Turn { moved, left, log }
+            Answer { left, log }
         }
     }
 }
@@ -123,16 +117,12 @@ fn count_saved(book: &[u8], saved: &[u8]) -> u32 {
     }
 }
 
-fn take_none(log: Log) -> Turn {
-    Turn {
-        moved: 0,
-        left: 0,
-        log,
-    }
+fn take_none(log: Log) -> Answer {
+    Answer { left: 0, log }
 }
 
 // Names a plant that is refused, which has no records to serve.
-fn refuse(line: &[u8], whose: &[u8], x: Refusal, log: Log) -> Turn {
+fn refuse(line: &[u8], whose: &[u8], x: Refusal, log: Log) -> Answer {
     let log = log::tell(whose, report::refuse(x), log);
     files::tell_page(whose, plants::take_checkpoint(line), progress::hint(x));
     take_none(log)

@@ -92,12 +92,12 @@ fn take_turns(list: &[u8], first: Queue, begun: Log, path: &[u8], budget: u32) -
             Turned::NotTurned(_) => {
                 return log;
             }
-            Turned::Served(i, moved) => {
+            Turned::Served(i, _) => {
                 let after = r.queue;
                 if !keep(list, after.last, path) {
                     return log::fail(log);
                 }
-                let t = serve(list, i, after, moved, budget, log);
+                let t = serve(list, i, after, budget, log);
                 q = t.queue;
                 log = t.log;
             }
@@ -118,14 +118,11 @@ fn keep(list: &[u8], slot: u8, path: &[u8]) -> bool {
     )
 }
 
-// A turn that moved as many records as the queue counted leaves the queue as it is. After any other the
-// plant is counted anew: it can't be served, or another program woke it meanwhile.
-fn serve(list: &[u8], i: usize, q: Queue, moved: u32, budget: u32, log: Log) -> Round {
+// The plant is counted by what its files say after the turn: it may be one that can't be served, or
+// whose book or checkpoint another program changed meanwhile.
+fn serve(list: &[u8], i: usize, q: Queue, budget: u32, log: Log) -> Round {
     let t = plant::ask(lines::take_line(list, i), Asked::Turn(budget), log);
     let log = t.log;
-    if t.moved == moved {
-        return Round { queue: q, log };
-    }
     let queue = recount(q, i, t.left);
     Round { queue, log }
 }
