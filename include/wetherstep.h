@@ -4,9 +4,8 @@
  * A job starts with a fresh checkpoint of a book, goes on by wakes, each from a checkpoint and with
  * a budget of records, and ends with a report. Between them a caller may ask how many records are
  * left, and look at any single one. Book and checkpoint are described in docs/FORMAT.md, the rules
- * in docs/RULES.md. Link libwetherstep.a, and libwetherstep_record.a for wetherstep_record (x86-64
- * Linux; `rt staticlib wetherstep` and `rt staticlib wetherstep_record` make them). C99, also from
- * C++.
+ * in docs/RULES.md. Link libwetherstep.a, which tools/c-library builds (x86-64 Linux). C99, also
+ * from C++.
  *
  * THE CALLER'S DUTIES. The library is proved for all bytes, lengths, budgets and indices. It can't
  * see that
