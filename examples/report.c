@@ -1,7 +1,8 @@
 /*
  * The year's report of a book, worked out as a tablet does it: a fresh start, wakes of ten records
  * from checkpoint to checkpoint until none is left, and the report. A tablet saves each checkpoint
- * before it goes on, and a copy of the book before the first: wetherstep.h says how.
+ * before it goes on, and a copy of the book before the first: wetherstep.h says how. Where records
+ * are set aside, standard error has each of them with its reason.
  */
 #include <errno.h>
 #include <inttypes.h>
@@ -29,6 +30,19 @@ static enum status refuse(uint64_t reply) {
         printf(" record %" PRIu32 " reason %u", wetherstep_count(reply), wetherstep_reason(reply));
     printf("\n");
     return REFUSED;
+}
+
+static int is_there(uint64_t look) {
+    return !is_refused(look) && wetherstep_method(look) != WETHERSTEP_NO_RECORD;
+}
+
+/* A report names the first record set aside, and whoever corrects the book wants all of them. */
+static void list_set_aside(const uint8_t *book, size_t length) {
+    uint64_t look, masses[WETHERSTEP_MASSES];
+
+    for (uint32_t i = 0; is_there(look = wetherstep_record(book, length, i, masses)); i++)
+        if (wetherstep_reason(look) != 0)
+            fprintf(stderr, "record %" PRIu32 " reason %u\n", i, wetherstep_reason(look));
 }
 
 static void print(const uint8_t *book, size_t length, const uint64_t *figures) {
@@ -63,6 +77,8 @@ static enum status report(const uint8_t *book, size_t length) {
         memcpy(checkpoint, next, sizeof checkpoint);
     }
     reply = wetherstep_report(book, length, checkpoint, sizeof checkpoint, figures);
+    if (wetherstep_number(reply) == WETHERSTEP_RECORD_ASIDE)
+        list_set_aside(book, length);
     if (is_refused(reply))
         return refuse(reply);
     print(book, length, figures);
