@@ -5,14 +5,15 @@ import itertools
 import os
 import re
 import subprocess
+import sys
 import tempfile
 import termios
 import time
 
 from program_books import LONGEST, LINE, TONNE, book, fuel_line, fuel_record, pad, patch, report
 from program_books import trailer, unit_line
-from program_runs import PATIENCE, PLANT, ROOT, Answer, expect, expect_failure, expect_line
-from program_runs import expect_told, turns
+from program_runs import FAILED, MISUSED, PATIENCE, PLANT, ROOT, Answer, Wrong, expect
+from program_runs import expect_answer, expect_told, kill, turns
 
 EXAMPLE = b"""\
 year 2010
@@ -101,10 +102,13 @@ def in_pieces(programs, name, data, sizes):
 def await_reading(process, pipe):
     """Waits until a program has read all that the pipe holds, or has ended."""
     for _ in turns():
-        held = fcntl.ioctl(pipe, termios.FIONREAD, bytes(4))
-        if held == bytes(4) or process.poll() is not None:
+        if not bytes_in(pipe) or process.poll() is not None:
             return
         time.sleep(0.0001)
+
+
+def bytes_in(pipe):
+    return int.from_bytes(fcntl.ioctl(pipe, termios.FIONREAD, bytes(4)), sys.byteorder)
 
 
 def book_in_format_page():
@@ -152,6 +156,10 @@ def try_refusals(programs, cases):
         for program in ("annual", "lines"):
             with cases.case(f"{program}: {name} is refused with {number}"):
                 expect_told(programs.run(program, data=of), f"refused {number}\n".encode())
+    try_set_aside(programs, cases)
+
+
+def try_set_aside(programs, cases):
     large = book(units=[unit_line(rating=2501)])
     with cases.case("annual: a record set aside"):
         expect_told(programs.run("annual", data=large), b"refused 41 record 0 reason 6\n")
@@ -160,20 +168,52 @@ def try_refusals(programs, cases):
         expect_told(programs.run("annual", data=of), b"refused 41 record 1 reason 4\n")
 
 
-def try_failures(programs, cases, name):
+def unread(programs, name, *args):
+    """Runs with a byte in a pipe that stays open: a program that reads would wait for more."""
+    reading, writing = os.pipe()
+    os.write(writing, b"x")
+    process = programs.start(name, *args, stdin=reading, stdout=subprocess.PIPE,
+                             stderr=subprocess.PIPE)
+    try:
+        await_reading(process, reading)
+        if not bytes_in(reading):
+            raise Wrong("it reads its input")
+        out, err = process.communicate(timeout=PATIENCE)
+        return Answer(process.returncode, out, err)
+    finally:
+        kill(process)
+        os.close(reading)
+        os.close(writing)
+
+
+def try_usage(programs, cases, name, wanted):
+    for args in (["x"], [str(PLANT)], [""], ["--help"], ["x", "y"]):
+        with cases.case(f"{name}: it takes no arguments, {args}"):
+            expect_answer(unread(programs, name, *args), MISUSED, b"",
+                          b"usage: %s <%s\n" % (name.encode(), wanted))
+
+
+def try_failures(programs, cases, name, inputs):
     """A read and a write that fail. Of what is printed, nobody could say that it is all."""
     with tempfile.TemporaryDirectory() as folder, cases.case(f"{name}: its input is a folder"):
         entry = os.open(folder, os.O_RDONLY)
         answer = programs.run(name, stdin=entry)
         os.close(entry)
-        expect_failure(answer, b"standard input")
-    with cases.case(f"{name}: its output is a full device"), open("/dev/full", "wb") as full:
-        data = (ROOT / "crates" / name / "stdin").read_bytes()
-        expect_line(programs.run(name, data=data, stdout=full), b"write: ")
+        expect_answer(answer, FAILED, b"", b"standard input: Is a directory\n")
+    for kind, data in inputs.items():
+        with cases.case(f"{name}: its output is a full device, {kind}"), open(
+                "/dev/full", "wb") as full:
+            answer = programs.run(name, data=data, stdout=full)
+            expect_answer(answer, FAILED, None, b"standard output: No space left on device\n")
+
+
+# What a program that reads a book has to print: its answer, or that the book is refused.
+BOOKS = {"a sound book": ONE, "a refused book": REFUSED["no bytes"][1]}
 
 
 def try_annual(programs, cases):
     try_reports(programs, cases)
     try_decisions(programs, cases)
     try_refusals(programs, cases)
-    try_failures(programs, cases, "annual")
+    try_usage(programs, cases, "annual", b"BOOK")
+    try_failures(programs, cases, "annual", BOOKS)

@@ -1,7 +1,7 @@
 """What `lines` prints of each record, held against the requirements' sums."""
 import struct
 
-from program_annual import ONE, try_failures
+from program_annual import BOOKS, ONE, try_failures, try_usage
 from program_books import book, fuel_line, fuel_record, hour_record, masses_of, pad, patch, report
 from program_books import trailer, unit_line
 from program_runs import PLANT, ROOT, expect, expect_told
@@ -77,4 +77,5 @@ def try_lines(programs, cases):
         expect_told(programs.run("lines", data=trailer(0, 0)), b"")
     try_forms(programs, cases)
     try_plant(programs, cases)
-    try_failures(programs, cases, "lines")
+    try_usage(programs, cases, "lines", b"BOOK")
+    try_failures(programs, cases, "lines", BOOKS)

@@ -1,10 +1,11 @@
-"""How `replay` ends: at a wrong head, or where its input is cut short. Its answers to right frames
-are held against a stored run by `rt ci`, and a few are here, worked out by hand."""
+"""How `replay` ends: at a wrong head, where its input is cut short, or with its last frame. Its
+answers to right frames are held against a stored run by `rt ci`, and a few are here, worked out by
+hand."""
 import struct
 
-from program_annual import ONE, P1_MASSES, in_pieces, try_failures
+from program_annual import ONE, P1_MASSES, in_pieces, try_failures, try_usage
 from program_books import CHECKPOINT, LINE, LONGEST_PART, book, checkpoint, trailer
-from program_runs import ROOT, expect, expect_told
+from program_runs import FAILED, ROOT, WORKED, expect, expect_answer, expect_told
 
 FRESH, WAKE, REPORT, RECORD = 1, 2, 3, 4
 BLANK = b"\xaa" * CHECKPOINT
@@ -53,19 +54,30 @@ WRONG_HEADS = {
 }
 
 
-def try_ends(programs, cases):
-    for name, wrong in WRONG_HEADS.items():
-        with cases.case(f"replay: {name} in a head stops it"):
-            expect_told(programs.run("replay", data=START + wrong + START), STARTED)
-    short = frame(REPORT)
-    first, second = answer(20), answer(out=checkpoint(EMPTY))
-    stream = short + frame(WAKE, 7, EMPTY, checkpoint(EMPTY), BLANK)
+def try_heads(programs, cases):
+    """What was answered before a wrong head stays answered, and what stands behind it isn't."""
+    wrong = [(1, name) for name in WRONG_HEADS] + [(0, "call 0"), (12, "call 0"), (101, "byte 23")]
+    for before, name in wrong:
+        with cases.case(f"replay: {name} in the head of frame {before} stops it"):
+            stream = before * START + WRONG_HEADS[name] + START
+            told = b"frame %d has a head that breaks the rules\n" % before
+            expect_answer(programs.run("replay", data=stream), FAILED, before * STARTED, told)
+
+
+def try_cuts(programs, cases):
+    frames = [frame(REPORT), frame(WAKE, 7, EMPTY, checkpoint(EMPTY), BLANK)]
+    answers = [answer(20), answer(out=checkpoint(EMPTY))]
+    stream, ends = b"".join(frames), [0, len(frames[0]), len(frames[0] + frames[1])]
     with cases.case(f"replay: a stream cut at each of its {len(stream)} bytes"):
         for length in range(len(stream) + 1):
-            wanted = first * (length >= len(short)) + second * (length == len(stream))
-            expect_told(programs.run("replay", data=stream[:length]), wanted)
-    with cases.case("replay: no input"):
-        expect_told(programs.run("replay"), b"")
+            whole = sum(end <= length for end in ends[1:])
+            status, told = (WORKED, b"") if length in ends else (
+                FAILED, b"frame %d is cut short\n" % whole)
+            expect_answer(programs.run("replay", data=stream[:length]), status,
+                          b"".join(answers[:whole]), told)
+    with cases.case("replay: frame 12 is cut short in its last byte"):
+        expect_answer(programs.run("replay", data=(13 * START)[:-1]), FAILED, 12 * STARTED,
+                      b"frame 12 is cut short\n")
 
 
 def try_answers(programs, cases):
@@ -95,6 +107,8 @@ def try_answers(programs, cases):
 
 
 def try_replay(programs, cases):
-    try_ends(programs, cases)
+    try_heads(programs, cases)
+    try_cuts(programs, cases)
     try_answers(programs, cases)
-    try_failures(programs, cases, "replay")
+    try_usage(programs, cases, "replay", b"FRAMES")
+    try_failures(programs, cases, "replay", {"a right frame": START})

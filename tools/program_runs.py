@@ -5,6 +5,7 @@ import contextlib
 import os
 import pathlib
 import platform
+import re
 import shlex
 import signal
 import subprocess
@@ -17,6 +18,11 @@ PLANT = ROOT / "examples/plant.book"
 IS_EMULATED = platform.machine() != "x86_64"
 # No run takes a second, but an emulator on a busy machine is given all the time it may want.
 PATIENCE = 300
+
+# What a program ends with: it did what it is for, it told of a failure, its arguments are wrong, or
+# it printed a refusal, in `tablet` behind the name of a book.
+WORKED, FAILED, MISUSED, TURNED_AWAY = range(4)
+REFUSAL = re.compile(rb"^(?:\S+ )?refused \d", re.M)
 
 Answer = collections.namedtuple("Answer", "status out err")
 
@@ -110,29 +116,33 @@ def expect(seen, wanted, what):
         raise Wrong(f"{what} is {cut(seen)}, not {cut(wanted)}")
 
 
-def expect_ended(answer):
-    """A program has no status of its own for a failure, so only a crash can be told by it."""
-    if answer.status < 0 or answer.status > 127:
-        raise Wrong(f"it was stopped by a signal: status {answer.status}, {cut(answer.err)}")
+def ended_by(answer, number):
+    """Whether a signal ended it. A command that becomes the program has the signal itself."""
+    return answer.status in (128 + number, -number)
 
 
-def expect_told(answer, text):
-    """Exactly the text on standard output, and nothing on standard error."""
-    expect(answer.err, b"", "standard error")
-    expect(answer.out, text, "standard output")
-    expect(answer.status, 0, "the exit status")
+def expect_answer(answer, status, out, err=b""):
+    """Exactly these, where standard output was read."""
+    expect(answer.err, err, "standard error")
+    expect(answer.out, out, "standard output")
+    expect(answer.status, status, "the exit status")
 
 
-def expect_line(answer, word):
-    """One line on standard error with this word in it, so that no other fault is taken for it."""
-    expect_ended(answer)
+def expect_told(answer, text, err=b""):
+    """Exactly the text on standard output. The status says whether there is a refusal in it."""
+    expect_answer(answer, TURNED_AWAY if REFUSAL.search(text) else WORKED, text, err)
+
+
+def expect_line(answer, words, status=FAILED):
+    """One line on standard error with these words, so that no other fault is taken for it."""
     line = answer.err
-    if line.count(b"\n") != 1 or not line.endswith(b"\n") or word not in line:
-        raise Wrong(f"standard error is {cut(line)}, not one line with {word!r}")
+    if line.count(b"\n") != 1 or not line.endswith(b"\n") or words not in line:
+        raise Wrong(f"standard error is {cut(line)}, not one line with {words!r}")
+    expect(answer.status, status, "the exit status")
 
 
-def expect_failure(answer, word):
-    expect_line(answer, word)
+def expect_failure(answer, words, status=FAILED):
+    expect_line(answer, words, status)
     expect(answer.out, b"", "standard output")
 
 
