@@ -87,6 +87,11 @@ def report(of, ledgers):
     return "".join(line + "\n" for line in lines).encode()
 
 
+def each_line(front, text):
+    """The text with these words in front of each of its lines."""
+    return b"".join(front.encode() + line for line in text.splitlines(True))
+
+
 COUNTED = re.compile(r"record (\d+) (?:method ([1-4])|hour) (fossil|biomass|none)"
                      r" co2-ug (\d+) ch4-ng (\d+) n2o-ng (\d+)")
 

@@ -2,12 +2,15 @@
 import os
 
 from program_annual import EXAMPLE, ONE, P1_MASSES, REFUSED
-from program_books import CHECKPOINT, LINE, TONNE, book, checkpoint, count_of, fuel_record, patch
-from program_books import trailer, unit_line
+from program_books import CHECKPOINT, LINE, TONNE, book, checkpoint, fuel_record, patch, trailer
+from program_books import unit_line
 from program_jobs import ALL, NAME, job_on, plan_by_lines, plan_plant
-from program_runs import ROOT, expect, expect_failure, expect_line, expect_told, memory_folder
+from program_runs import FAILED, MISUSED, ROOT, TURNED_AWAY, expect, expect_answer, expect_failure
+from program_runs import expect_told, memory_folder
 
-HINT = b"wake BOOK CHECKPOINT BUDGET fresh"
+USAGE = b"usage: wake BOOK CHECKPOINT BUDGET [fresh]\n"
+HINT = "{} isn't this book's checkpoint; wake BOOK CHECKPOINT BUDGET fresh starts anew\n"
+LEFT = "{}: neither empty nor as long as a checkpoint, so it is left as it is\n"
 BEGUN = checkpoint(ONE)
 DONE = checkpoint(ONE, 1, P1_MASSES)
 SOUND = checkpoint(ONE, 1, P1_MASSES, aside=1, first=0, reason=7)
@@ -71,25 +74,31 @@ def try_jobs(programs, cases, plan):
 
 def try_names(programs, cases):
     """CHECKPOINT as a word: where the program runs, below it, and as long as a name may be."""
-    # The name of the temporary file is 7 bytes longer.
+    # The name of the copy's temporary file is 12 bytes longer.
     with memory_folder() as folder:
-        longest = os.pathconf(folder, "PC_NAME_MAX") - 7
+        longest = os.pathconf(folder, "PC_NAME_MAX") - len(".book.XXXXXX")
     for name in ["ours", "./ours", "sub/ours", "sub/../ours", "-ours", "a b\n", "n" * longest]:
         with cases.case(f"wake: CHECKPOINT is {name[:20]!r}"), job_on(programs, ONE) as job:
             (job.folder / "sub").mkdir()
-            answer = programs.run("wake", "book", name, "1", cwd=job.folder)
-            expect_told(answer, b"moved 1\ndone 1 of 1\n" + EXAMPLE)
-            home = (job.folder / name).parent
-            expect((job.folder / name).read_bytes(), DONE, "the checkpoint")
-            expect(sorted(os.listdir(home)), sorted({(job.folder / name).name} | (
-                {"book", "sub"} if home.name != "sub" else set())), "the folder")
-    for name in ["", "gone/ours", "book/ours", "n" * (longest + 1), "sub", "sub/"]:
-        with cases.case(f"wake: CHECKPOINT can't be {name[:20]!r}"), job_on(programs, ONE) as job:
+            for more in ([], ["fresh"]):
+                answer = programs.run("wake", "book", name, "1", *more, cwd=job.folder)
+                expect_told(answer, b"moved 1\ndone 1 of 1\n" + EXAMPLE)
+            path = job.folder / name
+            expect(path.read_bytes(), DONE, "the checkpoint")
+            expect((path.parent / f"{path.name}.book").read_bytes(), ONE, "the copy")
+            expect(sorted(os.listdir(path.parent)), sorted({path.name, f"{path.name}.book"} | (
+                {"book", "sub"} if path.parent.name != "sub" else set())), "the folder")
+    names = ["", "gone/ours", "book/ours", "sub", "sub/"] + [
+        "n" * (longest + more) for more in (1, 5, 7, 8, 12, 13)]
+    for name in names:
+        with cases.case(f"wake: CHECKPOINT can't be {name[:20]!r} of {len(name)} bytes"), job_on(
+                programs, ONE) as job:
             (job.folder / "sub").mkdir()
             before = job.files()
             for more in ([], ["fresh"]):
                 answer = programs.run("wake", "book", name, "1", *more, cwd=job.folder)
-                expect_failure(answer, name.encode() + b": ")
+                expect_failure(answer, b": ")
+                expect(answer.err.startswith(name.encode()), True, f"that {name!r} is named")
                 job.expect_kept(before)
             expect(os.listdir(job.folder / "sub"), [], "the folder below")
 
@@ -100,13 +109,32 @@ def try_arguments(programs, cases):
     wrong |= {f"a fourth that is {word!r}": ["book", NAME, "1", word]
               for word in ("", "Fresh", "fres", "freshly", "fresh ", "1")}
     wrong |= {f"budget {word[:24]!r}": ["book", NAME, word] for word in NO_BUDGETS}
-    wrong |= {"a path of 4,096 bytes": ["b" * 4096, NAME, "1"],
-              "a checkpoint's path of 4,089 bytes": ["book", "c" * 4089, "1"]}
+    told = dict.fromkeys(wrong, USAGE)
+    long_ones = {"BOOK": (["b" * 4096, NAME, "1"], 4095),
+                 "CHECKPOINT": (["book", "c" * 4084, "1"], 4083)}
+    for word, (args, most) in long_ones.items():
+        for more in ([], ["fresh"]):
+            name = f"a {word} of {most + 1} bytes {more}"
+            wrong[name] = args + more
+            told[name] = f"wake: {word} is longer than {most} bytes\n".encode()
     for name, args in wrong.items():
         with cases.case(f"wake: wrong arguments, {name}"), job_on(programs, ONE) as job:
             before = job.files()
-            expect_failure(programs.run("wake", *args, cwd=job.folder), b"usage: wake ")
+            expect_answer(programs.run("wake", *args, cwd=job.folder), MISUSED, b"", told[name])
             job.expect_kept(before)
+
+
+def try_long_paths(programs, cases):
+    """Paths as long as they may be, though all but a few of their bytes are slashes."""
+    for word, most in (("BOOK", 4095), ("CHECKPOINT", 4083)):
+        with cases.case(f"wake: a {word} of {most} bytes"), job_on(programs, ONE) as job:
+            path = "." + word.rjust(most - 1, "/")
+            args = [path, NAME] if word == "BOOK" else ["book", path]
+            (job.folder / "BOOK").write_bytes(ONE)
+            answer = programs.run("wake", *args, "1", cwd=job.folder)
+            expect_told(answer, b"moved 1\ndone 1 of 1\n" + EXAMPLE)
+            saved = job.folder / (NAME if word == "BOOK" else word)
+            expect(saved.read_bytes(), DONE, "the checkpoint")
 
 
 def try_checkpoints(programs, cases):
@@ -114,49 +142,49 @@ def try_checkpoints(programs, cases):
             programs, ONE, SOUND) as job:
         expect_told(job.wake(1), b"moved 0\ndone 1 of 1\nrefused 41 record 0 reason 7\n")
     for name, (number, saved) in STRANGE.items():
-        with cases.case(f"wake: {name} is refused with {number}"), job_on(
-                programs, ONE, saved) as job:
-            before = job.files()
-            for budget in (0, 1, ALL):
-                answer = job.wake(budget)
-                expect(answer.out, f"refused {number}\n".encode(), "standard output")
-                expect_line(answer, HINT)
-                job.expect_kept(before)
-        with cases.case(f"wake: fresh starts anew from {name}"), job_on(
-                programs, ONE, saved) as job:
-            expect_told(job.wake(1, "fresh"), b"moved 1\ndone 1 of 1\n" + EXAMPLE)
-            job.expect_saved(DONE)
+        for copy in (ONE, None):
+            kind = "" if copy else ", without a copy"
+            with cases.case(f"wake: {name} is refused with {number}{kind}"), job_on(
+                    programs, ONE) as job:
+                job.stand(saved, copy)
+                before = job.files()
+                for budget in (0, ALL):
+                    expect_answer(job.wake(budget), TURNED_AWAY, f"refused {number}\n".encode(),
+                                  HINT.format(job.saved).encode())
+                    job.expect_kept(before)
+        with cases.case(f"wake: fresh, and {name} is there"), job_on(programs, ONE, saved) as job:
+            expect_replaced(job, saved, "fresh")
+
+
+def expect_replaced(job, saved, *more, err=b""):
+    """A new start on the book ONE. It takes the place of nothing but a checkpoint or no bytes."""
+    before, answer = job.files(), job.wake(1, *more)
+    if len(saved) in (0, CHECKPOINT):
+        expect_told(answer, b"moved 1\ndone 1 of 1\n" + EXAMPLE, err)
+        job.expect_saved(DONE)
+    else:
+        expect_answer(answer, FAILED, b"", LEFT.format(job.saved).encode())
+        job.expect_kept(before)
 
 
 def try_books(programs, cases, plan):
     for name, (number, of) in REFUSED.items():
         with cases.case(f"wake: of a book, {name} is refused with {number}"):
-            for saved in (None, DONE, b"strange"):
-                with job_on(programs, of, saved) as job:
+            for saved, copy in ((None, None), (DONE, ONE), (DONE, of), (b"strange", None)):
+                with job_on(programs, of) as job:
+                    job.stand(saved, copy)
                     before = job.files()
                     for more in ([], ["fresh"]):
                         expect_told(job.wake(1, *more), f"refused {number}\n".encode())
                         job.expect_kept(before)
-    with cases.case("wake: a book that has grown"), job_on(programs, plan.book) as job:
-        place = job.expect_woken(plan, 0, 100)
-        grown = grow(plan.book)
-        job.book.write_bytes(grown)
-        answer = job.wake(100)
-        expect(answer.out, b"refused 31\n", "standard output")
-        expect_line(answer, HINT)
-        job.expect_saved(plan.places[place])
-        job.expect_woken(plan_by_lines(programs, grown), 0, ALL, "fresh")
+    with cases.case("wake: a refused book, and standard output is full"), job_on(
+            programs, b"") as job, open("/dev/full", "wb") as full:
+        expect_answer(job.wake(1, stdout=full), FAILED, None,
+                      b"standard output: No space left on device\n")
+        job.expect_kept({"book": b""})
     with cases.case("wake: fresh on a job that is under way"), job_on(programs, plan.book) as job:
         job.expect_woken(plan, 0, 100)
         job.expect_woken(plan, 0, 30, "fresh")
-
-
-def grow(of):
-    """The book with its last record once more."""
-    start, at = LINE * count_of(of), len(of) - LINE
-    fuels_at = int.from_bytes(of[at + 12:at + 16], "little")
-    longer = of[:start] + of[start - LINE:start] + of[start:at]
-    return longer + trailer(start + LINE, fuels_at + LINE)
 
 
 def try_missing(programs, cases):
@@ -177,6 +205,7 @@ def try_wake(programs, cases):
     try_jobs(programs, cases, plan)
     try_names(programs, cases)
     try_arguments(programs, cases)
+    try_long_paths(programs, cases)
     try_checkpoints(programs, cases)
     try_books(programs, cases, plan)
     try_missing(programs, cases)
