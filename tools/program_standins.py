@@ -6,19 +6,41 @@ runs the real program, and spoils one thing.
 import pathlib
 import shlex
 
-from program_runs import Cases, Programs, Wrong, memory_folder
+from program_annual import try_reports, try_set_aside
+from program_jobs import plan_plant
+from program_lines import try_plant
+from program_replay import try_answers, try_heads
+from program_runs import Cases, Programs, Wrong, expect, memory_folder
+from program_wake import try_jobs
 
-# What a stand-in does to one program's output.
-SPOILED_OUTPUT = {
-    "one figure is off": ("annual", "sed s/9856701/9856702/"),
-    "a line is missing": ("annual", "sed /^co2e/d"),
-    "a blank line follows": ("annual", "{ cat; echo; }"),
-    "one mass is off": ("lines", "sed '1s/ch4-ng /ch4-ng 9/'"),
-    "the last record is missing": ("lines", "sed '$d'"),
-    "it says nothing": ("replay", "true"),
-    "it is told twice": ("wake", "sed p"),
-    "done is one too many": ("wake", "sed 's/^done 100/done 101/'"),
+# Each stand-in spoils one program's output, its end or its file. Its status stays the program's own
+# where that isn't the fault.
+WRONG = [
+    ("annual", "one figure is off", "spoil sed s/9856701/9856702/", try_reports),
+    ("annual", "a line is missing", "spoil sed /^co2e/d", try_reports),
+    ("annual", "a blank line follows", "spoil sed '$G'", try_reports),
+    ("annual", "a refusal is no status", 'real "$@"; exit 0', try_set_aside),
+    ("lines", "one mass is off", "spoil sed '1s/ch4-ng /ch4-ng 9/'", try_plant),
+    ("lines", "the last record is missing", "spoil sed '$d'", try_plant),
+    ("replay", "it says nothing", "spoil true", try_answers),
+    ("replay", "a wrong head is no failure", 'real "$@"; exit 0', try_heads),
+    ("replay", "a wrong head isn't told", 'real "$@" 2>/dev/null', try_heads),
+    ("wake", "it is told twice", "spoil sed p", try_jobs),
+    ("wake", "done is one too many", "spoil sed 's/^done 100/done 101/'", try_jobs),
+    ("wake", "its copy is another book's",
+     'real "$@"; end=$?; echo >>"$3.book"; exit "$end"', try_jobs),
+    ("wake", "it keeps no copy", 'real "$@"; end=$?; rm "$3.book"; exit "$end"', try_jobs),
+]
+# For the body of a stand-in: the real output goes through a command.
+SPOIL = """
+words=("$@")
+spoil() {
+    real "${words[@]}" >"$scratch/told"
+    end=$?
+    "$@" <"$scratch/told"
+    exit "$end"
 }
+"""
 
 
 def stand_in(folder, name, real, body):
@@ -28,7 +50,7 @@ def stand_in(folder, name, real, body):
     script.write_text(
         f'real() {{ {command} "$@"; }}\nscratch={shlex.quote(str(folder))}\n'
         f'[ "$1" = {name} ] || {{ real "$@"; exit; }}\n{body}\n', encoding="utf-8")
-    return Programs(["sh", str(script)])
+    return Programs(["bash", str(script)])
 
 
 def expect_caught(quiet, words):
@@ -37,12 +59,20 @@ def expect_caught(quiet, words):
         raise Wrong(f"no fault has {words!r}: {quiet.faults[:2]}")
 
 
-def try_spoiled_outputs(programs, cases, attempts):
-    """Attempts gives the cases that have to catch what is spoiled of each program."""
-    for name, (program, spoil) in SPOILED_OUTPUT.items():
-        with cases.case(f"a wrong {program} is caught: {name}"), memory_folder() as folder:
-            quiet = Cases(quiet=True)
-            with quiet.case("preparing"):
-                wrong = stand_in(folder, program, programs, f'real "$@" | {spoil}')
-                attempts[program](wrong, quiet)
-            expect_caught(quiet, "")
+def faults_of(programs, program, body, attempt, plan):
+    """What is found wrong with a stand-in."""
+    quiet, more = Cases(quiet=True), [plan] if attempt is try_jobs else []
+    with memory_folder() as folder, quiet.case("preparing"):
+        attempt(stand_in(folder, program, programs, SPOIL + body), quiet, *more)
+    return quiet
+
+
+def try_spoiled(programs, cases):
+    plan = plan_plant(programs)
+    for program, name, body, attempt in WRONG:
+        with cases.case(f"a wrong {program} is caught: {name}"):
+            expect_caught(faults_of(programs, program, body, attempt, plan), "")
+    for program, attempt in dict.fromkeys((program, attempt) for program, _, _, attempt in WRONG):
+        with cases.case(f"{program} through a command passes {attempt.__name__}"):
+            quiet = faults_of(programs, program, "spoil cat", attempt, plan)
+            expect(quiet.faults, [], "what is wrong with it")

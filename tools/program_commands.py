@@ -1,0 +1,167 @@
+"""The commands that run the programs: `tools/program`, which gives them a status and touches
+nothing that they read or print, and `./run`, which runs the job on a book to its end."""
+import os
+import pathlib
+import re
+import signal
+import subprocess
+
+from program_annual import EXAMPLE, ONE, REFUSED, await_reading
+from program_books import book, fuel_record, unit_line
+from program_copy import correct
+from program_jobs import job_on, plan_by_lines
+from program_replay import FRESH, START, STARTED, answer, frame
+from program_runs import FAILED, MISUSED, PATIENCE, PLANT, ROOT, TURNED_AWAY, WORKED, Answer, Wrong
+from program_runs import expect, expect_answer, expect_failure, expect_told, kill, memory_folder
+
+EVERY_BYTE = bytes(range(256)) * 3
+ASIDE = book([fuel_record()] * 150, [unit_line(rating=2501)])
+
+
+def run_command(*command, **options):
+    options = {"stdout": subprocess.PIPE, "stdin": subprocess.DEVNULL, **options}
+    ran = subprocess.run(command, stderr=subprocess.PIPE, timeout=6 * PATIENCE, check=False,
+                         **options)
+    return Answer(ran.returncode, ran.stdout, ran.stderr)
+
+
+def try_usage(programs, cases):
+    with cases.case("tools/program: no arguments"):
+        expect_answer(run_command(*programs.command), MISUSED, b"",
+                      b"usage: tools/program NAME ARGS..\n")
+    for name in ("nothing", "", "files"):
+        with cases.case(f"tools/program: {name!r} isn't built"):
+            expect_failure(programs.run(name), b"is not built")
+
+
+def try_descriptors(programs, cases):
+    """What the program reads and prints is the caller's, and so are all other descriptors."""
+    with cases.case("tools/program: every byte goes through"):
+        asked = frame(FRESH, 0, b"", EVERY_BYTE, EVERY_BYTE)
+        expect_told(programs.run("replay", data=asked), answer(20, out=EVERY_BYTE))
+    with cases.case("tools/program: wake leaves its input alone"), job_on(programs, ONE) as job:
+        with open(PLANT, "rb") as file:
+            expect_told(job.wake(0, stdin=file), b"moved 0\ndone 0 of 1\n")
+            expect(os.lseek(file.fileno(), 0, os.SEEK_CUR), 0, "the place in its input")
+    with cases.case("tools/program: what two print in a file stands one after the other"), \
+            memory_folder() as folder:
+        path = pathlib.Path(folder, "told")
+        with open(path, "wb") as file:
+            for _ in range(2):
+                expect_answer(programs.run("annual", data=ONE, stdout=file), WORKED, None)
+        expect(path.read_bytes(), 2 * EXAMPLE, "the file")
+    with cases.case("tools/program: no status goes to a descriptor of the caller"), \
+            memory_folder() as folder:
+        path = pathlib.Path(folder, "mine")
+        script = 'exec "$@" 3>"$0" 4>>"$0" 5>>"$0"'
+        told = run_command("sh", "-c", script, path, *programs.command, "annual")
+        expect_told(told, b"refused 20\n")
+        expect(path.read_bytes(), b"", "what the caller's file has")
+
+
+def find_program(process, name):
+    """The program that runs below tools/program, by the path that it was built at."""
+    for entry in pathlib.Path("/proc").glob("[0-9]*"):
+        try:
+            words = (entry / "cmdline").read_bytes().split(b"\0")
+            session = int((entry / "stat").read_text().rpartition(")")[2].split()[3])
+        except OSError:
+            continue  # It has ended meanwhile.
+        if session == process.pid and any(word.endswith(b"/bin/" + name) for word in words):
+            return int(entry.name)
+    raise Wrong(f"{name} isn't among what tools/program started")
+
+
+def stop_program(programs, number):
+    """A signal to the program alone, once it has read a frame."""
+    reading, writing = os.pipe()
+    os.write(writing, START)
+    process = programs.start("replay", stdin=reading, stdout=subprocess.PIPE,
+                             stderr=subprocess.PIPE)
+    try:
+        await_reading(process, reading)
+        os.kill(find_program(process, b"replay"), number)
+        out, err = process.communicate(timeout=PATIENCE)
+    finally:
+        kill(process)
+        os.close(reading)
+        os.close(writing)
+    return Answer(process.returncode, out, err)
+
+
+def try_signals(programs, cases):
+    for number in (signal.SIGKILL, signal.SIGTERM, signal.SIGSEGV):
+        with cases.case(f"tools/program: {number.name} ends the program"):
+            told = stop_program(programs, number)
+            expect(told.status, 128 + number, "the exit status")
+            expect(STARTED.startswith(told.out), True, f"that {told.out!r} is of its answer")
+    with cases.case("tools/program: SIGPIPE ends the program where nobody reads"):
+        reading, writing = os.pipe()
+        os.close(reading)
+        told = programs.run("replay", data=START, stdout=writing)
+        os.close(writing)
+        expect(told.status, 128 + signal.SIGPIPE, "the exit status")
+
+
+def try_program(programs, cases):
+    try_usage(programs, cases)
+    try_descriptors(programs, cases)
+    try_signals(programs, cases)
+
+
+def run_job(*args):
+    return run_command(ROOT / "run", *args)
+
+
+def expect_report(told, ended, status=WORKED):
+    """Whatever wakes there were, the last tells the end, and no figure was told before."""
+    lines = re.sub(rb"moved \d+\ndone \d+ of \d+\n", b"", told.out)
+    expect((told.status, lines), (status, ended), f"with {told.err!r} on standard error, its end")
+
+
+def try_run_words(cases):
+    with cases.case("./run --help"):
+        told = run_job("--help")
+        expect((told.status, told.err), (WORKED, b""), "status and standard error")
+        expect(told.out[:12], b"usage: ./run", "the start of standard output")
+    with cases.case("./run a b"):
+        expect_failure(run_job("a", "b"), b"usage: ./run", MISUSED)
+    with cases.case("./run ''"):  # A name that is empty isn't the sample's.
+        told = run_job("")
+        expect_failure(told, b"", MISUSED if told.status == MISUSED else FAILED)
+    with memory_folder() as folder:
+        for name in ("gone", "gone/book", ""):
+            with cases.case(f"./run: there is no book {name!r} in the folder"):
+                expect_failure(run_job(os.path.join(folder, name)), b"run: ")
+
+
+def try_run(programs, cases):
+    try_run_words(cases)
+    plant = (ROOT / "examples/plant.report").read_bytes()
+    for turn in ("first", "second"):
+        with cases.case(f"./run: the sample, a {turn} time"):
+            expect_report(run_job(), plant)
+    with memory_folder() as folder:
+        path = pathlib.Path(folder, "a plant.book")
+        books = [PLANT.read_bytes(), correct(PLANT.read_bytes(), 7), correct(PLANT.read_bytes(), 8)]
+        plans = [plan_by_lines(programs, of) for of in books]
+        for turn, plan in enumerate([*plans, plans[2], plans[0]]):
+            with cases.case(f"./run: a book that is edited between its runs, turn {turn}"):
+                path.write_bytes(plan.book)
+                expect_report(run_job(path), plan.ended)
+        with cases.case("./run: a refused book"):
+            path.write_bytes(REFUSED["fuel kind 4"][1])
+            expect_report(run_job(path), b"refused 23\n", TURNED_AWAY)
+        for turn in ("first", "second"):
+            with cases.case(f"./run: a record set aside, a {turn} time"):
+                path.write_bytes(ASIDE)
+                expect_report(run_job(path), b"refused 41 record 0 reason 6\n", TURNED_AWAY)
+        with cases.case("./run: a book, by its name alone, from its folder"):
+            path.write_bytes(plans[0].book)
+            told = run_command(ROOT / "run", path.name, cwd=folder)
+            expect_report(told, plans[0].ended)
+
+
+def try_commands(programs, cases):
+    try_program(programs, cases)
+    try_run(programs, cases)
