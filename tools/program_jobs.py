@@ -109,10 +109,10 @@ class Job:
         return {path.name: path.read_bytes() if path.is_file() else None
                 for path in self.folder.iterdir()}
 
-    def changed(self):
+    def changed(self, of=None):
         """What is told where a checkpoint is there, and its book isn't BOOK."""
-        return (f"{self.book} has changed since {self.saved} was begun: the job starts anew\n"
-                .encode())
+        of = of or self.book
+        return f"{of} has changed since {self.saved} was begun: the job starts anew\n".encode()
 
     def expect_kept(self, before):
         """The folder is as it was: no file made, none changed, and no temporary one left behind."""
