@@ -1,26 +1,25 @@
 """A tablet whose runs are killed: fairness and figures survive it.
 
 A run that prints to a pipe that nobody reads ends at the first byte it prints, so exactly one turn
-fits into it. A run under a limit on the size of files ends within the save of a checkpoint, which
-is longer than the kept place of a short list, so its one turn is cut.
+fits into it. A run under a limit on the size of files ends within the save of a checkpoint or of a
+copy, which are longer than the kept place of a short list, so its one turn is cut.
 """
 import os
 import signal
 import subprocess
 import tempfile
 
-from kill_saves import limit_files
+from kill_saves import expect_stopped, limit_files
+from program_copy import correct
 from program_runs import PATIENCE, Wrong, expect, kill
-from tablet_model import KEPT, ends_of, kept_text, tablet_on
+from tablet_edits import plans_of
+from tablet_model import KEPT, changed, ends_of, kept_text, tablet_on
 
 BUDGET = 3
 SHORT, LONGER = 0.005, 1.05  # seconds that a killed run is given at most, and by what they grow
 MOST_JOBS = 200  # until a kill falls within a turn, where turns are short
+EDITS, OFTEN = 6, 0.1  # how many edits a killed job has, and before how many of its runs
 CUT_AT = 70  # bytes: less than a checkpoint, and more than the kept place of three plants
-
-
-def ended_by(status, number):
-    return status in (-number, 128 + number)
 
 
 def one_turn(tablet, budget=BUDGET):
@@ -29,15 +28,13 @@ def one_turn(tablet, budget=BUDGET):
     os.close(reading)
     answer = tablet.run(budget, stdout=writing)
     os.close(writing)
-    if not ended_by(answer.status, signal.SIGPIPE):
-        raise Wrong(f"SIGPIPE didn't end it: status {answer.status}, {answer.err!r}")
+    expect_stopped(answer, signal.SIGPIPE)
 
 
 def cut_turn(tablet, budget=BUDGET):
     """A run whose one turn is cut within its save."""
     answer = tablet.run(budget, preexec_fn=limit_files(CUT_AT, is_told=False))
-    if not ended_by(answer.status, signal.SIGXFSZ):
-        raise Wrong(f"SIGXFSZ didn't end it: status {answer.status}, {answer.err!r}")
+    expect_stopped(answer, signal.SIGXFSZ)
 
 
 def expect_turn(tablet, turn, name, moved):
@@ -49,10 +46,10 @@ def expect_turn(tablet, turn, name, moved):
     expect(tablet.kept(), kept_text(tablet.names, name), "what is kept")
 
 
-def try_rhythm(programs, cases, plans):
+def try_rhythm(programs, cases, plans, rounds=4):
     with cases.case(f"one turn fits into each run: {len(plans)} plants take turns"), tablet_on(
             programs, plans) as tablet:
-        for _ in range(4):
+        for _ in range(rounds):
             for name in tablet.names:
                 expect_turn(tablet, one_turn, name, BUDGET)
 
@@ -107,26 +104,41 @@ def start(tablet, budget=BUDGET):
 
 
 def kill_within(tablet, budget, seconds):
+    """A run that is given so long. It may say of a plant that it starts anew, and nothing else."""
+    wanted = {changed(name) for name in tablet.names if tablet.is_changed(name)}
     process = start(tablet, budget)
     try:
         process.wait(seconds)
     except subprocess.TimeoutExpired:
         kill(process)
     out, err = process.communicate(timeout=PATIENCE)
-    expect(err, b"", "standard error")
+    said = err.splitlines(True)
+    if len(set(said)) < len(said) or not all(
+            any(line.startswith(each) for line in wanted) for each in said):
+        raise Wrong(f"standard error is {err!r}")
     return out
 
 
 class Killed:
-    """A tablet that is started and killed, again and again, until all its plants are done."""
+    """A tablet that is started and killed, again and again, until all its plants are done. Some of
+    its books are edited meanwhile, to and fro."""
 
-    def __init__(self, tablet, chance):
+    def __init__(self, tablet, others, chance):
         self.tablet, self.chance = tablet, chance
+        self.books = {name: [tablet.plans[name], others[name]] for name in others}
         self.longest = SHORT
-        self.starts = self.cut = 0
+        self.starts = self.cut = self.edits = 0
+
+    def edit(self):
+        name = self.chance.choice(list(self.books))
+        self.books[name].reverse()
+        self.tablet.edit(name, self.books[name][0])
+        self.edits += 1
 
     def kill(self):
         """One run. No checkpoint goes back. Counts it if it was killed within a turn."""
+        if self.edits < EDITS and self.chance.random() < OFTEN:
+            self.edit()
         before, kept = self.tablet.places(), self.tablet.kept()
         out = kill_within(self.tablet, 1, self.chance.uniform(0, self.longest))
         after = self.tablet.places()
@@ -146,15 +158,18 @@ class Killed:
 
 def try_kills(programs, cases, plans, chance, jobs):
     """Kills at random instants, on a disk if there is one, so that many fall within a turn."""
-    starts = cut = job = 0
+    four = {name: plans[name] for name in "acde"}
+    others = plans_of(programs, {name: correct(plan.book, 3) for name, plan in four.items()})
+    starts = cut = edits = job = 0
     while job < jobs or (cut == 0 and job < MOST_JOBS):
         with cases.case(f"job {job} is killed at random until it is done"), tablet_on(
-                programs, plans, tempfile.TemporaryDirectory) as tablet:
-            killed = Killed(tablet, chance)
+                programs, four, tempfile.TemporaryDirectory) as tablet:
+            killed = Killed(tablet, others, chance)
             killed.finish()
-            starts, cut = starts + killed.starts, cut + killed.cut
+            starts, cut, edits = starts + killed.starts, cut + killed.cut, edits + killed.edits
         job += 1
-    cases.note(f"{job} jobs of {len(plans)} plants in {starts} runs: {cut} kills within a turn")
+    cases.note(f"{job} jobs of {len(four)} plants in {starts} runs, with {edits} edits: "
+               f"{cut} kills within a turn")
     with cases.case("some kill fell within a turn"):
         expect(cut > 0, True, "that one did")
 

@@ -1,43 +1,57 @@
-"""Runs of `tablet` to the end, and what it makes of wrong lists and of plants that are refused."""
-import os
-
+"""Runs of `tablet` to the end, what it makes of wrong lists, and of a list that can't be served."""
 from kill_saves import limit_files
-from program_annual import REFUSED
-from program_books import CHECKPOINT, checkpoint
 from program_jobs import ALL
-from program_runs import Wrong, expect, expect_failure, expect_told
-from tablet_model import KEPT, LIST, ends_of, line_of, tablet_on
+from program_runs import FAILED, MISUSED, expect, expect_answer, expect_failure
+from tablet_model import KEPT, LIST, line_of, tablet_on
 
-USAGE = b"usage: tablet LIST BUDGET"
+USAGE = b"usage: tablet LIST BUDGET, of 1 or more\n"
 BUDGETS = [1, 7, 100, 282, int(ALL)]
 WRONG_BUDGETS = ["0", "00", "x", "", "-1", "4294967296"]
+LONGEST_BOOK, LONGEST_CHECKPOINT, LONGEST_LIST = 4095, 4083, 4082  # bytes of a path
 
 GOOD = "a.book a.saved\n"
-FIRST = b"line 1 isn't BOOK CHECKPOINT"
-# Each wrong list, and what standard error says of it. Lines are counted from 1.
-WRONG_LISTS = {
-    "one word": ("a.book\n", FIRST),
-    "three words": ("a.book a.saved more\n", FIRST),
-    "two spaces": ("a.book  a.saved\n", FIRST),
-    "a space in front": (" a.book a.saved\n", FIRST),
-    "a space behind": ("a.book a.saved \n", FIRST),
-    "a tab between": ("a.book\ta.saved\n", FIRST),
-    "an end of line with a return": ("a.book a.saved\r\n", FIRST),
-    "a zero byte": ("a.book a\0saved\n", FIRST),
-    "an empty line": (GOOD + "\n", b"line 2 isn't BOOK CHECKPOINT"),
-    "an empty line in front": ("\n" + GOOD, FIRST),
-    "half a line at the end": (GOOD + "b.book", b"line 2 isn't BOOK CHECKPOINT"),
-    "too long a book's name": ("b" * 4096 + " a.saved\n", FIRST),
-    "too long a checkpoint's name": ("a.book " + "s" * 4089 + "\n", FIRST),
-    "a line twice": (GOOD + line_of("b") + GOOD, b"line 3 names a checkpoint again"),
-    "a checkpoint twice": (GOOD + "b.book a.saved\n", b"line 2 names a checkpoint again"),
-    "17 plants": ("".join(map(line_of, range(17))), b"more than 16 plants"),
-    "17 plants, the last one wrong": ("".join(map(line_of, range(16))) + "x\n",
-                                      b"more than 16 plants"),
-    "a line wrong before 17 plants": ("x\n" + "".join(map(line_of, range(17))),
-                                      FIRST),
-    "200,000 bytes": ("".join(map(line_of, range(20000))), b"more than 16 plants"),
-    "200,000 bytes of one line": ("x" * 200000, FIRST),
+WRONG = "line {} isn't BOOK CHECKPOINT"
+COMMENT = "line {} is a comment, and a list has none"
+RETURN = "line {} ends in a return: save the list with plain newlines"
+SPACE = "line {} has a space too many: no path in a list has one"
+LONG = "line {} has a path that is too long"
+# Each wrong list, and what standard error says of which line. Lines are counted from 1.
+WRONG_LINES = {
+    "one word": ("a.book\n", WRONG, 1),
+    "three words": ("a.book a.saved more\n", SPACE, 1),
+    "two spaces": ("a.book  a.saved\n", SPACE, 1),
+    "a space in front": (" a.book a.saved\n", SPACE, 1),
+    "a space behind": ("a.book a.saved \n", SPACE, 1),
+    "a space alone": (" \n", WRONG, 1),
+    "no book": (" a.saved\n", WRONG, 1),
+    "no checkpoint": ("a.book \n", WRONG, 1),
+    "a tab between": ("a.book\ta.saved\n", WRONG, 1),
+    "a return": ("a.book a.saved\r\n", RETURN, 1),
+    "a return in a second line": (GOOD + "b.book b.saved\r\n", RETURN, 2),
+    "a return and no newline": (GOOD + "b.book b.saved\r", RETURN, 2),
+    "a return alone": (GOOD + "\r\n", RETURN, 2),
+    "a return behind three words": ("a.book a.saved more\r\n", RETURN, 1),
+    "a comment": ("# the plants\n" + GOOD, COMMENT, 1),
+    "a comment in a second line": (GOOD + "#b.book b.saved\n", COMMENT, 2),
+    "a comment that ends in a return": ("# the plants\r\n", COMMENT, 1),
+    "a comment alone": ("#", COMMENT, 1),
+    "a zero byte": ("a.book a\0saved\n", WRONG, 1),
+    "an empty line": (GOOD + "\n", WRONG, 2),
+    "an empty line in front": ("\n" + GOOD, WRONG, 1),
+    "half a line at the end": (GOOD + "b.book", WRONG, 2),
+    "too long a book's path": ("b" * (LONGEST_BOOK + 1) + " a.saved\n", LONG, 1),
+    "too long a checkpoint's path": (
+        "a.book " + "s" * (LONGEST_CHECKPOINT + 1) + "\n", LONG, 1),
+    "too long a path in a third line": (
+        GOOD + line_of("b") + "c.book " + "s" * 9000 + "\n", LONG, 3),
+    "too long a path and two spaces": ("b" * 5000 + "  a.saved\n", SPACE, 1),
+    "a line twice": (GOOD + line_of("b") + GOOD, "line {} names a checkpoint again", 3),
+    "a checkpoint twice": (GOOD + "b.book a.saved\n", "line {} names a checkpoint again", 2),
+    "17 plants": ("".join(map(line_of, range(17))), "more than 16 plants", 17),
+    "17 plants, the last one wrong": (
+        "".join(map(line_of, range(16))) + "x\n", "more than 16 plants", 17),
+    "a line wrong before 17 plants": ("x\n" + "".join(map(line_of, range(17))), WRONG, 1),
+    "200,000 bytes": ("".join(map(line_of, range(20000))), "more than 16 plants", 17),
 }
 
 
@@ -62,85 +76,68 @@ def try_runs(programs, cases, plans):
 
 
 def try_wrong_lists(programs, cases, plans):
-    for name, (text, words) in WRONG_LISTS.items():
-        with cases.case(f"of a list, {name}"), tablet_on(programs, plans) as tablet:
+    one = {"a": plans["a"]}
+    for name, (text, words, number) in WRONG_LINES.items():
+        with cases.case(f"of a list, {name}"), tablet_on(programs, one) as tablet:
             (tablet.folder / LIST).write_bytes(text.encode())
             before = tablet.files()
-            expect_failure(tablet.run(5), b"list: " + words)
+            told = f"{LIST}: {words.format(number)}\n".encode()
+            expect_answer(tablet.run(5), FAILED, b"", told)
             expect(tablet.files(), before, "the folder")
-    with cases.case("no list"), tablet_on(programs, plans) as tablet:
+    with cases.case("of a list, 200,000 bytes of one line"), tablet_on(programs, one) as tablet:
+        (tablet.folder / LIST).write_bytes(b"x" * 200_000)
+        expect_failure(tablet.run(5), b"list: line 1 ")
+    with cases.case("no list"), tablet_on(programs, one) as tablet:
         (tablet.folder / LIST).unlink()
-        expect_failure(tablet.run(5), b"list: ")
-    wrong = [[], [LIST], [LIST, "5", "5"], ["l" * 4083, "5"]]
-    for args in wrong + [[LIST, word] for word in WRONG_BUDGETS]:
-        with cases.case(f"wrong arguments, {str(args)[:40]}"), tablet_on(programs, plans) as tablet:
+        expect_answer(tablet.run(5), FAILED, b"", b"list: No such file or directory\n")
+    with cases.case("a list that is a folder"), tablet_on(programs, one) as tablet:
+        expect_failure(programs.run("tablet", ".", "5", cwd=tablet.folder), b".: Is a directory")
+
+
+def try_arguments(programs, cases, plans):
+    one = {"a": plans["a"]}
+    for args in [[], [LIST], [LIST, "5", "5"]] + [[LIST, word] for word in WRONG_BUDGETS]:
+        with cases.case(f"wrong arguments, {args}"), tablet_on(programs, one) as tablet:
             before = tablet.files()
-            expect_failure(programs.run("tablet", *args, cwd=tablet.folder), USAGE)
+            answer = programs.run("tablet", *args, cwd=tablet.folder)
+            expect_answer(answer, MISUSED, b"", USAGE)
             expect(tablet.files(), before, "the folder")
+    with cases.case("a list whose path is too long"), tablet_on(programs, one) as tablet:
+        before = tablet.files()
+        path = "." + LIST.rjust(LONGEST_LIST, "/")
+        expect_answer(programs.run("tablet", path, "5", cwd=tablet.folder), MISUSED, b"",
+                      f"tablet: LIST is longer than {LONGEST_LIST} bytes\n".encode())
+        expect(tablet.files(), before, "the folder")
 
 
-def expect_others(tablet, bad, line, words):
-    """A plant that can't be served is named, keeps what it has, and holds up nobody."""
-    before = tablet.saved(bad)
-    names = [name for name in tablet.names if name != bad]
-    answer = tablet.run(60)
-    told = [told for told in answer.out.splitlines(True) if told.startswith(f"{bad}.".encode())]
-    expect(told, [line] if line else [], f"what is told of {bad}")
-    if words not in answer.err or answer.err.count(b"\n") > 1:
-        raise Wrong(f"standard error is {answer.err!r}")
-    expect(tablet.saved(bad), before, f"the checkpoint of {bad}")
-    for name in names:
-        expect(tablet.place(name), tablet.plans[name].count, f"the place of {name}")
-        if tablet.plans[name].ended not in answer.out:
-            raise Wrong(f"there is no report of {name}: {answer.out!r}")
+def try_longest(programs, cases, plans):
+    """Paths that are as long as they may be are served, though most of them are slashes."""
+    with cases.case("the longest paths"), tablet_on(programs, {"a": plans["a"]}) as tablet:
+        of, saved, path = ("." + name.rjust(length - 1, "/") for name, length in (
+            ("a.book", LONGEST_BOOK), ("a.saved", LONGEST_CHECKPOINT), (LIST, LONGEST_LIST)))
+        (tablet.folder / LIST).write_text(f"{of} {saved}\n", encoding="utf-8")
+        answer = programs.run("tablet", path, ALL, cwd=tablet.folder)
+        told = tablet.told("a", 0, int(ALL)).replace(b"a.book ", of.encode() + b" ")
+        expect_answer(answer, 0, told)
+        expect(tablet.place("a"), plans["a"].count, "the place")
 
 
-def try_refused(programs, cases, plans):
-    for name, (number, of) in REFUSED.items():
-        with cases.case(f"of a book, {name} is refused with {number}"), tablet_on(
-                programs, plans) as tablet:
-            tablet.path("b", "book").write_bytes(of)
-            expect_others(tablet, "b", f"b.book refused {number}\n".encode(), b"")
-    for number, saved in ((30, b""), (30, bytes(CHECKPOINT + 1)), (31, bytes(CHECKPOINT)),
-                          (31, checkpoint(plans["a"].book, 1))):
-        with cases.case(f"a checkpoint of {len(saved)} bytes is refused with {number}"), tablet_on(
-                programs, plans) as tablet:
-            tablet.path("b", "saved").write_bytes(saved)
-            expect_others(tablet, "b", f"b.book refused {number}\n".encode(), b"fresh starts anew")
-    with cases.case("a book that isn't there"), tablet_on(programs, plans) as tablet:
-        tablet.path("b", "book").unlink()
-        expect_others(tablet, "b", b"", b"b.book: ")
-    with cases.case("a checkpoint that can't be saved"), tablet_on(programs, plans) as tablet:
-        text = (tablet.folder / LIST).read_text(encoding="utf-8")
-        (tablet.folder / LIST).write_text(text.replace("b.saved", "gone/b"), encoding="utf-8")
-        expect_others(tablet, "b", b"", b"gone/b: ")
-
-
-def try_failures(programs, cases, plans):
+def try_places(programs, cases, plans):
+    """Whose turn it is has to be kept before anybody is served."""
     with cases.case("the place can't be read: nobody is served"), tablet_on(
             programs, plans) as tablet:
         (tablet.folder / KEPT).mkdir()
         before = tablet.files()
-        expect_failure(tablet.run(5), b"list.place: ")
+        expect_answer(tablet.run(5), FAILED, b"", b"list.place: Is a directory\n")
         expect(tablet.files(), before, "the folder")
     with cases.case("the place can't be kept: nobody is served"), tablet_on(
             programs, plans) as tablet:
         before = tablet.files()
-        too_few = limit_files(10, is_told=True)
-        expect_failure(tablet.run(5, preexec_fn=too_few), b"list.place: ")
+        answer = tablet.run(5, preexec_fn=limit_files(10, is_told=True))
+        expect_answer(answer, FAILED, b"", b"list.place: File too large\n")
         expect(tablet.files(), before, "the folder")
-    with cases.case("standard output is full: all are served"), tablet_on(
-            programs, plans) as tablet:
-        with open("/dev/full", "wb") as full:
-            answer = tablet.run(100, stdout=full)
-        expect(set(answer.err.splitlines()), {b"write: No space left on device"}, "standard error")
-        expect(tablet.places(), ends_of(plans), "the places")
-        os.unlink(tablet.folder / KEPT)
-        expect_told(tablet.run(1), tablet.finished())
 
 
 def try_lists(programs, cases, plans):
-    try_runs(programs, cases, plans)
-    try_wrong_lists(programs, cases, plans)
-    try_refused(programs, cases, plans)
-    try_failures(programs, cases, plans)
+    for attempt in (try_runs, try_wrong_lists, try_arguments, try_longest, try_places):
+        attempt(programs, cases, plans)
