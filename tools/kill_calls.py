@@ -26,9 +26,10 @@ ORDERS = {
     "a wake": (100, "its own", [], LOOK + SAVE + TELL),
     "a wake that finds no copy": (100, None, [], SAVE_COPY + SAVE + TELL),
     "a changed book": (100, "another", [], LOOK + SAY + REMOVE + SAVE_COPY + SAVE + TELL),
-    "a changed book without a checkpoint": (None, "another", [], SAVE_COPY + SAVE + TELL),
-    "fresh": (100, "its own", ["fresh"], SAVE + TELL),
+    "a changed book without a checkpoint": (None, "another", [], SAY + SAVE_COPY + SAVE + TELL),
+    "fresh": (100, "its own", ["fresh"], REMOVE + SAVE_COPY + SAVE + TELL),
     "fresh and a changed book": (100, "another", ["fresh"], REMOVE + SAVE_COPY + SAVE + TELL),
+    "fresh without a copy": (100, None, ["fresh"], REMOVE + SAVE_COPY + SAVE + TELL),
 }
 
 
@@ -92,6 +93,8 @@ def try_order_of_calls(programs, cases, plan):
             job.stand(None if place is None else plan.places[place], copies[copy])
             with memory_folder() as logs:
                 steps = trace_wake(job, logs, *more)
+            if place is None and "sync folder" in steps[:steps.index("make a copy")]:
+                steps.remove("sync folder")  # Nothing was there to be removed.
             looks = [step for step in steps if step.startswith("look")]
             if wanted[:2] == LOOK:
                 # Beside another wake, a checkpoint that is read before the copy may be the old one.

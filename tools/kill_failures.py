@@ -72,7 +72,7 @@ def try_copy_limits(programs, cases, plan):
                 expect_answer(job.wake(50, preexec_fn=limit), FAILED, b"", told)
                 job.expect_kept({"book": plan.book, COPY: other.book})
                 job.book.write_bytes(following.book)
-                go_on(job, following, 0, {})
+                go_on(job, following, 0, {}, job.changed() if following is plan else b"")
 
 
 @contextlib.contextmanager
@@ -99,11 +99,14 @@ def try_full_device(programs, cases, plan):
                 programs, plan.book) as job:
             job.saved, job.copy = pathlib.Path(folder) / NAME, pathlib.Path(folder) / COPY
             job.stand(plan.places[100], plan.book)
-            for more in ([], ["fresh"]):
-                expect_failure(job.wake(50, *more), NAME.encode() + b": ")
-                expect(sorted(os.listdir(folder)), [NAME, COPY], "the device")
-                expect(job.saved.read_bytes(), plan.places[100], "the checkpoint")
-                expect(job.copy.read_bytes(), plan.book, "the copy")
+            expect_failure(job.wake(50), NAME.encode() + b": No space left on device")
+            expect(sorted(os.listdir(folder)), [NAME, COPY], "the device")
+            expect(job.saved.read_bytes(), plan.places[100], "the checkpoint")
+            expect(job.copy.read_bytes(), plan.book, "the copy")
+            # Whoever asks for a new start has no use for the checkpoint, which goes first.
+            expect_failure(job.wake(50, "fresh"), COPY.encode() + b": No space left on device")
+            expect(os.listdir(folder), [COPY], "the device")
+            expect(job.copy.read_bytes(), plan.book, "the copy")
 
 
 def try_folder(programs, cases, plan):

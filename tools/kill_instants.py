@@ -62,7 +62,7 @@ class Killed:
         self.job.book.write_bytes(plan.book)
 
     def is_changed(self):
-        return self.pair[0] is not None and self.pair[1] != self.plan.book
+        return self.pair[1] not in (None, self.plan.book)
 
     def place(self):
         """Where the next wake starts."""

@@ -50,7 +50,7 @@ def expect_next(job, plan, stale):
     job.book.write_bytes(plan.book)
     is_its_own = saved is not None and copy == plan.book
     place = plan.places.index(saved) if is_its_own else 0
-    err = job.changed() if saved is not None and not is_its_own else b""
+    err = job.changed() if copy not in (None, plan.book) else b""
     go_on(job, plan, place, stale, err)
 
 

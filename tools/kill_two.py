@@ -54,7 +54,7 @@ def watch(job, processes, allowed, plans):
 
 
 def expect_said(job, told, pipes, is_changed):
-    """One at least says that the book has changed: it is the one that found the old checkpoint."""
+    """One at least says that the book has changed: it is the one that found the old copy."""
     lines = [job.changed(pipe) for pipe in pipes]
     for (_, err), line in zip(told, lines):
         expect(err in ([b"", line] if is_changed else [b""]), True, f"that {err!r} may be said")
@@ -66,7 +66,7 @@ def wakes_at_once(job, plans, plan, place, budgets):
     ends = [place + plan.moved(place, budget) for budget in budgets]
     both = place + plan.moved(place, sum(budgets))
     saved, copy = look_at_pair(job)
-    is_changed = saved is not None and copy != plan.book
+    is_changed = copy not in (None, plan.book)
     allowed = [plan.places[end] for end in (*ends, both)] + [saved] + [None] * is_changed
     with started_together(job, budgets) as (processes, pipes):
         told = watch(job, processes, allowed, plans)

@@ -1,10 +1,8 @@
 """What `wake` makes of a book that was changed since its checkpoint was begun: CHECKPOINT.book
 holds the book that the checkpoint stands for, so no figure of the one is added to the other's."""
-import os
-
 from program_annual import FULL, ONE, P1_MASSES, REFUSED, ROOM
 from program_books import CHECKPOINT, LINE, book, checkpoint, count_of, fuel_record, patch, report
-from program_books import trailer
+from program_books import trailer, unit_line
 from program_jobs import ALL, Plan, job_on, plan_by_lines, plan_plant, plans_by_replay
 from program_runs import FAILED, expect, expect_answer, expect_failure, expect_told
 from program_wake import LEFT, expect_replaced
@@ -108,7 +106,8 @@ def try_missing(programs, cases):
         with cases.case(f"wake: there is {kind} copy, and no checkpoint"), job_on(
                 programs, SMALL) as job:
             job.stand(None, copy)
-            job.expect_woken(plan, 0, ALL)
+            # A stop may have swallowed what was told before the checkpoint was removed.
+            job.expect_woken(plan, 0, ALL, err=job.changed() if copy != SMALL else b"")
 
 
 def try_damaged(programs, cases):
@@ -148,17 +147,14 @@ def try_unreadable(programs, cases):
 
 
 def try_fresh(programs, cases):
-    """`fresh` says nothing of a book that has changed, and leaves a copy that is right."""
+    """`fresh` says nothing of a book that has changed: whoever asks for it knows."""
     plan = plan_by_lines(programs, SMALL)
     for kind, copy in (("its own", SMALL), ("another", correct(SMALL)), ("no", None)):
         for place in (None, 1, 2):
             with cases.case(f"wake: fresh from {place}, with {kind} copy"), job_on(
                     programs, SMALL) as job:
                 job.stand(None if place is None else plan.places[place], copy)
-                before = os.stat(job.copy).st_ino if copy else None
                 job.expect_woken(plan, 0, 1, "fresh")
-                is_same = before == os.stat(job.copy).st_ino
-                expect(is_same, copy == SMALL, "whether the copy is the file that it was")
 
 
 def try_others(programs, cases):
@@ -195,40 +191,39 @@ def try_others(programs, cases):
             job.expect_kept(before)
 
 
-def hard_link(path, to):
-    os.link(path.parent / to, path)
-
-
-def soft_link(path, to):
-    path.symlink_to(to)
-
-
-# BOOK, CHECKPOINT, and which link is made first, if any; then what is told to be the book.
+# BOOK, CHECKPOINT, a link to the book that is made first, and what is told to be the book.
 SAME = [
     ("book", "book", None, "book"), ("book", "./book", None, "./book"),
-    ("./book", "sub/../book", None, "sub/../book"),
-    ("book", "ours", (soft_link, "ours"), "ours"), ("book", "ours", (hard_link, "ours"), "ours"),
-    ("link", "book", (soft_link, "link"), "book"), ("link", "book", (hard_link, "link"), "book"),
-    ("plant.book", "plant", (hard_link, "plant.book"), "plant.book"),
-    ("plant.book", "./plant", (soft_link, "plant.book"), "./plant.book"),
-    ("book", "ours", (soft_link, "ours.book"), "ours.book"),
-    ("book", "ours", (hard_link, "ours.book"), "ours.book"),
+    ("./book", "sub/../book", None, "sub/../book"), ("sub/../book", "book", None, "book"),
+    ("book", "link", "link", "link"), ("link", "book", "link", "book"),
+    ("link", "link", "link", "link"), ("book", "ours", "ours.book", "ours.book"),
+    ("ours.book", "ours", "ours.book", "ours.book"),
+    ("ours.book", "./ours", "ours.book", "./ours.book"),
 ]
+AS_LONG = book([fuel_record()], [unit_line()], [])  # as a checkpoint, which only its name tells
 
 
 def try_same(programs, cases):
-    """The book itself is neither a checkpoint nor a copy, by whatever name it goes."""
+    """The book itself is neither a checkpoint nor a copy, by whatever path it is reached."""
+    expect(len(AS_LONG), CHECKPOINT, "the length of a book")
     for of, saved, link, told in SAME:
         for more in ([], ["fresh"]):
-            kind = f" ({link[0].__name__} {link[1]})" if link else ""
-            with cases.case(f"wake: {of} {saved} {more}{kind}"), job_on(programs, ONE) as job:
+            with cases.case(f"wake: {of} {saved} {more}, with the link {link}"), job_on(
+                    programs, AS_LONG) as job:
                 (job.folder / "sub").mkdir()
                 if link:
-                    link[0](job.folder / link[1], "book")
+                    (job.folder / link).symlink_to("book")
                 before = job.files()
                 answer = programs.run("wake", of, saved, "5", *more, cwd=job.folder)
                 expect_answer(answer, FAILED, b"", f"{told}: is the book itself\n".encode())
                 job.expect_kept(before)
+                expect(link is None or (job.folder / link).is_symlink(), True, "that it is a link")
+    with cases.case("wake: plant.book plant"), job_on(programs, ONE) as job:
+        job.book.rename(job.folder / "plant.book")
+        for more in ([], ["fresh"]):
+            answer = programs.run("wake", "plant.book", "plant", "5", *more, cwd=job.folder)
+            expect_answer(answer, FAILED, b"", b"plant.book: is the book itself\n")
+            job.expect_kept({"plant.book": ONE})
     with cases.case("wake: another file with the book's bytes is no book"), job_on(
             programs, ONE, None, ONE) as job:
         expect_told(job.wake(0), b"moved 0\ndone 0 of 1\n")

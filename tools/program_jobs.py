@@ -110,7 +110,7 @@ class Job:
                 for path in self.folder.iterdir()}
 
     def changed(self, of=None):
-        """What is told where a checkpoint is there, and its book isn't BOOK."""
+        """What is told where a copy is there, and isn't BOOK."""
         of = of or self.book
         return f"{of} has changed since {self.saved} was begun: the job starts anew\n".encode()
 

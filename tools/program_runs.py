@@ -112,8 +112,14 @@ def cut(content):
 
 
 def expect(seen, wanted, what):
-    if seen != wanted:
-        raise Wrong(f"{what} is {cut(seen)}, not {cut(wanted)}")
+    if seen == wanted:
+        return
+    if isinstance(wanted, dict):
+        # Of a folder, what is the same would hide what isn't.
+        seen = {key: seen[key] for key in seen if seen[key] != wanted.get(key, ...)}
+        wanted = {key: wanted[key] for key in wanted if key not in seen or wanted[key] != seen[key]}
+        what += ", where it differs,"
+    raise Wrong(f"{what} is {cut(seen)}, not {cut(wanted)}")
 
 
 def ended_by(answer, number):

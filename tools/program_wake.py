@@ -88,7 +88,7 @@ def try_names(programs, cases):
             expect((path.parent / f"{path.name}.book").read_bytes(), ONE, "the copy")
             expect(sorted(os.listdir(path.parent)), sorted({path.name, f"{path.name}.book"} | (
                 {"book", "sub"} if path.parent.name != "sub" else set())), "the folder")
-    names = ["", "gone/ours", "book/ours", "sub", "sub/"] + [
+    names = ["gone/ours", "book/ours", "sub", "sub/"] + [
         "n" * (longest + more) for more in (1, 5, 7, 8, 12, 13)]
     for name in names:
         with cases.case(f"wake: CHECKPOINT can't be {name[:20]!r} of {len(name)} bytes"), job_on(
@@ -109,6 +109,8 @@ def try_arguments(programs, cases):
     wrong |= {f"a fourth that is {word!r}": ["book", NAME, "1", word]
               for word in ("", "Fresh", "fres", "freshly", "fresh ", "1")}
     wrong |= {f"budget {word[:24]!r}": ["book", NAME, word] for word in NO_BUDGETS}
+    # The copy beside it would have a name, and the checkpoint none.
+    wrong |= {f"an empty CHECKPOINT {more}": ["book", "", "1", *more] for more in ([], ["fresh"])}
     told = dict.fromkeys(wrong, USAGE)
     long_ones = {"BOOK": (["b" * 4096, NAME, "1"], 4095),
                  "CHECKPOINT": (["book", "c" * 4084, "1"], 4083)}

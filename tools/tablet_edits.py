@@ -14,7 +14,7 @@ from tablet_model import KEPT, changed, kept_text, tablet_on, turn_of
 
 BUDGET = 2
 BOOKS = {"a": book([fuel_record()] * 3), "b": book([fuel_record(500)] * 2),
-         "c": book([fuel_record(40)] * 5)}
+         "c": book([fuel_record(40)] * 4)}
 EDITS = {"corrected": lambda of: correct(of, 1), "longer": lambda of: resize(of, len(of) // 32 - 2),
          "shorter": lambda of: resize(of, len(of) // 32 - 4),
          "of another year": lambda of: of[:-16] + b"\xdb\x07" + of[-14:]}

@@ -23,7 +23,7 @@ def line_of(name):
 
 
 def changed(name):
-    """What is told of a plant in its turn, if its checkpoint was another book's."""
+    """What is told of a plant in its turn, if its copy is another book's."""
     return (f"{name}.book has changed since {name}.saved was begun: the job starts anew\n"
             .encode())
 
@@ -84,9 +84,8 @@ class Tablet:
         return look_at(self.path(name, "saved.book"))
 
     def is_changed(self, name):
-        """Whether there is a checkpoint, and the copy beside it is another book's."""
-        return self.saved(name) is not None and self.copy(name) not in (
-            None, self.plans[name].book)
+        """Whether there is a copy, and it is another book's."""
+        return self.copy(name) not in (None, self.plans[name].book)
 
     def place(self, name):
         """Where the next turn of a plant starts. No copy's book may fail to give its checkpoint."""
@@ -146,13 +145,15 @@ class Tablet:
         text = self.finished() + b"".join(told for _, told in turns)
         said = b"".join(changed(name) for name in served if self.is_changed(name))
         kept = kept_text(self.names, turns[-1][0]) if turns else self.kept()
-        others, done = self.files(), self.done()
+        wanted = self.files() | ({KEPT: kept} if kept else {})
+        ended = served + [name for name in self.done() if self.saved(name)]
         expect_told(self.run(budget), text, said)
-        others |= {f"{name}.saved": self.plans[name].places[-1] for name in served}
-        # Of a plant without records and without a checkpoint there needn't be a copy.
-        others |= {f"{name}.saved.book": self.plans[name].book for name in served + done
-                   if self.saved(name) or self.copy(name)}
-        expect(self.files(), others | ({KEPT: kept} if kept else {}), "the folder")
+        # A plant without records has no turn, and need have no checkpoint.
+        ended += [name for name in self.names if name not in ended and self.saved(name)]
+        for name in ended:
+            wanted[f"{name}.saved"] = self.plans[name].places[-1]
+            wanted[f"{name}.saved.book"] = self.plans[name].book
+        expect(self.files(), wanted, "the folder")
 
 
 @contextlib.contextmanager

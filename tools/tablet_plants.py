@@ -78,7 +78,7 @@ def link_checkpoint(tablet, name):
 
 
 def link_copy(tablet, name):
-    tablet.path(name, "saved.book").hardlink_to(tablet.path(name, "book"))
+    tablet.path(name, "saved.book").symlink_to(f"{name}.book")
     return "", f"{name}.book {name}.saved.book: is the book itself\n"
 
 
