@@ -1,8 +1,11 @@
 """The commands that run the programs: `tools/program`, which gives them a status and touches
-nothing that they read or print, and `./run`, which runs the job on a book to its end."""
+nothing that they read or print, `./run`, which runs the job on a book to its end, and `tools/book
+explain`, which asks `lines`; and a program by itself, as another machine has it."""
 import os
 import pathlib
+import platform
 import re
+import shutil
 import signal
 import subprocess
 
@@ -162,6 +165,56 @@ def try_run(programs, cases):
             expect_report(told, plans[0].ended)
 
 
+MISTAKEN = """year 2010
+unit 1 rating 250
+fuel 1 gas natural-gas heat 38000 co2 50000 ch4 900 n2o 90
+delivery unit 1 fuel 1 month 6  amount 1000
+delivery unit 1 fuel 1 month 13 amount 1000   # the year has 12
+hour unit 1 hour 1 percent 12.5 flow 2000000
+"""
+EXPLAINED = """north.book: 2 of 3 records are set aside
+north.txt:5: record 1: delivery unit 1 fuel 1 month 13 amount 1000
+  reason 4: a value is out of range: month 13 isn't from 1 to 12
+  to do: correct the month
+north.txt:6: record 2: hour unit 1 hour 1 percent 12.5 flow 2000000
+  reason 5: an hour of a unit without a monitor: unit 1 has none
+  to do: correct the hour's unit, or add `monitor` to unit 1
+"""
+
+
+def try_explain(_, cases):
+    """The reasons are those that the built `lines` tells."""
+    command = ROOT / "tools/book"
+    with memory_folder() as folder, cases.case("tools/book explain: two records set aside"):
+        pathlib.Path(folder, "north.txt").write_text(MISTAKEN, encoding="utf-8")
+        packed = run_command(command, "pack", "north.txt", "north.book", cwd=folder)
+        expect(packed.status, WORKED, f"with {packed.err!r} on standard error, the packer's end")
+        told = run_command(command, "explain", "north.book", "north.txt", cwd=folder)
+        expect_answer(told, TURNED_AWAY, EXPLAINED.encode())
+    with cases.case("tools/book explain: the sample"):
+        told = run_command(command, "explain", "examples/plant.book", cwd=ROOT)
+        expect_answer(told, WORKED, b"examples/plant.book: no record is set aside\n")
+
+
+def try_alone(_, cases):
+    """A program with the loader and the C library beside it, and nothing else that it could use."""
+    kit = pathlib.Path(run_command("rt", "doc").out.decode().strip()).parent.parent
+    tools = kit / "on" / platform.machine() / "toolchain"
+    emulator = tools / "bin/qemu-x86_64"
+    with memory_folder() as folder, cases.case("wake, as README takes it to another machine"):
+        for path in (ROOT / "target/bin/wake", tools / "lib/ld-linux-x86-64.so.2",
+                     tools / "lib/libc.so.6", PLANT):
+            shutil.copy(path, folder)
+        command = [*([emulator] if emulator.exists() else []), "./ld-linux-x86-64.so.2", "--argv0",
+                   "status-on-3", "--library-path", ".", "./wake", PLANT.name, "ours", "2047"]
+        told = run_command("/bin/sh", "-c", 'exec "$@" 3>status', "sh", *command, cwd=folder, env={})
+        expect_told(told, b"moved 282\ndone 282 of 282\n"
+                    + (ROOT / "examples/plant.report").read_bytes())
+        expect(pathlib.Path(folder, "status").read_bytes(), b"0", "the digit of its status")
+
+
 def try_commands(programs, cases):
     try_program(programs, cases)
     try_run(programs, cases)
+    try_explain(programs, cases)
+    try_alone(programs, cases)

@@ -1,8 +1,6 @@
 -- A book that opens leaves the table to say what is due, and any other is refused. Assumes nothing.
-use mathlib.Core.Path.{sym}
 use borrow.Author.Needs.{needs}
 use Rattle.rules.proofs.BookLaws.{opened-open, opened-wrong}
-use Rattle.files.specs.Kept.{DueOf}
 use Rattle.files.proofs.GuardLaws.{dueOf-due}
 use Rattle.files.proofs.kept.find_due.Statement.{statement}
 use Rattle.files.proofs.kept.find_due.Tie as tie

@@ -1,5 +1,5 @@
 -- A descriptor that isn't below 0 is a number. Assumes nothing.
-use mathlib.Core.Bool.{true, false}
+use mathlib.Core.Bool.{false}
 use mathlib.Core.Path.{_≡_, subst}
 use lib.Dec.{T}
 use lib.IntN.{ℤ, pos, negsuc}
