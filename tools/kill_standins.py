@@ -130,7 +130,7 @@ WRONG = [
     ("it removes the old one first", REMOVED_FIRST, kill_lingering, "neither the new checkpoint"),
     ("it removes the old one first, beside another", REMOVED_FIRST, meet_lingering,
      "a look finds the checkpoint None"),
-    ("it leaves its temporary file when it fails", NOT_CLEARED, fail_saves, "the folder, where it differs"),
+    ("it leaves its temporary file when it fails", NOT_CLEARED, fail_saves, "the folder, where"),
     ("it writes the copy in place", COPIED_IN_PLACE, kill_edited, "neither the new checkpoint"),
     ("it saves the copy after the checkpoint", COPIED_LAST, kill_edited, "the copy's book doesn't"),
     ("it keeps the old checkpoint", OLD_KEPT, kill_edited, "the copy's book doesn't give"),

@@ -116,8 +116,9 @@ def expect(seen, wanted, what):
         return
     if isinstance(wanted, dict):
         # Of a folder, what is the same would hide what isn't.
-        seen = {key: seen[key] for key in seen if seen[key] != wanted.get(key, ...)}
-        wanted = {key: wanted[key] for key in wanted if key not in seen or wanted[key] != seen[key]}
+        same = {key for key in wanted if key in seen and seen[key] == wanted[key]}
+        seen, wanted = ({key: each[key] for key in each if key not in same}
+                        for each in (seen, wanted))
         what += ", where it differs,"
     raise Wrong(f"{what} is {cut(seen)}, not {cut(wanted)}")
 
