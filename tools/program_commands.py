@@ -22,7 +22,9 @@ ASIDE = book([fuel_record()] * 150, [unit_line(rating=2501)])
 
 
 def run_command(*command, **options):
-    options = {"stdout": subprocess.PIPE, "stdin": subprocess.DEVNULL, **options}
+    options = {"stdout": subprocess.PIPE, **options}
+    if "input" not in options:
+        options["stdin"] = subprocess.DEVNULL
     ran = subprocess.run(command, stderr=subprocess.PIPE, timeout=6 * PATIENCE, check=False,
                          **options)
     return Answer(ran.returncode, ran.stdout, ran.stderr)
@@ -60,6 +62,32 @@ def try_descriptors(programs, cases):
         told = run_command("sh", "-c", script, path, *programs.command, "annual")
         expect_told(told, b"refused 20\n")
         expect(path.read_bytes(), b"", "what the caller's file has")
+
+
+def run_plainly(name, path, program, *args, data=b""):
+    """The built program under a name, without tools/program, and with a file as descriptor 3."""
+    kit = pathlib.Path(run_command("rt", "doc").out.decode().strip()).parent.parent
+    tools = kit / "on" / platform.machine() / "toolchain"
+    emulator = [tools / "bin/qemu-x86_64"] if (tools / "bin/qemu-x86_64").exists() else []
+    command = [*emulator, tools / "lib/ld-linux-x86-64.so.2", "--argv0", name, "--library-path",
+               tools / "lib", ROOT / "target/bin" / program, *args]
+    return run_command("sh", "-c", 'exec "$@" 3>"$0"', path, *command, input=data)
+
+
+def try_names(_, cases):
+    """A program writes its status as a digit, and only if its name asks for it."""
+    runs = {"annual": [(ONE, [], b"0"), (b"", [], b"3"), (b"", ["x"], b"2")],
+            "replay": [(START, [], b"0"), (START[:9], [], b"1"), (b"", ["x"], b"2")]}
+    for program, attempts in runs.items():
+        for data, args, digit in attempts:
+            with cases.case(f"{program} that ends with {digit.decode()}, by its name"), \
+                    memory_folder() as folder:
+                path = pathlib.Path(folder, "status")
+                run_plainly("status-on-3", path, program, *args, data=data)
+                expect(path.read_bytes(), digit, "what is on descriptor 3")
+                for name in ("status-on", "status-on-30", program):
+                    run_plainly(name, path, program, *args, data=data)
+                    expect(path.read_bytes(), b"", f"what is on descriptor 3 of {name}")
 
 
 def find_program(process, name):
@@ -109,6 +137,7 @@ def try_signals(programs, cases):
 def try_program(programs, cases):
     try_usage(programs, cases)
     try_descriptors(programs, cases)
+    try_names(programs, cases)
     try_signals(programs, cases)
 
 

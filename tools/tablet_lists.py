@@ -1,7 +1,7 @@
 """Runs of `tablet` to the end, what it makes of wrong lists, and of a list that can't be served."""
 from kill_saves import limit_files
 from program_jobs import ALL
-from program_runs import FAILED, MISUSED, expect, expect_answer, expect_failure
+from program_runs import FAILED, MISUSED, expect, expect_answer, expect_failure, expect_told
 from tablet_model import KEPT, LIST, line_of, tablet_on
 
 USAGE = b"usage: tablet LIST BUDGET, of 1 or more\n"
@@ -69,6 +69,9 @@ def try_runs(programs, cases, plans):
         path = tablet.folder / LIST
         path.write_bytes(path.read_bytes()[:-1])
         tablet.expect_run(50)
+    with cases.case("a book whose name begins as a comment does"), tablet_on(
+            programs, {"./#a": plans["a"]}) as tablet:
+        expect_told(tablet.run(50), tablet.told("./#a", 0, 50))
     with cases.case("a job that was begun by wake"), tablet_on(programs, plans) as tablet:
         programs.run("wake", "a.book", "a.saved", "17", cwd=tablet.folder)
         expect(tablet.place("a"), 17, "the place")
