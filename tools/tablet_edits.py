@@ -3,6 +3,7 @@ starts anew in its turn, which is told once, and no figure of the old book is ad
 import os
 import signal
 import subprocess
+import time
 
 from kill_saves import expect_stopped
 from program_annual import ONE
@@ -136,6 +137,7 @@ class Fed:
             except OSError:  # Nobody looks as yet.
                 if process.poll() is not None:
                     return False
+                time.sleep(0.0005)
         meanwhile()
         following = self.path.with_suffix(".next")
         os.mkfifo(following)
