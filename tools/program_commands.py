@@ -103,15 +103,15 @@ def find_program(process, name):
     raise Wrong(f"{name} isn't among what tools/program started")
 
 
-def stop_program(programs, number):
-    """A signal to the program alone, once it has read a frame."""
+def stop(programs, number, find):
+    """A signal to what is found below or at tools/program, once the program has read a frame."""
     reading, writing = os.pipe()
     os.write(writing, START)
     process = programs.start("replay", stdin=reading, stdout=subprocess.PIPE,
                              stderr=subprocess.PIPE)
     try:
         await_reading(process, reading)
-        os.kill(find_program(process, b"replay"), number)
+        os.kill(find(process), number)
         out, err = process.communicate(timeout=PATIENCE)
     finally:
         kill(process)
@@ -123,9 +123,14 @@ def stop_program(programs, number):
 def try_signals(programs, cases):
     for number in (signal.SIGKILL, signal.SIGTERM, signal.SIGSEGV):
         with cases.case(f"tools/program: {number.name} ends the program"):
-            told = stop_program(programs, number)
+            told = stop(programs, number, lambda process: find_program(process, b"replay"))
             expect(told.status, 128 + number, "the exit status")
             expect(STARTED.startswith(told.out), True, f"that {told.out!r} is of its answer")
+    for number in (signal.SIGTERM, signal.SIGINT, signal.SIGHUP):
+        # Its outputs end, so the program has ended too.
+        with cases.case(f"tools/program: {number.name} to it ends the program"):
+            told = stop(programs, number, lambda process: process.pid)
+            expect(told.status, 128 + number, "the exit status")
     with cases.case("tools/program: SIGPIPE ends the program where nobody reads"):
         reading, writing = os.pipe()
         os.close(reading)
