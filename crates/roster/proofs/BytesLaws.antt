@@ -94,6 +94,14 @@ rest-lt b xs e h =
     omega (arith, ap length e, length-drop (suc (span b xs)) xs)
 
 -- ---- two runs of bytes
+pub same-nil : same [] [] ≡ true
+unfolding same
+same-nil = refl
+
+pub same-cons : (x y : ℕ) (xs ys : List ℕ) → same (x ∷ xs) (y ∷ ys) ≡ (eqb x y also same xs ys)
+unfolding same
+same-cons x y xs ys = refl
+
 pub same→eq : (xs ys : List ℕ) → same xs ys ≡ true → xs ≡ ys
 unfolding same
 same→eq [] [] h = refl

@@ -2,15 +2,16 @@
 use Prim.Native.Nat.{ℕ, suc, _+_, _-_, _<_, _≤_}
 use mathlib.Core.Bool.{Bool, true, false}
 use mathlib.Core.List.{List, [], _∷_}
-use mathlib.Core.Path.{_≡_, refl, sym, ap, ap₂, _∙_}
+use mathlib.Core.Path.{_≡_, refl, sym, ap, _∙_}
 use native.Mathlib.Omega.{arith}
 use lib.Dec.{eqb}
 use lib.ListN.{length, getD, take, drop, length-drop, drop-of-length-le}
 use lib.Seq.{take-all, drop-cons}
-use borrow.Author.Tests.{eq-eqb, ne-eqb}
 use Rattle.choice.specs.Tests.{_also_, _either_}
 use Rattle.choice.proofs.Splitting.{if-test}
 use Rattle.choice.proofs.TestsLaws.{also-t, also-f, either-t, either-f}
+use Rattle.roster.specs.Bytes.{same}
+use Rattle.roster.proofs.BytesLaws.{same-nil, same-cons}
 use Rattle.text.specs.Words.{ascii}
 use Rattle.text.specs.Refusal.{begins, tells}
 
@@ -30,23 +31,13 @@ begins-short (x ∷ w) (y ∷ t) l =
     (λ e. begins-short w t (omega arith) ∙ sym (also-t e refl))
     (λ e. sym (also-f (begins w t) e))
 
--- The first i bytes are those of the word.
-module _ {r : Bool} (w t : List ℕ) (i : ℕ) (whole : begins (drop i w) (drop i t) ≡ r) where
-  module _ (l : i < length w) (m : i < length t) where
-    next : (eqb (getD t i 0) (getD w i 0) also begins (drop (i + 1) w) (drop (i + 1) t)) ≡ r
-    unfolding begins
-    next = sym (ap₂ begins (drop-next w i l) (drop-next t i m)) ∙ whole
-
-    pub begins-next : getD t i 0 ≡ getD w i 0 → begins (drop (i + 1) w) (drop (i + 1) t) ≡ r
-    begins-next e = sym (also-t (eq-eqb (getD t i 0) (getD w i 0) e) refl) ∙ next
-
-    pub begins-other : (getD t i 0 ≡ getD w i 0 → ⊥) → false ≡ r
-    begins-other n =
-        sym (also-f (begins (drop (i + 1) w) (drop (i + 1) t)) (ne-eqb (getD t i 0) (getD w i 0) n)) ∙ next
-
-  pub begins-end : length w ≤ i → true ≡ r
-  unfolding begins
-  begins-end l = ap (λ (v : List ℕ). begins v (drop i t)) (sym (drop-of-length-le w {i = i} l)) ∙ whole
+pub begins-same : (w t : List ℕ) → length w ≤ length t → same (take (length w) t) w ≡ begins w t
+unfolding begins
+begins-same [] t l = same-nil
+begins-same (x ∷ w) [] l = absurd (omega arith)
+begins-same (x ∷ w) (y ∷ t) l =
+    same-cons y x (take (length w) t) w
+    ∙ ap (λ (b : Bool). eqb y x also b) (begins-same w t (omega arith))
 
 -- ---- one byte more
 abbrev refusedAt : Bool → List ℕ → Bool

@@ -1,4 +1,5 @@
 // Whether a refusal is told.
+use roster::bytes;
 ghost use mathlib.Core.Path.{_≡_};
 ghost use Rattle.text.specs.Refusal.{begins, hasRefusal};
 
@@ -25,15 +26,9 @@ pub fn is_told(text: &[u8]) -> bool
 fn has_front(text: &[u8], word: &[u8]) -> bool
     ensures front { λ r. ⌜ r ≡ begins (now (word .entry)) (now (text .entry)) ⌝ }
 {
-    if text.len() < word.len() {
+    let n = word.len();
+    if text.len() < n {
         return false;
     }
-    let mut i = 0;
-    while i < word.len() {
-        if text[i] != word[i] {
-            return false;
-        }
-        i += 1;
-    }
-    true
+    bytes::are_same(&text[..n], word)
 }
