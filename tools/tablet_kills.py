@@ -165,8 +165,10 @@ def try_kills(programs, cases, plans, chance, jobs):
         with cases.case(f"job {job} is killed at random until it is done"), tablet_on(
                 programs, four, tempfile.TemporaryDirectory) as tablet:
             killed = Killed(tablet, others, chance)
-            killed.finish()
-            starts, cut, edits = starts + killed.starts, cut + killed.cut, edits + killed.edits
+            try:
+                killed.finish()
+            finally:  # A job that fails counts too, or a wrong program would have all the jobs.
+                starts, cut, edits = starts + killed.starts, cut + killed.cut, edits + killed.edits
         job += 1
     cases.note(f"{job} jobs of {len(four)} plants in {starts} runs, with {edits} edits: "
                f"{cut} kills within a turn")
