@@ -14,7 +14,7 @@ from program_books import book, fuel_record, unit_line
 from program_copy import correct
 from program_jobs import job_on, plan_by_lines
 from program_replay import FRESH, START, STARTED, answer, frame
-from program_runs import FAILED, MISUSED, PATIENCE, PLANT, ROOT, TURNED_AWAY, WORKED, Answer, Wrong
+from program_runs import MISUSED, PATIENCE, PLANT, ROOT, TURNED_AWAY, WORKED, Answer, Wrong
 from program_runs import expect, expect_answer, expect_failure, expect_told, kill, memory_folder
 
 EVERY_BYTE = bytes(range(256)) * 3
@@ -164,8 +164,7 @@ def try_run_words(cases):
     with cases.case("./run a b"):
         expect_failure(run_job("a", "b"), b"usage: ./run", MISUSED)
     with cases.case("./run ''"):  # A name that is empty isn't the sample's.
-        told = run_job("")
-        expect_failure(told, b"", MISUSED if told.status == MISUSED else FAILED)
+        expect_failure(run_job(""), b"usage: ./run", MISUSED)
     with memory_folder() as folder:
         for name in ("gone", "gone/book", ""):
             with cases.case(f"./run: there is no book {name!r} in the folder"):
