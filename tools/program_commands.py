@@ -103,12 +103,18 @@ def find_program(process, name):
     raise Wrong(f"{name} isn't among what tools/program started")
 
 
+def heed_signals():
+    """For the child: where this test runs in the background, some may be ignored."""
+    for number in (signal.SIGTERM, signal.SIGINT, signal.SIGHUP):
+        signal.signal(number, signal.SIG_DFL)
+
+
 def stop(programs, number, find):
     """A signal to what is found below or at tools/program, once the program has read a frame."""
     reading, writing = os.pipe()
     os.write(writing, START)
     process = programs.start("replay", stdin=reading, stdout=subprocess.PIPE,
-                             stderr=subprocess.PIPE)
+                             stderr=subprocess.PIPE, preexec_fn=heed_signals)
     try:
         await_reading(process, reading)
         os.kill(find(process), number)
