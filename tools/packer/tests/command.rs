@@ -9,6 +9,8 @@ use std::os::unix::fs::symlink;
 use std::path::{Path, PathBuf};
 use std::process::{Child, Command, Output, Stdio};
 use std::sync::MutexGuard;
+use std::thread;
+use std::time::Duration;
 
 use folder::fresh_folder;
 use stand_in::{alone, stand_in};
@@ -18,6 +20,9 @@ const TOOLS: [&str; 15] = [
     "bash", "cat", "chmod", "cp", "dirname", "env", "find", "flock", "id", "mkdir", "mv",
     "realpath", "sh", "sleep", "touch",
 ];
+
+/// A file's time moves in steps of some milliseconds: what is written this much later is newer.
+const TICK: Duration = Duration::from_millis(100);
 
 /// Waits, so that runs at once meet, and says where and with what its packer was run.
 const CARGO: &str = "\
@@ -138,6 +143,7 @@ fn the_packer_is_built_where_its_sources_have_changed() {
         (4, "src/main.rs"),
         (5, "src/new.rs"),
     ] {
+        thread::sleep(TICK);
         fs::write(
             repository.home.join("tools/packer").join(source),
             "// changed",
@@ -155,7 +161,9 @@ fn the_packer_is_built_where_its_sources_have_changed() {
 #[test]
 fn a_source_changed_during_a_build_is_built_next_time() {
     let repository = Repository::new("changed_meanwhile");
-    repository.stand_in("cargo", &format!("touch src/main.rs\n{CARGO}"));
+    let seconds = TICK.as_secs_f64();
+    let cargo = format!("sleep {seconds}; touch src/main.rs\n{CARGO}");
+    repository.stand_in("cargo", &cargo);
     repository.run();
     repository.stand_in("cargo", CARGO);
     repository.run();
