@@ -13,7 +13,7 @@ use Rattle.mass.specs.declared.ledger.Ledgers.{Ledgers}
 use Rattle.mass.specs.declared.figures.Warming.{Warming}
 use Rattle.mass.specs.Rounding.{halfUp}
 use Rattle.mass.specs.Ledger.{tonne, mostTonnes, total, Sound, ledgerOf}
-use Rattle.mass.specs.Figures.{kgOf, AllSound, Mild, co2eOf, decisive, mustReport, figuresOf}
+use Rattle.mass.specs.Figures.{kilogram, kgOf, AllSound, Mild, co2eOf, decisive, mustReport, figuresOf}
 use Rattle.mass.proofs.LedgerLaws.{total-ledgerOf}
 
 -- Half a kilogram more, and what is left of one falls away: whole tonnes are whole kilograms.
@@ -80,6 +80,11 @@ mustReport-tonnes v b = whole (decisive v b)
     whole d = if-lt d (10000 * tonne)
         (λ l. lt-leb 10000 (d / tonne) (omega arith) ∙ sym (lt-leb (10000 * tonne) d l))
         (λ l. le-leb 10000 (d / tonne) (omega arith) ∙ sym (le-leb (10000 * tonne) d l))
+
+-- ---- whole tonnes are whole kilograms
+pub kgOf-tonnes : (t : ℕ) → kgOf (t * tonne) ≡ record { 0 = t * 1000 }
+unfolding kgOf halfUp
+kgOf-tonnes t = let whole : (2 * (t * tonne) + kilogram) / (2 * kilogram) ≡ t * 1000 = omega arith in λ i. record { 0 = whole i }
 
 -- ---- the figures of ledgers that stand for four masses
 pub co2eOf-ledgers : (f b c n : ℕ) (w : Warming) →
