@@ -16,7 +16,7 @@ use Rattle.rules.specs.declared.book.Opened.the-variants.{Wrong, Open}
 use Rattle.rules.specs.declared.book.Fault.{Fault}
 use Rattle.rules.specs.declared.book.Fault.the-variants.{Length, Trailer, Units, Fuels}
 use Rattle.rules.specs.Bytes.{part}
-use Rattle.rules.specs.Fields.{unitStart, fuelStart, year}
+use Rattle.rules.specs.Fields.{unitStart, fuelStart, year, warmingSet}
 use Rattle.rules.specs.Book.{longestBook, lengthOk, startsOk, trailerOk, unitOk, fuelOk, linesSound, trailer, headOf, unitLines, fuelLines, Answer, refused, accepted, opened, answer, faultNumber}
 use Rattle.rules.proofs.NumberLaws.{opened-accepted}
 
@@ -41,7 +41,7 @@ pub record RightTrailer (t : List ℕ) (e : ℕ) : Type 0 where
 pub trailerOk→right : (t : List ℕ) (e : ℕ) → trailerOk t e ≡ true → RightTrailer t e
 unfolding trailerOk startsOk
 trailerOk→right t e h =
-    let to-2099 = also-l _ _ h in
+    let to-2099 = also-l _ _ (also-l _ _ (also-l _ _ h)) in
     let from-2000 = also-l _ _ to-2099 in
     let starts = also-r _ _ (also-l _ _ from-2000) in
     let ordered = also-l _ _ starts in
@@ -116,11 +116,13 @@ module _ {s : List ℕ} {units fuels : ℕ} (d : Headed s units fuels) where
         sym (choose-t _ (d .length-right) (choose-t _ (d .trailer-right)
         (choose-t _ (units-told ∙ u) (choose-f _ (fuels-told ∙ f) refl))))
 
-    pub opened-sound : (y : ℕ) → linesSound fuelOk (part fuels (length s - 32) s) ≡ true → y ≡ year (trailer s)
-        → answer (Open (record { n = units / 32; units = units; fuels = fuels; year = y; length = length s })) ≡ opened s
+    pub opened-sound : (y w : ℕ) → linesSound fuelOk (part fuels (length s - 32) s) ≡ true → y ≡ year (trailer s)
+        → w ≡ warmingSet (trailer s)
+        → answer (Open (record { n = units / 32; units = units; fuels = fuels; year = y; length = length s; warming = w })) ≡ opened s
     unfolding opened answer headOf
-    opened-sound y f e =
-        (λ i. let at = d .units-is i in accepted (record { n = at / 32; units = at; fuels = d .fuels-is i; year = e i; length = length s }))
+    opened-sound y w f e v =
+        (λ i. let at = d .units-is i in
+        accepted (record { n = at / 32; units = at; fuels = d .fuels-is i; year = e i; length = length s; warming = v i }))
         ∙ sym (choose-t _ (d .length-right) (choose-t _ (d .trailer-right)
         (choose-t _ (units-told ∙ u) (choose-t _ (fuels-told ∙ f) refl))))
 

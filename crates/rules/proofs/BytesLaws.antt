@@ -63,6 +63,14 @@ pub word-suc : (l : List ℕ) (k n : ℕ) → word l k (suc n) ≡ byte l k + 25
 unfolding word
 word-suc l k n = refl
 
+pub word-same : (l m : List ℕ) (k n : ℕ) → ((i : ℕ) → k ≤ i → i < k + n → byte l i ≡ byte m i) → word l k n ≡ word m k n
+unfolding word
+word-same l m k zero same = refl
+word-same l m k (suc n) same =
+    let here = same k (omega arith) (omega arith) in
+    let rest = word-same l m (k + 1) n (λ i h j. same i (omega arith) (omega arith)) in
+    λ i. here i + 256 * rest i
+
 -- ---- what stands before a word or behind it makes no difference
 pub word-nil : (k n : ℕ) → word [] k n ≡ 0
 unfolding word

@@ -4,6 +4,7 @@ pub mod BytesLaws
 pub mod LinesLaws
 pub mod NumberLaws
 pub mod BookLaws
+pub mod ApartLaws
 pub mod RightLaws
 pub mod ListingLaws
 pub mod HintsLaws

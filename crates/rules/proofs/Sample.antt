@@ -1,13 +1,17 @@
 -- The book that docs/FORMAT.md prints, "One book": it is accepted, and its record is that of P1. A book
--- of a trailer alone is accepted too. Assumes nothing.
+-- of a trailer alone is accepted too, and one that names the second set of warming values. Assumes nothing.
 use Prim.Native.Nat.{ℕ}
 use mathlib.Core.List.{List, [], _∷_}
-use mathlib.Core.Path.{_≡_}
+use mathlib.Core.Path.{_≡_, refl, sym}
+use lib.Dec.{lit≤}
+use lib.ListN.{set}
+use lib.Seq.{getD-set-other}
 use Rattle.choice.proofs.TestsLaws.{worked-out}
 use Rattle.rules.specs.declared.book.Head.{Head}
 use Rattle.rules.specs.Bytes.{word, bytesOf, lines, linesIn}
-use Rattle.rules.specs.Book.{lengthOk, startsOk, trailerOk, unitHeadOk, unitOk, kindClassOk, fuelHeadOk, fuelOk, linesOk, linesSound, headOf, accepted, opened}
+use Rattle.rules.specs.Book.{lengthOk, startsOk, trailerOk, unitHeadOk, unitOk, kindClassOk, fuelHeadOk, fuelOk, linesOk, linesSound, headOf, accepted, opened, SetApart}
 use Rattle.rules.specs.Record.{outcomeAt}
+use Rattle.rules.proofs.ApartLaws.{naming, opened-apart}
 use Rattle.rules.proofs.Cases.{counted, worked-sums}
 
 -- ---- one record, one unit, one fuel, the trailer: 16 bytes to a line, as they are printed
@@ -24,7 +28,7 @@ sampleBook =
     ∷ []
 
 abbrev pub sampleHead : Head
-sampleHead = record { n = 1; units = 32; fuels = 64; year = 2010; length = 128 }
+sampleHead = record { n = 1; units = 32; fuels = 64; year = 2010; length = 128; warming = 0 }
 
 pub opened-sampleBook : opened sampleBook ≡ accepted sampleHead
 unfolding
@@ -36,6 +40,21 @@ pub outcomeAt-sampleBook : outcomeAt sampleHead sampleBook 0 ≡ counted 1 19000
 unfolding sampleBook outcomeAt linesIn lines bytesOf
 outcomeAt-sampleBook = worked-sums .p1
 
+-- ---- the same, with the second set of warming values
+abbrev pub secondBook : List ℕ
+secondBook = set sampleBook 116 1
+
+pub sampleBook-apart : SetApart sampleBook secondBook
+unfolding sampleBook
+sampleBook-apart = record {
+  lengths = refl;
+  others = λ i other. sym (getD-set-other sampleBook 116 i 1 0 other);
+}
+
+pub opened-secondBook : opened secondBook ≡ accepted (naming 1 sampleHead)
+unfolding sampleBook
+opened-secondBook = opened-apart sampleBook-apart opened-sampleBook (lit≤ tt)
+
 -- ---- a trailer alone, of the same year
 unfoldable pub emptyBook : List ℕ
 emptyBook =
@@ -44,7 +63,7 @@ emptyBook =
     ∷ []
 
 abbrev pub emptyHead : Head
-emptyHead = record { n = 0; units = 0; fuels = 0; year = 2010; length = 32 }
+emptyHead = record { n = 0; units = 0; fuels = 0; year = 2010; length = 32; warming = 0 }
 
 pub opened-emptyBook : opened emptyBook ≡ accepted emptyHead
 unfolding

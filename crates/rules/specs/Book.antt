@@ -15,11 +15,13 @@
 --     opened s                  the answer to a book: the smallest number that applies, or its head
 --     faultNumber x             the number of a fault
 --     answer r                  the number, or the head, that r stands for
+--     SetApart s s′             s and s′ differ at most in the set of warming values that they name
 --
--- Laws: proofs/BookLaws.antt. Definitions only.
-use Prim.Native.Nat.{ℕ, _-_, _/_, _%_}
+-- Laws: proofs/BookLaws.antt, proofs/ApartLaws.antt. Definitions only.
+use Prim.Native.Nat.{ℕ, _+_, _-_, _/_, _%_}
 use mathlib.Core.Bool.{Bool, true}
 use mathlib.Core.List.{List, [], _∷_}
+use mathlib.Core.Path.{_≡_}
 use lib.Dec.{leb, ltb, eqb}
 use lib.ListN.{length}
 use Rattle.choice.specs.Tests.{_also_, _either_, choose}
@@ -28,8 +30,8 @@ use Rattle.rules.specs.declared.book.Opened.{Opened}
 use Rattle.rules.specs.declared.book.Opened.the-variants.{Wrong, Open}
 use Rattle.rules.specs.declared.book.Fault.{Fault}
 use Rattle.rules.specs.declared.book.Fault.the-variants.{Length, Trailer, Units, Fuels}
-use Rattle.rules.specs.Bytes.{part, linesIn}
-use Rattle.rules.specs.Fields.{signed, version, trailerGap, unitStart, fuelStart, year, trailerBlank, number, unitFlags, unitGap, rating, unitBlank, fuelKind, fuelClass, defaultHeat, co2Factor, ch4Factor, n2oFactor, fuelBlank}
+use Rattle.rules.specs.Bytes.{byte, part, linesIn}
+use Rattle.rules.specs.Fields.{signed, version, trailerGap, unitStart, fuelStart, year, yearGap, warmingSet, trailerBlank, number, unitFlags, unitGap, rating, unitBlank, fuelKind, fuelClass, defaultHeat, co2Factor, ch4Factor, n2oFactor, fuelBlank}
 
 abbrev pub longestBook : ℕ
 longestBook = 65536
@@ -51,6 +53,8 @@ trailerOk t e =
     also startsOk (unitStart t) (fuelStart t) e
     also leb 2000 (year t)
     also leb (year t) 2099
+    also yearGap t
+    also leb (warmingSet t) 1
     also trailerBlank t
 
 unfoldable pub unitHeadOk : List ℕ → Bool
@@ -99,6 +103,7 @@ headOf s = record {
   fuels = fuelStart (trailer s);
   year = year (trailer s);
   length = length s;
+  warming = warmingSet (trailer s);
 }
 
 abbrev pub unitLines : Head → List ℕ → List ℕ
@@ -132,3 +137,8 @@ faultNumber Fuels = 23
 unfoldable pub answer : Opened → Answer
 answer (Wrong x) = refused (faultNumber x)
 answer (Open h) = accepted h
+
+-- Byte 20 of the trailer names the set.
+pub record SetApart (s s′ : List ℕ) : Type 0 where
+  pub lengths : length s ≡ length s′
+  pub others : (i : ℕ) → (i ≡ length s - 32 + 20 → ⊥) → byte s i ≡ byte s′ i

@@ -1,7 +1,8 @@
 -- The fields of a book's lines, each named once: no offset stands in a rule. RULES, "The book" and
 -- "Records"; docs/FORMAT.md has the same by offset.
 --
---     trailer t         signed, version, unitStart, fuelStart, year; trailerGap, trailerBlank
+--     trailer t         signed, version, unitStart, fuelStart, year, warmingSet; trailerGap, yearGap,
+--                       trailerBlank
 --     unit line u       number, unitFlags, monitored, rating; unitGap, unitBlank
 --     fuel line f       number, fuelKind, fuelClass, defaultHeat, co2Factor, ch4Factor, n2oFactor;
 --                       fuelBlank
@@ -37,8 +38,14 @@ fuelStart t = word t 12 4
 abbrev pub year : List ℕ → ℕ
 year t = word t 16 2
 
+abbrev pub yearGap : List ℕ → Bool
+yearGap t = zeros t 18 2
+
+abbrev pub warmingSet : List ℕ → ℕ
+warmingSet t = byte t 20
+
 abbrev pub trailerBlank : List ℕ → Bool
-trailerBlank t = zeros t 18 14
+trailerBlank t = zeros t 21 11
 
 -- ---- a unit line or a fuel line
 abbrev pub number : List ℕ → ℕ

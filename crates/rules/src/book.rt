@@ -17,6 +17,8 @@ pub struct Head {
     pub year: u64,
     // How many bytes it has.
     pub length: usize,
+    // The set of warming values that its trailer names: 0 the first, 1 the second.
+    pub warming: u8,
 }
 
 pub enum Opened {
@@ -75,12 +77,14 @@ pub fn open(s: &[u8]) -> Opened
     }
     let n = units / 32;
     let year = field::year(t);
+    let warming = field::warming_set(t);
     Opened::Open(Head {
         n,
         units,
         fuels,
         year,
         length,
+        warming,
     })
 }
 
@@ -100,8 +104,18 @@ fn is_trailer_right(t: &[u8], e: usize) -> bool
     let gap = field::is_trailer_gap(t);
     let starts = are_starts_right(field::unit_start(t), field::fuel_start(t), e);
     let year = field::year(t);
+    let year_gap = field::is_year_gap(t);
+    let set = field::warming_set(t);
     let blank = field::is_trailer_blank(t);
-    signed & (version == 1) & gap & starts & (2000 <= year) & (year <= 2099) & blank
+    signed
+        & (version == 1)
+        & gap
+        & starts
+        & (2000 <= year)
+        & (year <= 2099)
+        & year_gap
+        & (set <= 1)
+        & blank
 }
 
 fn are_starts_right(u: usize, f: usize, e: usize) -> bool

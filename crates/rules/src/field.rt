@@ -51,11 +51,25 @@ pub(crate) fn year(l: &[u8]) -> u64
     bytes::read_word(l, 16, 2)
 }
 
+pub(crate) fn is_year_gap(l: &[u8]) -> bool
+    requires whole { ⌜ 32 ≤ length (now l) ⌝ }
+    ensures field { λ r. ⌜ r ≡ fields.yearGap (now (l .entry)) ⌝ }
+{
+    bytes::are_zero(l, 18, 20)
+}
+
+pub(crate) fn warming_set(l: &[u8]) -> u8
+    requires whole { ⌜ 32 ≤ length (now l) ⌝ }
+    ensures field { λ r. ⌜ r ≡ fields.warmingSet (now (l .entry)) ⌝ }
+{
+    l[20]
+}
+
 pub(crate) fn is_trailer_blank(l: &[u8]) -> bool
     requires whole { ⌜ 32 ≤ length (now l) ⌝ }
     ensures field { λ r. ⌜ r ≡ fields.trailerBlank (now (l .entry)) ⌝ }
 {
-    bytes::are_zero(l, 18, 32)
+    bytes::are_zero(l, 21, 32)
 }
 
 // ---- a unit line or a fuel line

@@ -28,13 +28,19 @@ are-starts-right-requires c κs = search needs
 year-requires : tie.Need-year-requires
 year-requires c κs = search needs
 
+is-year-gap-requires : tie.Need-is-year-gap-requires
+is-year-gap-requires c κs = search needs
+
+warming-set-requires : tie.Need-warming-set-requires
+warming-set-requires c κs = search needs
+
 is-trailer-blank-requires : tie.Need-is-trailer-blank-requires
 is-trailer-blank-requires c κs = search needs
 
 returns : tie.Need-returns
 unfolding trailerOk
 returns c =
-    let tested = c .before .before in
+    let tested = c .before .before .before .before in
     let named = tested .before .before .before in
     let e = named .before .before .before .before .args .e in
     let signed = named .before .before .is-signed .ensures in
@@ -43,9 +49,13 @@ returns c =
     let units = tested .before .before .unit-start .ensures in
     let fuels = tested .before .fuel-start .ensures in
     let starts = tested .are-starts-right .ensures ∙ λ i. startsOk (units i) (fuels i) e in
-    let year = c .before .year .ensures in
+    let year = c .before .before .before .year .ensures in
+    let gap-after = c .before .before .is-year-gap .ensures in
+    let set = c .before .warming-set .ensures in
     let blank = c .is-trailer-blank .ensures in
     both
+    (both
+    (both
     (both
     (both
     (both
@@ -55,6 +65,8 @@ returns c =
     starts)
     (λ i. leb 2000 (year i)))
     (λ i. leb (year i) 2099))
+    gap-after)
+    (λ i. leb (set i) 1))
     blank
 
 pub is-trailer-right-spec : {M : Type 1} → statement M
@@ -68,5 +80,7 @@ is-trailer-right-spec =
     fuel-start-requires
     are-starts-right-requires
     year-requires
+    is-year-gap-requires
+    warming-set-requires
     is-trailer-blank-requires
     returns)

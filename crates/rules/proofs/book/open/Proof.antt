@@ -106,12 +106,18 @@ year-requires c κs =
     let long = least (tested told) in
     search needs
 
+warming-set-requires : tie.Need-warming-set-requires
+warming-set-requires c κs =
+    let told = c .before .before .before .before .before .before .before .before .before in
+    let long = least (tested told) in
+    search needs
+
 returns-5 : tie.Need-returns-5
 returns-5 c =
-    let sound = c .before .before .before .before in
+    let sound = c .before .before .before .before .before in
     let units = is-so (sound .before .are-sound .ensures) (sound .if3 .left) in
-    let fuels = is-so (c .before .before .are-sound2 .ensures) (c .before .if4 .left) in
-    opened-sound (headed (sound .before .before .before)) units _ fuels (c .year .ensures)
+    let fuels = is-so (c .before .before .before .are-sound2 .ensures) (c .before .before .if4 .left) in
+    opened-sound (headed (sound .before .before .before)) units _ _ fuels (c .before .year .ensures) (c .warming-set .ensures)
 
 pub open-spec : {M : Type 1} → statement M
 open-spec =
@@ -138,4 +144,5 @@ open-spec =
     are-sound-requires-2
     returns-4
     year-requires
+    warming-set-requires
     returns-5)
