@@ -19,12 +19,14 @@ use Rattle.mass.specs.Figures.{kgOf, mustReport}
 use Rattle.rules.specs.declared.book.Head.{Head}
 use Rattle.rules.specs.declared.record.Outcome.the-variants.{SetAside}
 use Rattle.rules.specs.Bytes.{line, linesIn}
-use Rattle.rules.specs.Book.{lengthOk, trailerOk, unitOk, fuelOk, linesSound, trailer, headOf, unitLines, fuelLines, refused, accepted, opened}
+use Rattle.rules.specs.Fields.{warmingSet}
+use Rattle.rules.specs.Book.{lengthOk, trailerOk, unitOk, fuelOk, linesSound, trailer, headOf, unitLines, fuelLines, refused, accepted, opened, SetApart}
 use Rattle.rules.specs.Record.{outcomeAt}
 use Rattle.rules.specs.Reader.{shown, sightAt}
 use Rattle.rules.specs.Right.{RightLines}
 use Rattle.rules.specs.Reason.{Reasons}
 use Rattle.rules.proofs.NumberLaws.{opened-20, opened-21, opened-22, opened-23, opened-number, opened-accepted}
+use Rattle.rules.proofs.ApartLaws.{opened-apart}
 use Rattle.rules.proofs.RightLaws.{linesSound-rightLines}
 use Rattle.rules.proofs.ReaderLaws.{sightAt-shown}
 use Rattle.rules.proofs.ReasonLaws.{reasons-outcomeAt}
@@ -32,7 +34,7 @@ use Rattle.job.specs.State.{State, fossilOf, biomassOf, ch4Of, n2oOf, as
 use Rattle.job.specs.Checkpoint.{checkpointSize, doneIn, asideIn, indexIn, reasonIn, sound, decode, encode}
 use Rattle.job.specs.Reply.{reply}
 use Rattle.job.specs.Wake.{moves, freshReply, freshBytes, wakeReply, wakeBytes}
-use Rattle.job.specs.Report.{reportReply, leftReply}
+use Rattle.job.specs.Report.{warmingOf, reportReply, leftReply}
 use Rattle.job.specs.History.{Wakes, History, InTurn}
 use Rattle.job.proofs.StateLaws.{first-sums}
 use Rattle.job.proofs.CheckpointLaws.{fitFor-sound}
@@ -43,6 +45,7 @@ use Rattle.job.proofs.ReportLaws.{leftReply-book, leftReply-30, leftRep
 use Rattle.job.proofs.ReportLaws.{replyAt-40, replyAt-41, replyAt-0, replyAt-exactly}
 use Rattle.job.proofs.HistoryLaws.{at-history, decode-history, sound-history, wakes-history, ends-history, accepts-history}
 use Rattle.job.proofs.HistoryLaws.{done-inTurn, same-history, told-history}
+use Rattle.job.proofs.ApartLaws.{freshReply-apart, freshBytes-apart, wakeReply-apart, wakeBytes-apart, leftReply-apart, history-apart}
 -- The code meets its contracts.
 pub use Rattle.job.proofs.wake.fresh.Met.{met as fresh-meets-its-contract}
 pub use Rattle.job.proofs.wake.wake.Met.{met as wake-meets-its-contract}
@@ -56,10 +59,11 @@ pub use Rattle.rules.proofs.reader.look.Met.{met as look-meets-its-contract}
 pub record Reports (k : List ℕ) (h : Head) (c : List ℕ) : Type 0 where
   -- Totals are given exactly when the book is finished and no record was set aside:
   pub exactly : ((vs : List ℕ) × (reportReply k c ≡ reply 0 vs)) ↔ ((doneIn c ≡ h .n) × (asideIn c ≡ 0))
-  -- each rounded once from its exact mass, and the decision on exact masses.
+  -- each rounded once from its exact mass, and the decision on exact masses, under the set that the trailer names.
   pub given : doneIn c ≡ h .n → asideIn c ≡ 0
       → let s = decode c in
-      let e = s .fossil + s .biomass + 21 * s .ch4 + 310 * s .n2o in
+      let w = warmingOf (h .warming) in
+      let e = s .fossil + s .biomass + w .ch4 * s .ch4 + w .n2o * s .n2o in
       reportReply k c
       ≡ reply 0 (kgOf (s .fossil) .0 ∷ kgOf (s .biomass) .0 ∷ kgOf (s .ch4) .0 ∷ kgOf (s .n2o) .0 ∷ kgOf e .0
       ∷ choose (mustReport e (s .biomass)) 1 0 ∷ [])
@@ -229,6 +233,27 @@ pub demand3-same : (k : List ℕ) (h : Head) → opened k ≡ accepted h
     → (cs ds : List (List ℕ)) (c d : List ℕ) → History k cs → List·Memᴰ c cs → History k ds → List·Memᴰ d ds
     → doneIn c ≡ doneIn d → c ≡ d
 demand3-same k h e cs ds c d p i q j same = same-history k h e cs ds c d p i q j same
+
+-- Nor does the set of warming values alter a checkpoint: k′ is the accepted book k, but may name the other set. It is
+-- accepted too, starts, wakes and counts reply alike and write the same bytes, whatever the checkpoint, and what
+-- a history of k left, a history of k′ leaves.
+pub record SameWork (k k′ : List ℕ) : Type 0 where
+  pub accepts : (h : Head) × (opened k′ ≡ accepted h)
+  pub starts : (out : List ℕ) → (freshReply k′ out ≡ freshReply k out) × (freshBytes k′ out ≡ freshBytes k out)
+  pub wakes : (c : List ℕ) (b : ℕ) (out : List ℕ)
+      → (wakeReply k′ c b out ≡ wakeReply k c b out) × (wakeBytes k′ c b out ≡ wakeBytes k c b out)
+  pub counts : (c : List ℕ) → leftReply k′ c ≡ leftReply k c
+  pub leaves : (cs : List (List ℕ)) → History k cs → History k′ cs
+
+pub demand3-set : (k k′ : List ℕ) (h : Head) → opened k ≡ accepted h → SetApart k k′ → warmingSet (trailer k′) ≤ 1
+    → SameWork k k′
+demand3-set k k′ h e apart named = record {
+  accepts = (_, opened-apart apart e named);
+  starts = λ out. (freshReply-apart apart e named out, freshBytes-apart apart e named out);
+  wakes = λ c b out. (wakeReply-apart apart e named c b out, wakeBytes-apart apart e named c b out);
+  counts = leftReply-apart apart e named;
+  leaves = history-apart apart e named;
+}
 
 -- With the latest checkpoint each time, the job is done exactly when the budgets add up to n or more.
 pub demand3-done : (k : List ℕ) (h : Head) → opened k ≡ accepted h

@@ -9,7 +9,9 @@ pub mod WakeLaws
 pub mod AdmissionLaws
 pub mod ReportLaws
 pub mod HistoryLaws
+pub mod ApartLaws
 pub mod Unique
 pub mod Demands
 pub mod Witness
+pub mod Sets
 pub mod ShutOut

@@ -5,13 +5,14 @@ use mathlib.Core.List.{List, [], _∷_}
 use mathlib.Core.Logic.{_↔_}
 use mathlib.Core.Path.{_≡_, refl, sym, ap, _∙_}
 use native.Mathlib.Omega.{arith}
+use lib.Dec.{eqb, lit≤}
 use lib.ListN.{length}
 use borrow.Author.Tests.{lt-ltb, le-ltb}
 use Rattle.choice.specs.Tests.{choose}
-use Rattle.choice.proofs.TestsLaws.{choose-t, choose-f}
+use Rattle.choice.proofs.TestsLaws.{choose-t, choose-f, if-choose, worked-out}
 use Rattle.choice.proofs.Splitting.{if-lt, if-eq}
 use Rattle.mass.specs.declared.figures.Figures.{Figures}
-use Rattle.mass.specs.Figures.{kgOf, mustReport}
+use Rattle.mass.specs.Figures.{Mild, kgOf, mustReport}
 use Rattle.mass.proofs.FiguresLaws.{figuresOf-ledgers}
 use Rattle.rules.specs.declared.book.Head.{Head}
 use Rattle.rules.specs.Book.{Answer, refused, accepted, opened}
@@ -20,7 +21,7 @@ use Rattle.job.specs.State.{State, ledgersOf}
 use Rattle.job.specs.Checkpoint.{checkpointSize, sound, decode}
 use Rattle.job.specs.Tally.{tallyIn, stateOf}
 use Rattle.job.specs.Reply.{reply, figureValues}
-use Rattle.job.specs.Report.{warming, figuresAt, replyAt, reportReply, leftReply}
+use Rattle.job.specs.Report.{warmingOf, figuresAt, replyAt, reportReply, leftReply}
 use Rattle.job.specs.Wake.{ifOpen, admittedFor, admitted}
 use Rattle.job.specs.Admission.{reportFor, leftFor}
 use Rattle.job.proofs.CheckpointLaws.{stateOf-tallyIn}
@@ -98,6 +99,22 @@ module _ (k c : List ℕ) where
       pub leftReply-at : sound h c ≡ true → leftReply k c ≡ reply 0 ((h .n - decode c .done) ∷ [])
       leftReply-at s = leftReply-open ∙ leftFor-sound h c (admittedFor-sound h c l s)
 
+-- ---- the sets of warming values
+pub warmingOf-first : warmingOf 0 ≡ record { ch4 = 21; n2o = 310 }
+unfolding warmingOf
+warmingOf-first = simp worked-out
+
+pub warmingOf-second : warmingOf 1 ≡ record { ch4 = 25; n2o = 298 }
+unfolding warmingOf
+warmingOf-second = simp worked-out
+
+pub mild-warmingOf : (w : ℕ) → Mild (warmingOf w)
+unfolding warmingOf
+mild-warmingOf w =
+    if-choose Mild (eqb w 0)
+    (λ first. record { ch4-le = lit≤ tt; n2o-le = lit≤ tt })
+    (λ second. record { ch4-le = lit≤ tt; n2o-le = lit≤ tt })
+
 -- ---- at a state
 module _ (h : Head) (s : State) where
   pub replyAt-40 : s .done < h .n → replyAt h s ≡ reply 40 (s .done ∷ [])
@@ -111,7 +128,8 @@ module _ (h : Head) (s : State) where
 
   -- Each figure from its own exact mass, and the decision on exact masses.
   pub replyAt-0 : s .done ≡ h .n → s .aside ≡ 0
-      → let e = s .fossil + s .biomass + 21 * s .ch4 + 310 * s .n2o in
+      → let w = warmingOf (h .warming) in
+      let e = s .fossil + s .biomass + w .ch4 * s .ch4 + w .n2o * s .n2o in
       replyAt h s
       ≡ reply 0 (kgOf (s .fossil) .0 ∷ kgOf (s .biomass) .0 ∷ kgOf (s .ch4) .0 ∷ kgOf (s .n2o) .0 ∷ kgOf e .0
       ∷ choose (mustReport e (s .biomass)) 1 0 ∷ [])
@@ -119,7 +137,7 @@ module _ (h : Head) (s : State) where
   replyAt-0 l z =
       choose-f _ (le-ltb (s .done) (h .n) (omega arith)) (choose-f _ (le-ltb 0 (s .aside) (omega arith)) refl)
       ∙ ap (λ (f : Figures). reply 0 (figureValues f))
-      (figuresOf-ledgers (s .fossil) (s .biomass) (s .ch4) (s .n2o) warming)
+      (figuresOf-ledgers (s .fossil) (s .biomass) (s .ch4) (s .n2o) (warmingOf (h .warming)))
 
   -- Figures are given exactly when the book is finished and no record was set aside.
   pub replyAt-exactly : s .done ≤ h .n

@@ -1,15 +1,16 @@
 -- Programs that the contracts shut out by name: each would contradict a reply or a checkpoint that is
--- fixed of any accepted book, or of the book of Witness. Assumes nothing.
+-- fixed of any accepted book, or of the books of Witness and of Sets. Assumes nothing.
 use Prim.Native.Nat.{ℕ, suc, _+_, _-_, _<_}
 use mathlib.Core.List.{List, List·Memᴰ}
-use mathlib.Core.Path.{_≡_, refl, sym, _∙_}
+use mathlib.Core.Path.{_≡_, refl, sym, ap, _∙_}
 use native.Mathlib.Omega.{arith}
-use lib.ListN.{length, replicate}
+use lib.ListN.{length, replicate, getD}
 use Rattle.mass.specs.Figures.{kgOf}
 use Rattle.rules.specs.declared.book.Head.{Head}
-use Rattle.rules.specs.Book.{accepted, opened}
+use Rattle.rules.specs.Book.{accepted, opened, SetApart}
 use Rattle.rules.specs.Record.{outcomeAt}
 use Rattle.rules.proofs.Sample.{sampleBook, sampleHead, opened-sampleBook, emptyBook, emptyHead, opened-emptyBook}
+use Rattle.rules.proofs.Sample.{secondBook, sampleBook-apart}
 use Rattle.job.specs.State.{asideOf, sumTo}
 use Rattle.job.specs.Checkpoint.{checkpointSize, doneIn, asideIn, decode}
 use Rattle.job.specs.Reply.{Reply, reply}
@@ -19,6 +20,7 @@ use Rattle.job.specs.History.{Wakes, History}
 use Rattle.job.proofs.ReplyLaws.{refused-0, one-first}
 use Rattle.job.proofs.Demands.{Demand2, demand1, demand2, demand3}
 use Rattle.job.proofs.Witness.{Witness, witness, reportReply-emptyBook}
+use Rattle.job.proofs.Sets.{sets}
 
 module _ (k : List ℕ) (h : Head) (e : opened k ≡ accepted h) where
   -- A fresh start that refuses every book.
@@ -90,6 +92,16 @@ no-refusing-every-wake f = refused-0 (seen .wakes) (f sampleBook _ 1 blank refl 
 -- A report that withholds the totals of every book.
 pub no-refusing-every-report : ((k c : List ℕ) → Refuses (reportReply k c)) → ⊥
 no-refusing-every-report f = refused-0 (seen .reports) (f sampleBook _ .refuses) (omega arith)
+
+-- A report that gives every book the figures of one set, whichever its trailer names.
+pub no-one-set : ((k k′ c : List ℕ) → SetApart k k′ → reportReply k′ c ≡ reportReply k c) → ⊥
+no-one-set f =
+    let same : _≡_ {A = ℕ} 1 0 =
+    ap decision (sym (sets .ch4-second) ∙ f sampleBook secondBook _ sampleBook-apart ∙ sets .ch4-first) in
+    omega arith
+  where
+    decision : Reply → ℕ
+    decision (reply n vs) = getD vs 5 0
 
 -- One fixed report for every accepted book that a wake took to its end.
 pub no-one-report : (fixed : Reply)

@@ -9,6 +9,7 @@ use lib.Dec.{lit<}
 use lib.ListN.{length}
 use Rattle.choice.specs.Tests.{choose}
 use Rattle.choice.proofs.TestsLaws.{choose-f}
+use Rattle.mass.specs.declared.figures.Warming.{Warming}
 use Rattle.mass.specs.Figures.{kgOf, mustReport}
 use Rattle.mass.proofs.Cases as mass
 use Rattle.rules.specs.declared.book.Head.{Head}
@@ -22,15 +23,16 @@ use Rattle.job.specs.State.{fossilOf, biomassOf, ch4Of, n2oOf, asideOf, 
 use Rattle.job.specs.Checkpoint.{checkpointSize, doneIn}
 use Rattle.job.specs.Reply.{Reply, reply}
 use Rattle.job.specs.Wake.{freshReply, freshBytes, wakeReply, wakeBytes}
-use Rattle.job.specs.Report.{reportReply}
+use Rattle.job.specs.Report.{warmingOf, reportReply}
 use Rattle.job.specs.History.{InTurn}
+use Rattle.job.proofs.ReportLaws.{warmingOf-first}
 use Rattle.job.proofs.HistoryLaws.{past-inTurn, doneIn-inTurn}
 use Rattle.job.proofs.Demands.{Demand2, Demand3, demand1, demand2, demand3}
 
--- The report of four masses in ng.
-abbrev figures : ℕ → ℕ → ℕ → ℕ → Reply
-figures f b c n =
-    let e = f + b + 21 * c + 310 * n in
+-- The report of four masses in ng, under the warming values w.
+abbrev pub figures : Warming → ℕ → ℕ → ℕ → ℕ → Reply
+figures w f b c n =
+    let e = f + b + w .ch4 * c + w .n2o * n in
     reply 0 (kgOf f .0 ∷ kgOf b .0 ∷ kgOf c .0 ∷ kgOf n .0 ∷ kgOf e .0 ∷ choose (mustReport e b) 1 0 ∷ [])
 
 -- ---- what the demands say of an accepted book after a fresh start and after a wake to its end
@@ -81,7 +83,7 @@ module _ (k : List ℕ) (h : Head) (e : opened k ≡ accepted h) where
       whole g q r = q ∙ ap (sumTo (λ i. g (outcomeAt h k i))) all-done ∙ r
 
       reportReply-end : {f v c n : ℕ} → sum fossilOf ≡ f → sum biomassOf ≡ v → sum ch4Of ≡ c → sum n2oOf ≡ n
-          → sum asideOf ≡ 0 → reportReply k end ≡ figures f v c n
+          → sum asideOf ≡ 0 → reportReply k end ≡ figures (warmingOf (h .warming)) f v c n
       reportReply-end f v c n a =
           let says = demands (0 + b) end ended .0 in
           let fossil = whole fossilOf (says .fossil) f in
@@ -89,7 +91,7 @@ module _ (k : List ℕ) (h : Head) (e : opened k ≡ accepted h) where
           let ch4 = whole ch4Of (says .ch4) c in
           let n2o = whole n2oOf (says .n2o) n in
           says .report .given all-done (whole asideOf (says .aside) a)
-          ∙ (λ i. figures (fossil i) (biomass i) (ch4 i) (n2o i))
+          ∙ (λ i. figures (warmingOf (h .warming)) (fossil i) (biomass i) (ch4 i) (n2o i))
 
 -- ---- what the one record gives
 sum-sampleBook : (g : Outcome → ℕ)
@@ -97,9 +99,9 @@ sum-sampleBook : (g : Outcome → ℕ)
 unfolding sumTo
 sum-sampleBook g = ap (λ (x : Outcome). 0 + g x) outcomeAt-sampleBook
 
-figures-sampleBook : figures 1900000000000000 0 34200000000 3420000000 ≡ reply 0 (1900 ∷ 0 ∷ 0 ∷ 0 ∷ 1902 ∷ 0 ∷ [])
+figures-sampleBook : figures (warmingOf 0) 1900000000000000 0 34200000000 3420000000 ≡ reply 0 (1900 ∷ 0 ∷ 0 ∷ 0 ∷ 1902 ∷ 0 ∷ [])
 figures-sampleBook =
-    rw (mass.p1-co2-kg, mass.nothing-kg, mass.p1-ch4-kg, mass.p1-n2o-kg, mass.p1-co2e-kg)
+    rw (warmingOf-first, mass.p1-co2-kg, mass.nothing-kg, mass.p1-ch4-kg, mass.p1-n2o-kg, mass.p1-co2e-kg)
     (ap (λ (m : ℕ). reply 0 (1900 ∷ 0 ∷ 0 ∷ 0 ∷ 1902 ∷ m ∷ [])) (choose-f 1 mass.p1-reports refl))
 
 -- ---- the witness
@@ -129,11 +131,15 @@ witness out next b o p l = record {
 }
 
 -- ---- a book with no record, which is at its end at once
+figures-emptyBook : figures (warmingOf 0) 0 0 0 0 ≡ reply 0 (0 ∷ 0 ∷ 0 ∷ 0 ∷ 0 ∷ 0 ∷ [])
+figures-emptyBook =
+    rw (warmingOf-first, mass.nothing-kg)
+    (ap (λ (m : ℕ). reply 0 (0 ∷ 0 ∷ 0 ∷ 0 ∷ 0 ∷ m ∷ [])) (choose-f 1 mass.nothing-reports refl))
+
 pub reportReply-emptyBook : (out next : List ℕ) → length out ≡ checkpointSize → length next ≡ checkpointSize
     → reportReply emptyBook (wakeBytes emptyBook (freshBytes emptyBook out) 0 next)
     ≡ reply 0 (0 ∷ 0 ∷ 0 ∷ 0 ∷ 0 ∷ 0 ∷ [])
 unfolding sumTo
 reportReply-emptyBook out next o p =
     reportReply-end emptyBook emptyHead opened-emptyBook out o next p 0 (omega arith) refl refl refl refl refl
-    ∙ rw mass.nothing-kg
-    (ap (λ (m : ℕ). reply 0 (0 ∷ 0 ∷ 0 ∷ 0 ∷ 0 ∷ m ∷ [])) (choose-f 1 mass.nothing-reports refl))
+    ∙ figures-emptyBook

@@ -1,7 +1,7 @@
 -- What a report and a count of the records left reply. RULES, "Report", "Calls" and "Numbers".
 --
---     warming             the warming values of CH4 and N2O
---     figuresAt s         the five figures and the decision of a state
+--     warmingOf w         the warming values of CH4 and N2O in the set w: 0 the first, 1 the second
+--     figuresAt h s       the five figures and the decision of a state, under the set that the trailer names
 --     replyAt h s         the reply to a report at a state: 40 unless the book is finished, 41 if a record
 --                         was set aside, else the figures
 --     reportReply k c     the reply to a report
@@ -10,7 +10,7 @@
 -- Laws: proofs/ReportLaws.antt. Definitions only.
 use Prim.Native.Nat.{ℕ, _-_}
 use mathlib.Core.List.{List, [], _∷_}
-use lib.Dec.{ltb}
+use lib.Dec.{ltb, eqb}
 use Rattle.choice.specs.Tests.{choose}
 use Rattle.mass.specs.declared.figures.Figures.{Figures}
 use Rattle.mass.specs.declared.figures.Warming.{Warming}
@@ -21,18 +21,17 @@ use Rattle.job.specs.Checkpoint.{decode}
 use Rattle.job.specs.Reply.{Reply, reply, figureValues}
 use Rattle.job.specs.Wake.{ifOpen, admitted}
 
--- 21 for CH4 and 310 for N2O.
-abbrev pub warming : Warming
-warming = record { ch4 = 21; n2o = 310 }
+unfoldable pub warmingOf : ℕ → Warming
+warmingOf w = choose (eqb w 0) (record { ch4 = 21; n2o = 310 }) (record { ch4 = 25; n2o = 298 })
 
-unfoldable pub figuresAt : State → Figures
-figuresAt s = figuresOf (ledgersOf s) warming
+unfoldable pub figuresAt : Head → State → Figures
+figuresAt h s = figuresOf (ledgersOf s) (warmingOf (h .warming))
 
 unfoldable pub replyAt : Head → State → Reply
 replyAt h s =
     choose (ltb (s .done) (h .n)) (reply 40 (s .done ∷ []))
     (choose (ltb 0 (s .aside)) (reply 41 (s .index ∷ s .reason ∷ []))
-    (reply 0 (figureValues (figuresAt s))))
+    (reply 0 (figureValues (figuresAt h s))))
 
 unfoldable pub reportReply : List ℕ → List ℕ → Reply
 reportReply k c = ifOpen (admitted k c) (λ n. reply n []) (λ h. replyAt h (decode c))

@@ -18,13 +18,8 @@ ghost use Rattle.mass.specs.Ledger.{recordsForeseen};
 ghost use Rattle.job.specs.Bounds.{FitFor};
 ghost use Rattle.job.specs.Tally.{tallyOf, stateOf};
 ghost use Rattle.job.specs.Reply.{reported, remaining};
-ghost use Rattle.job.specs.Report.{replyAt, reportReply, leftReply};
+ghost use Rattle.job.specs.Report.{warmingOf, replyAt, reportReply, leftReply};
 ghost use Rattle.job.specs.Admission.{reportFor, leftFor};
-
-// How many kilograms of CO2 one of CH4, and one of N2O, stands for.
-const WARMING_CH4: u64 = 21;
-
-const WARMING_N2O: u64 = 310;
 
 pub fn report(book: &[u8], from: &[u8]) -> Reported
     ensures reply { λ r. ⌜ reported r ≡ reportReply (now (book .entry)) (now (from .entry)) ⌝ }
@@ -59,11 +54,17 @@ fn report_at(h: Head, t: Tally) -> Reported
         return Reported::RecordAside(t.index, t.reason);
     }
     let ledgers = t.ledgers;
-    let warming = Warming {
-        ch4: WARMING_CH4,
-        n2o: WARMING_N2O,
-    };
-    Reported::Given(figures::work_out(ledgers, warming))
+    Reported::Given(figures::work_out(ledgers, find_warming(h.warming)))
+}
+
+// The first set is the TSD's, the second that of Part 98's Table A-1 as amended in 2013.
+fn find_warming(set: u8) -> Warming
+    ensures pair { λ r. ⌜ r ≡ warmingOf set ⌝ }
+{
+    if set == 0 {
+        return Warming { ch4: 21, n2o: 310 };
+    }
+    Warming { ch4: 25, n2o: 298 }
 }
 
 // How many records of the book are left.
