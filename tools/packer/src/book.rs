@@ -18,9 +18,19 @@ const OTHER_FACTORS: RangeInclusive<u32> = 0..=200_000;
 
 pub struct Book {
     year: u16,
+    warming: Warming,
     units: Vec<Unit>,
     fuels: Vec<Fuel>,
     records: Vec<Record>,
+}
+
+/// The set of values by which CH4 and N2O count in a report's CO2 equivalent.
+#[derive(Clone, Copy)]
+pub enum Warming {
+    /// 21 for CH4, 310 for N2O.
+    First = 0,
+    /// 25 for CH4, 298 for N2O.
+    Second = 1,
 }
 
 pub struct Unit {
@@ -76,6 +86,17 @@ pub enum Record {
     Raw([u8; LINE]),
 }
 
+impl Warming {
+    pub const ALL: [Warming; 2] = [Warming::First, Warming::Second];
+
+    pub fn word(self) -> &'static str {
+        match self {
+            Warming::First => "first",
+            Warming::Second => "second",
+        }
+    }
+}
+
 impl Kind {
     pub const ALL: [Kind; 3] = [Kind::Solid, Kind::Liquid, Kind::Gas];
 
@@ -116,13 +137,14 @@ impl Class {
 }
 
 impl Book {
-    pub fn new(year: u16) -> Result<Book, String> {
+    pub fn new(year: u16, warming: Warming) -> Result<Book, String> {
         if !YEARS.contains(&year) {
             let (first, last) = YEARS.into_inner();
             return Err(format!("year {year} isn't from {first} to {last}"));
         }
         Ok(Book {
             year,
+            warming,
             units: Vec::new(),
             fuels: Vec::new(),
             records: Vec::new(),
@@ -131,6 +153,10 @@ impl Book {
 
     pub fn year(&self) -> u16 {
         self.year
+    }
+
+    pub fn warming(&self) -> Warming {
+        self.warming
     }
 
     pub fn units(&self) -> &[Unit] {

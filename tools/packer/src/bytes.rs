@@ -27,6 +27,7 @@ pub fn encode(book: &Book) -> Vec<u8> {
         unit_start: unit_start as u32,
         fuel_start: fuel_start as u32,
         year: book.year(),
+        warming: book.warming(),
     };
     let mut lines: Vec<Line> = Vec::new();
     lines.extend(book.records().iter().map(encode_record));
@@ -42,7 +43,7 @@ pub fn decode(bytes: &[u8]) -> Result<Book, Refusal> {
     let trailer_fault = |fault| refusal(21, "the trailer", trailer_at, fault);
     let trailer = Trailer::decode(last).map_err(trailer_fault)?;
     check_starts(&trailer, trailer_at).map_err(trailer_fault)?;
-    let mut book = Book::new(trailer.year).map_err(trailer_fault)?;
+    let mut book = Book::new(trailer.year, trailer.warming).map_err(trailer_fault)?;
 
     let first_unit = trailer.unit_start as usize / LINE;
     let first_fuel = trailer.fuel_start as usize / LINE;

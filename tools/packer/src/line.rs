@@ -1,6 +1,6 @@
 //! The 32 bytes of one line, by the offsets of docs/FORMAT.md.
 
-use crate::book::{Class, Fuel, Kind, Record, Unit, LINE};
+use crate::book::{Class, Fuel, Kind, Record, Unit, Warming, LINE};
 
 pub type Line = [u8; LINE];
 
@@ -15,6 +15,7 @@ pub struct Trailer {
     pub unit_start: u32,
     pub fuel_start: u32,
     pub year: u16,
+    pub warming: Warming,
 }
 
 impl Trailer {
@@ -25,19 +26,28 @@ impl Trailer {
         put32(&mut line, 8, self.unit_start);
         put32(&mut line, 12, self.fuel_start);
         put16(&mut line, 16, self.year);
+        line[20] = self.warming as u8;
         line
     }
 
     pub fn decode(line: &Line) -> Result<Trailer, String> {
+        let warming = Warming::ALL.into_iter().find(|&set| set as u8 == line[20]);
         let trailer = Trailer {
             unit_start: get32(line, 8),
             fuel_start: get32(line, 12),
             year: get16(line, 16),
+            // A byte that names no set differs from this one's, and is told in its turn: what has
+            // no signature is no book, whatever its byte 20.
+            warming: warming.unwrap_or(Warming::First),
         };
         match first_difference(line, &trailer.encode()) {
             None => Ok(trailer),
             Some(0..=3) => Err("it doesn't start with STCB".to_string()),
             Some(4..=5) => Err(format!("its version isn't {VERSION}")),
+            Some(20) => Err(format!(
+                "byte 20 of the line is {}, neither 0, warming first, nor 1, warming second",
+                line[20]
+            )),
             Some(at) => Err(must_be_zero(at)),
         }
     }

@@ -1,6 +1,6 @@
 //! A text for people, read into a book. The grammar stands in README.md beside this folder.
 
-use crate::book::{Book, Class, Fuel, Kind, Record, Unit};
+use crate::book::{Book, Class, Fuel, Kind, Record, Unit, Warming};
 use crate::words::Words;
 
 /// What is wrong with a text, and at which of its lines, counting from 1.
@@ -55,8 +55,13 @@ fn parse_line(line: &[u8], book: &mut Option<Book>) -> Result<(), String> {
 
 fn parse_year(words: &mut Words) -> Result<Book, String> {
     let year = words.number16("year")?;
+    let warming = if words.takes("warming") {
+        words.one_of(&Warming::ALL, Warming::word)?
+    } else {
+        Warming::First
+    };
     words.end()?;
-    Book::new(year)
+    Book::new(year, warming)
 }
 
 fn add_line(first: &str, words: &mut Words, book: &mut Book) -> Result<(), String> {

@@ -1,14 +1,23 @@
 //! The canonical text of a book: the year, the units, the fuels, the records, a line each.
 
-use crate::book::{in_tenths, Book, Fuel, Record, Unit};
+use crate::book::{in_tenths, Book, Fuel, Record, Unit, Warming};
 use crate::single;
 
 pub fn text(book: &Book) -> String {
-    let mut lines = vec![format!("year {}", book.year())];
+    let mut lines = vec![year_line(book)];
     lines.extend(book.units().iter().map(unit_line));
     lines.extend(book.fuels().iter().map(fuel_line));
     lines.extend(book.records().iter().map(record_line));
     lines.join("\n") + "\n"
+}
+
+/// The first set goes without saying, as in a text that doesn't speak of warming values.
+fn year_line(book: &Book) -> String {
+    let warming = match book.warming() {
+        Warming::First => String::new(),
+        set => format!(" warming {}", set.word()),
+    };
+    format!("year {}{warming}", book.year())
 }
 
 fn unit_line(unit: &Unit) -> String {

@@ -95,7 +95,9 @@ fn random_books_are_of_every_sort() {
     let (mut no_records, mut full, mut no_units, mut most_units, mut most_fuels) = (0, 0, 0, 0, 0);
     let starts = ["delivery ", "hour ", "raw 01", "raw 02", "raw FF"];
     let mut records = [0; 5];
+    let mut warmings = [0; 2];
     each_random_book(|sample, _| {
+        warmings[usize::from(sample.warming)] += 1;
         no_records += u32::from(sample.records.is_empty());
         full += u32::from(sample.bytes().len() == LONGEST);
         no_units += u32::from(sample.units.is_empty());
@@ -109,12 +111,29 @@ fn random_books_are_of_every_sort() {
     let books = [no_records, full, no_units, most_units, most_fuels];
     assert!(books.iter().all(|&count| count >= 20), "{books:?}");
     assert!(records.iter().all(|&count| count >= 1000), "{records:?}");
+    assert!(warmings.iter().all(|&count| count >= 1000), "{warmings:?}");
 }
 
 #[test]
 fn the_book_of_the_format_page_is_its_text() {
     assert_eq!(unpack(&BYTES), Ok(TEXT.to_string()));
     assert_eq!(pack(TEXT.as_bytes()), Ok(BYTES.to_vec()));
+}
+
+/// All that the word changes is byte 20 of the trailer, and a text without it is as it was.
+#[test]
+fn the_line_of_the_year_names_the_warming_values() {
+    for (said, unpacked, byte) in [
+        ("year 2010", "year 2010", 0),
+        ("year 2010 warming first", "year 2010", 0),
+        ("year 2010 warming second", "year 2010 warming second", 1),
+    ] {
+        let with = |words: &str| TEXT.replace("year 2010", words);
+        let mut bytes = BYTES.to_vec();
+        bytes[3 * LINE + 20] = byte;
+        assert_eq!(unpack(&bytes), Ok(with(unpacked)));
+        assert_eq!(pack(with(said).as_bytes()), Ok(bytes), "{said}");
+    }
 }
 
 #[test]

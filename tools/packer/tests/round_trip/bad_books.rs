@@ -29,7 +29,15 @@ const CHANGES: &str = "
 100 02 21 its version isn't 1
 101 01 21 its version isn't 1
 102 01 21 byte 6 of the line has a bit that must be 0
+114 01 21 byte 18 of the line has a bit that must be 0
+115 01 21 byte 19 of the line has a bit that must be 0
+116 02 21 byte 20 of the line is 2, neither 0, warming first, nor 1, warming second
+116 ff 21 byte 20 of the line is 255, neither 0, warming first, nor 1, warming second
+117 01 21 byte 21 of the line has a bit that must be 0
 127 01 21 byte 31 of the line has a bit that must be 0
+116 0101 21 byte 21 of the line has a bit that must be 0
+116 0201 21 byte 20 of the line is 2
+100 020000002000000040000000da07000002 21 its version isn't 1
 104 21 21 the starts 33 and 64 aren't both multiples of 32
 108 41 21 the starts 32 and 65 aren't both multiples of 32
 104 60 21 unit start 96, fuel start 64 and trailer 96 aren't in this order

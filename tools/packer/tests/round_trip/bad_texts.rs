@@ -15,10 +15,24 @@ year => `year` is followed by nothing
 year twenty => plain digits, not by `twenty`
 year +2010 => plain digits, not by `+2010`
 year 2010 2011 => `2011` is one word too many
+year 1999 warming second => year 1999 isn't from 2000 to 2099
+year 2010 warming => the line ends without one of first, second
+year 2010 warming third => `third` is none of first, second
+year 2010 warming Second => `Second` is none of first, second
+year 2010 warming 1 => `1` is none of first, second
+year 2010 warming warming => `warming` is none of first, second
+year 2010 warming second second => `second` is one word too many
+year 2010 warming first warming second => `warming` is one word too many
+year 2010 second => `second` is one word too many
+year 2010 Warming second => `Warming` is one word too many
+year warming second 2010 => plain digits, not by `warming`
+warming second year 2010 => the year comes first, before `warming`
 ";
 
 pub const BAD_AFTER_SOUND: &str = "
 year 2010 => the year is said a second time
+year 2010 warming second => the year is said a second time
+warming second => no line starts with `warming`
 unti 6 rating 1.0 => no line starts with `unti`
 Unit 6 rating 1.0 => no line starts with `Unit`
 
@@ -38,6 +52,7 @@ unit 6 rating 250. => one decimal or none, not by `250.`
 unit 6 rating .5 => one decimal or none, not by `.5`
 unit 6 rating -1.0 => one decimal or none, not by `-1.0`
 unit 6 rating 1.0 monitr => `monitr` is one word too many
+unit 6 rating 1.0 warming second => `warming` is one word too many
 unit 6 rating 1.0 monitor 2 => `2` is one word too many
 
 fuel 0 gas other co2 1 ch4 0 n2o 0 => fuel numbers start at 1

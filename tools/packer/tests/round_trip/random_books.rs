@@ -9,6 +9,8 @@ pub const MOST_LINES: usize = LONGEST / LINE - 1;
 
 pub struct Sample {
     pub year: u64,
+    /// Byte 20 of the trailer.
+    pub warming: u8,
     pub units: Vec<Said>,
     pub fuels: Vec<Said>,
     pub records: Vec<Said>,
@@ -26,6 +28,7 @@ impl Sample {
         };
         Sample {
             year: dice.within(2000, 2099),
+            warming: dice.pick(&[0, 1]),
             units,
             fuels,
             records: (0..records).map(|_| dice.pick(&SORTS)(dice)).collect(),
@@ -41,12 +44,20 @@ impl Sample {
         bytes.extend((unit_start as u32).to_le_bytes());
         bytes.extend((fuel_start as u32).to_le_bytes());
         bytes.extend((self.year as u16).to_le_bytes());
-        bytes.extend([0; 14]);
+        bytes.extend([0, 0, self.warming]);
+        bytes.extend([0; 11]);
         bytes
     }
 
+    fn year_words(&self) -> String {
+        match self.warming {
+            0 => format!("year {}", self.year),
+            _ => format!("year {} warming second", self.year),
+        }
+    }
+
     pub fn text(&self) -> String {
-        let mut text = format!("year {}\n", self.year);
+        let mut text = format!("{}\n", self.year_words());
         for said in self.units.iter().chain(&self.fuels).chain(&self.records) {
             text += &format!("{}\n", said.words);
         }
@@ -56,7 +67,11 @@ impl Sample {
     /// Mixes units, fuels and records, each kept in its order, and says them carelessly.
     pub fn loose_text(&self, dice: &mut Dice) -> String {
         let mut waiting = [self.units.iter(), self.fuels.iter(), self.records.iter()];
-        let mut text = loose_line(&format!("year {}", self.year), dice);
+        let loosely = match self.warming {
+            0 => format!("year {} warming first", self.year),
+            _ => format!("year 0{} warming second", self.year),
+        };
+        let mut text = loose_line(dice.pick(&[&self.year_words(), &loosely]), dice);
         while waiting.iter().any(|queue| queue.len() > 0) {
             if let Some(said) = waiting[dice.below(3) as usize].next() {
                 let words = dice.pick(&[&said.words, &said.loosely]);
