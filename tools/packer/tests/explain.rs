@@ -62,6 +62,10 @@ fn book_of(text: &str) -> Named {
     named("BOOK", pack(text.as_bytes()).unwrap())
 }
 
+fn in_the_second_values(text: &str) -> String {
+    text.replace("year 2010", "year 2010 warming second")
+}
+
 fn explained(book: &Named, text: Option<&str>, printed: &str) -> Result<Explanation, String> {
     let text = text.map(|text| named("TEXT", text));
     explain(book, text.as_ref(), |asked| {
@@ -117,6 +121,19 @@ fn records_are_told_with_their_lines_of_the_text() {
         })
         .collect();
     assert_eq!(without, bare);
+}
+
+#[test]
+fn the_warming_values_change_no_explanation() {
+    let second = in_the_second_values(TEXT);
+    assert_ne!(book_of(&second).content, book_of(TEXT).content);
+    let explanation = explained(&book_of(&second), Some(&second), PRINTED).unwrap();
+    assert_eq!(explanation.words, EXPLAINED);
+    assert!(!explanation.is_clean);
+
+    let clean = explained(&book_of("year 2010 warming second\n"), None, "").unwrap();
+    assert_eq!(clean.words, "BOOK: no record is set aside\n");
+    assert!(clean.is_clean);
 }
 
 /// Gives what the example of README.md shows behind a command.
@@ -190,6 +207,10 @@ fn another_books_text_is_named_and_left_out() {
             "it packs to another book than BOOK",
         ),
         (
+            &in_the_second_values(TEXT),
+            "it packs to another book than BOOK",
+        ),
+        (
             "year 2010\nunit 0 rating 1\n",
             "line 2: unit 0 can't be; unit numbers start at 1",
         ),
@@ -241,6 +262,22 @@ fn a_refused_book_is_told_without_asking() {
             explanation.words,
             format!("BOOK: {refusal}\n  to do: {remedy}\n")
         );
+        assert!(!explanation.is_clean);
+    }
+}
+
+#[test]
+fn warming_values_of_no_set_are_told_without_asking() {
+    for value in [2, 255] {
+        let mut book = book_of(TEXT);
+        book.content[256 + 20] = value;
+        let explanation = explain(&book, None, |_| panic!("{value}")).unwrap();
+        let wanted = format!(
+            "BOOK: refused 21: the trailer at byte 256: byte 20 of the line is {value}, \
+             neither 0, warming first, nor 1, warming second\n  \
+             to do: copy it anew, or pack it anew from its text; it may be no book at all\n"
+        );
+        assert_eq!(explanation.words, wanted);
         assert!(!explanation.is_clean);
     }
 }

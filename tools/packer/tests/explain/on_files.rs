@@ -2,7 +2,7 @@
 
 use crate::accounts::LISTS;
 use crate::repository::{told, Repository};
-use crate::{book_of, explained, COUNTS, EXPLAINED, PRINTED, TEXT};
+use crate::{book_of, explained, in_the_second_values, COUNTS, EXPLAINED, PRINTED, TEXT};
 
 #[test]
 fn the_program_explains_files() {
@@ -14,7 +14,8 @@ fn the_program_explains_files() {
         .replace("TEXT", "north.txt");
     let all_count = "north.book: no record is set aside\n".to_string();
     for (text, printed, status, words) in [
-        (TEXT, PRINTED, 3, words),
+        (TEXT, PRINTED, 3, words.clone()),
+        (&in_the_second_values(TEXT), PRINTED, 3, words),
         (&clean, &*format!("record 0 {COUNTS}\n"), 0, all_count),
     ] {
         repository.write("north.txt", text);
