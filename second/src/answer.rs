@@ -129,7 +129,7 @@ pub fn reported(book: &[u8], checkpoint: &[u8]) -> Result<Report, Refusal> {
         let reason = checkpoint.reason;
         return Err(Refusal::SetAside { first, reason });
     }
-    Ok(Report::of(&checkpoint.ledgers))
+    Ok(Report::of(&checkpoint.ledgers, book.warming))
 }
 
 fn advance(book: &Book, before: Checkpoint, budget: u32) -> Checkpoint {

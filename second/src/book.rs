@@ -3,6 +3,7 @@
 use crate::bytes::{all_zero, u16_at, u32_at};
 use crate::lines::{self, Fuel, Unit};
 use crate::refusal::Refusal;
+use crate::warming::Warming;
 use crate::LINE;
 
 pub const LONGEST: usize = 65_536;
@@ -15,6 +16,7 @@ pub struct Book<'a> {
     fuels: Vec<Fuel>,
     pub length: u32,
     pub year: u16,
+    pub warming: Warming,
 }
 
 impl<'a> Book<'a> {
@@ -33,6 +35,7 @@ impl<'a> Book<'a> {
             fuels: lines::fuels(fuel_lines).ok_or(Refusal::FuelLines)?,
             length: length as u32,
             year: trailer.year,
+            warming: trailer.warming,
         })
     }
 
@@ -59,6 +62,7 @@ struct Trailer {
     unit_start: usize,
     fuel_start: usize,
     year: u16,
+    warming: Warming,
 }
 
 impl Trailer {
@@ -70,6 +74,7 @@ impl Trailer {
             unit_start: u32_at(line, 8) as usize,
             fuel_start: u32_at(line, 12) as usize,
             year: u16_at(line, 16),
+            warming: Warming::named(line[20])?,
         };
         let in_order = trailer.unit_start <= trailer.fuel_start && trailer.fuel_start <= place;
         let sound = line.starts_with(b"STCB")
@@ -79,7 +84,8 @@ impl Trailer {
             && trailer.fuel_start.is_multiple_of(LINE)
             && in_order
             && (2000..=2099).contains(&trailer.year)
-            && all_zero(&line[18..]);
+            && all_zero(&line[18..20])
+            && all_zero(&line[21..]);
         sound.then_some(trailer)
     }
 }

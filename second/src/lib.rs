@@ -16,6 +16,7 @@ pub mod refusal;
 pub mod replay;
 pub mod report;
 pub mod single;
+pub mod warming;
 
 /// Every line of a book has this many bytes (the requirements, "The book").
 pub const LINE: usize = 32;

@@ -2,6 +2,7 @@
 //! says").
 
 use crate::ledger::{Ledgers, NG_PER_TONNE};
+use crate::warming::Warming;
 
 const NG_PER_KG: u128 = NG_PER_TONNE / 1_000;
 
@@ -13,18 +14,19 @@ pub struct Report {
 }
 
 impl Report {
-    pub fn of(ledgers: &Ledgers) -> Report {
+    pub fn of(ledgers: &Ledgers, warming: Warming) -> Report {
         let [fossil, biomass, ch4, n2o] = ledgers.in_order();
         Report {
-            figures: [fossil, biomass, ch4, n2o, co2e(ledgers)].map(kilograms),
-            must_report: must_report(ledgers),
+            figures: [fossil, biomass, ch4, n2o, co2e(ledgers, warming)].map(kilograms),
+            must_report: must_report(ledgers, warming),
         }
     }
 }
 
-/// "Both CO2 ledgers + 21 x CH4 + 310 x N2O", exact.
-pub fn co2e(ledgers: &Ledgers) -> u128 {
-    ledgers.fossil + ledgers.biomass + 21 * ledgers.ch4 + 310 * ledgers.n2o
+/// "Both CO2 ledgers + 21 x CH4 + 310 x N2O", or with the other set's values,
+/// exact.
+pub fn co2e(ledgers: &Ledgers, warming: Warming) -> u128 {
+    ledgers.fossil + ledgers.biomass + warming.ch4 * ledgers.ch4 + warming.n2o * ledgers.n2o
 }
 
 /// "Rounded once from its own exact total, half upward."
@@ -32,8 +34,8 @@ pub fn kilograms(ng: u128) -> u64 {
     ((ng + NG_PER_KG / 2) / NG_PER_KG) as u64
 }
 
-fn must_report(ledgers: &Ledgers) -> bool {
-    let total = co2e(ledgers);
+fn must_report(ledgers: &Ledgers, warming: Warming) -> bool {
+    let total = co2e(ledgers, warming);
     let subtracted = if total < 25_000 * NG_PER_TONNE {
         ledgers.biomass.min(15_000 * NG_PER_TONNE)
     } else {
@@ -60,10 +62,30 @@ mod tests {
             biomass: 24_999 * NG_PER_TONNE,
             ..Ledgers::default()
         };
-        assert!(!must_report(&ledgers));
-        let fossil = NG_PER_TONNE - 1;
-        assert!(!must_report(&Ledgers { fossil, ..ledgers }));
-        let fossil = NG_PER_TONNE;
-        assert!(must_report(&Ledgers { fossil, ..ledgers }));
+        assert!(!must_report(&ledgers, Warming::FIRST));
+        let with_fossil = |fossil| must_report(&Ledgers { fossil, ..ledgers }, Warming::FIRST);
+        assert!(!with_fossil(NG_PER_TONNE - 1));
+        assert!(with_fossil(NG_PER_TONNE));
+    }
+
+    /// 400 t of CH4: 8,400 t of CO2e under the first set, 10,000 t under the
+    /// second. 33 t of N2O: 10,230 t and 9,834 t.
+    #[test]
+    fn co2e_and_decision_follow_the_set() {
+        let told = |ledgers: &Ledgers| {
+            let sets = [Warming::FIRST, Warming::SECOND];
+            let reports = sets.map(|set| Report::of(ledgers, set));
+            reports.map(|report| (report.figures[4], report.must_report))
+        };
+        let ch4 = Ledgers {
+            ch4: 400 * NG_PER_TONNE,
+            ..Ledgers::default()
+        };
+        assert_eq!(told(&ch4), [(8_400_000, false), (10_000_000, true)]);
+        let n2o = Ledgers {
+            n2o: 33 * NG_PER_TONNE,
+            ..Ledgers::default()
+        };
+        assert_eq!(told(&n2o), [(10_230_000, true), (9_834_000, false)]);
     }
 }

@@ -5,17 +5,18 @@ use second::book::Book;
 use second::checkpoint::Checkpoint;
 use second::ledger::{Ledgers, NG_PER_TONNE};
 use second::report::{co2e, kilograms, Report};
+use second::warming::Warming;
 
 use crate::draft::{put, LINE};
 use crate::job::CHECKPOINT;
 
 /// Reports made from the right ledgers in a wrong way.
-fn reporting(frame: &Frame, wrong: fn(&Ledgers) -> Report) -> Answer {
+fn reporting(frame: &Frame, wrong: fn(&Ledgers, Warming) -> Report) -> Answer {
     let mut answered = answer(frame);
     if frame.call == Call::Report && answered.head[0] == 0 {
         let book = Book::read(frame.book).expect("the report was given");
         let checkpoint = Checkpoint::read(frame.checkpoint, &book).expect("the report was given");
-        let report = wrong(&checkpoint.ledgers);
+        let report = wrong(&checkpoint.ledgers, book.warming);
         for (place, figure) in (8..).step_by(8).zip(report.figures) {
             put(&mut answered.head, place, &figure.to_le_bytes());
         }
@@ -25,9 +26,9 @@ fn reporting(frame: &Frame, wrong: fn(&Ledgers) -> Report) -> Answer {
 }
 
 pub fn compares_rounded_co2e(frame: &Frame) -> Answer {
-    reporting(frame, |ledgers| {
-        let right = Report::of(ledgers);
-        let rounded = u128::from(kilograms(co2e(ledgers))) * NG_PER_TONNE / 1_000;
+    reporting(frame, |ledgers, warming| {
+        let right = Report::of(ledgers, warming);
+        let rounded = u128::from(kilograms(co2e(ledgers, warming))) * NG_PER_TONNE / 1_000;
         let subtracted = if rounded < 25_000 * NG_PER_TONNE {
             ledgers.biomass.min(15_000 * NG_PER_TONNE)
         } else {
@@ -43,18 +44,16 @@ pub fn compares_rounded_co2e(frame: &Frame) -> Answer {
 /// Of any T, without the limit of 15,000 t. With either the condition or the
 /// limit alone the decision would still be right.
 pub fn subtracts_all_biomass_always(frame: &Frame) -> Answer {
-    reporting(frame, |ledgers| Report {
-        must_report: co2e(ledgers) - ledgers.biomass >= 10_000 * NG_PER_TONNE,
-        ..Report::of(ledgers)
+    reporting(frame, |ledgers, warming| Report {
+        must_report: co2e(ledgers, warming) - ledgers.biomass >= 10_000 * NG_PER_TONNE,
+        ..Report::of(ledgers, warming)
     })
 }
 
 /// As later tables of warming potentials have it.
 pub fn warms_by_25_for_ch4(frame: &Frame) -> Answer {
-    reporting(frame, |ledgers| {
-        let mut report = Report::of(ledgers);
-        report.figures[4] = kilograms(co2e(ledgers) + 4 * ledgers.ch4);
-        report
+    reporting(frame, |ledgers, warming| {
+        Report::of(ledgers, Warming { ch4: 25, ..warming })
     })
 }
 
