@@ -3,6 +3,12 @@
 pub const LINE: usize = 32;
 pub const LONGEST_BOOK: usize = 65_536;
 
+/// Where the trailer names the set of warming values, and what it may say.
+pub const SET_PLACE: usize = 20;
+pub const FIRST_SET: u8 = 0;
+pub const SECOND_SET: u8 = 1;
+pub const SETS: [u8; 2] = [FIRST_SET, SECOND_SET];
+
 pub type Line = [u8; LINE];
 
 /// The parts of a book; `bytes` puts them together with the trailer.
@@ -12,6 +18,7 @@ pub struct Draft {
     pub units: Vec<Line>,
     pub fuels: Vec<Line>,
     pub year: u16,
+    pub warming_set: u8,
 }
 
 #[derive(Clone, Copy)]
@@ -52,6 +59,7 @@ impl Draft {
         put(&mut line, 8, &unit_start.to_le_bytes());
         put(&mut line, 12, &fuel_start.to_le_bytes());
         put(&mut line, 16, &self.year.to_le_bytes());
+        line[SET_PLACE] = self.warming_set;
         line
     }
 

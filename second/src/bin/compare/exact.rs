@@ -1,6 +1,6 @@
 //! Books whose four totals are any wanted numbers of micrograms or nanograms.
 
-use crate::draft::{unit, Burnt, Draft, FuelLine, Line};
+use crate::draft::{unit, Burnt, Draft, FuelLine, Line, FIRST_SET};
 
 /// µg of CO2, ng of CH4 and N2O; each up to 4 x 10^18.
 #[derive(Clone, Copy, Default)]
@@ -33,6 +33,7 @@ pub fn book(totals: Totals) -> Draft {
         ],
         fuels: fuels(),
         year: 2010,
+        warming_set: FIRST_SET,
     }
 }
 

@@ -12,7 +12,7 @@ mod table_004;
 mod tables_000;
 mod units;
 
-use crate::draft::{unit, Burnt, Draft, FuelLine};
+use crate::draft::{unit, Burnt, Draft, FuelLine, FIRST_SET};
 use crate::exchange::{Exchange, Outcome};
 use crate::expectation::{Expectation, Field};
 use crate::job;
@@ -65,6 +65,7 @@ pub fn one_record(fuel: FuelLine, amount: u128, carbon: Option<u128>) -> Vec<u8>
         units: vec![unit(1, false, 2_500)],
         fuels: vec![fuel.line()],
         year: YEAR,
+        warming_set: FIRST_SET,
     };
     draft.bytes()
 }

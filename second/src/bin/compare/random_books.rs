@@ -4,7 +4,7 @@ use second::book::Book;
 use second::bytes::u16_at;
 use second::record::judge;
 
-use crate::draft::{hour, unit, Burnt, Draft, FuelLine, Line, LINE};
+use crate::draft::{hour, unit, Burnt, Draft, FuelLine, Line, LINE, SETS};
 use crate::exchange::{Exchange, Outcome};
 use crate::job;
 use crate::random::Random;
@@ -56,11 +56,13 @@ pub fn counted_records(rng: &mut Random, listing: &Draft, count: usize) -> Vec<L
 
 /// Unit and fuel lines that are sound, at most eight of each.
 pub fn listing(rng: &mut Random) -> Draft {
+    let set_and_year = rng.below(200) as u16;
     let mut draft = Draft {
         records: Vec::new(),
         units: Vec::new(),
         fuels: Vec::new(),
-        year: 2000 + rng.below(100) as u16,
+        year: 2000 + set_and_year / 2,
+        warming_set: SETS[usize::from(set_and_year % 2)],
     };
     let ratings = [1, 2_499, 2_500, 2_501, 99_999, 100_000];
     for number in rising(rng) {

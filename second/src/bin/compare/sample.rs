@@ -1,6 +1,6 @@
 //! A small sound book that has every kind of line.
 
-use crate::draft::{hour, unit, Burnt, Draft, FuelLine};
+use crate::draft::{hour, unit, Burnt, Draft, FuelLine, FIRST_SET};
 
 /// Fuel records of a gas and of a solid with everything measured, one with
 /// nothing measured, and an hour; a plain and a monitored unit; fuels of every
@@ -34,5 +34,6 @@ pub fn small_book() -> Draft {
         units: vec![unit(1, false, 2_500), unit(2, true, 2_501)],
         fuels: fuels.map(|fuel| fuel.line()).to_vec(),
         year: 2010,
+        warming_set: FIRST_SET,
     }
 }

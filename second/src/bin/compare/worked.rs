@@ -1,7 +1,7 @@
 //! Group 1: every sum that the requirements work by hand ("Sums worked by hand"),
 //! with the result that the document prints.
 
-use crate::draft::{hour, unit, Burnt, Draft, FuelLine, Line};
+use crate::draft::{hour, unit, Burnt, Draft, FuelLine, Line, FIRST_SET};
 use crate::exact::{self, Totals, UG_PER_TONNE};
 use crate::exchange::{Exchange, Outcome};
 use crate::expectation::{Expectation, Field};
@@ -54,6 +54,7 @@ fn book(sum: &Sum) -> Vec<u8> {
         units: vec![sum.unit],
         fuels: vec![sum.fuel.line()],
         year: 2010,
+        warming_set: FIRST_SET,
     };
     draft.bytes()
 }

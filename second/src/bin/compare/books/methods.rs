@@ -1,6 +1,6 @@
 //! Every choice that "Choosing the method" tells apart, in one book.
 
-use crate::draft::{unit, Burnt, Draft, FuelLine};
+use crate::draft::{unit, Burnt, Draft, FuelLine, FIRST_SET};
 use crate::exchange::{Exchange, Outcome};
 use crate::job;
 use crate::random::Random;
@@ -49,6 +49,7 @@ fn choices() -> Draft {
         units: units.to_vec(),
         fuels,
         year: 2011,
+        warming_set: FIRST_SET,
     }
 }
 

@@ -1,6 +1,6 @@
 //! Monitor hours: every pair of special readings, halves of R, random ones.
 
-use crate::draft::{hour, unit, Draft, Line};
+use crate::draft::{hour, unit, Draft, Line, FIRST_SET};
 use crate::exchange::{Exchange, Outcome};
 use crate::job;
 use crate::random::Random;
@@ -52,6 +52,7 @@ fn compare(exchange: &mut Exchange, rng: &mut Random, pairs: &[[u32; 2]]) -> Out
         units: vec![unit(1, true, 2_500), unit(2, false, 2_500)],
         fuels: Vec::new(),
         year: 2012,
+        warming_set: FIRST_SET,
     };
     let book = draft.bytes();
     job::everything(exchange, rng, &book, pairs.len())

@@ -2,7 +2,7 @@
 
 use second::replay::LONGEST_PART;
 
-use crate::draft::{unit, Draft, FuelLine, LINE, LONGEST_BOOK};
+use crate::draft::{unit, Draft, FuelLine, FIRST_SET, LINE, LONGEST_BOOK};
 use crate::exchange::{Exchange, Outcome};
 use crate::expectation::Field;
 use crate::job;
@@ -63,6 +63,7 @@ fn listing(units: u16, fuels: u16) -> Draft {
             .collect(),
         fuels: (1..=fuels).map(|n| fuel(n * 1_000).line()).collect(),
         year: 2099,
+        warming_set: FIRST_SET,
     }
 }
 

@@ -5,7 +5,7 @@ use super::ratio::{printed, Printed, Ratio};
 use super::table_004::{Row, Rows, AMOUNTS, ENERGY};
 use super::units::{Amount, Heat};
 use super::{one_record, within_rounding, PublicFigure, TRACE, YEAR};
-use crate::draft::{unit, Burnt, Draft, FuelLine, Line};
+use crate::draft::{unit, Burnt, Draft, FuelLine, Line, FIRST_SET};
 use crate::expectation::Field;
 
 fn kilograms(tonnes: Ratio) -> Ratio {
@@ -110,6 +110,7 @@ fn two_kinds_of_co2() -> PublicFigure {
         units: vec![unit(1, false, 2_500)],
         fuels: vec![gas.1, oil.1, wood.1],
         year: YEAR,
+        warming_set: FIRST_SET,
     };
     PublicFigure {
         source: "004 lines 144 and 145, fossil and biomass CO2".into(),
