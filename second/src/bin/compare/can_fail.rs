@@ -69,7 +69,7 @@ const ALL: [&str; 5] = ["worked", "books", "damage", "histories", "public-figure
 caught! {
     rounds_each_record_to_kilograms by ALL;
     falls_back_to_method_1 by ["worked", "books", "damage", "histories"];
-    counts_fuel_co2_of_a_monitored_unit by ["books", "damage", "histories", "public-figures"];
+    counts_fuel_co2_of_a_monitored_unit by ALL;
     multiplies_in_single_precision by ["books", "damage", "histories"];
     compares_rounded_co2e by ["books", "histories"];
     rounds_halves_of_r_upward by ["worked", "books", "damage", "histories"];
@@ -77,7 +77,7 @@ caught! {
     takes_minus_zero_for_less_than_zero by ["books", "histories"];
     turns_carbon_into_co2_by_44_over_12 by ALL;
     subtracts_all_biomass_always by ALL;
-    warms_by_25_for_ch4 by ["books", "damage", "histories", "public-figures"];
+    warms_by_25_for_ch4 by ALL;
     clears_the_output_when_it_refuses by ALL;
     wakes_to_the_end_whatever_the_budget by ["books", "damage", "histories"];
     knows_eight_reasons by ["damage", "histories"];

@@ -50,6 +50,15 @@ impl Draft {
         bytes
     }
 
+    /// The same book but for the set that it names.
+    pub fn under(&self, warming_set: u8) -> Vec<u8> {
+        let draft = Draft {
+            warming_set,
+            ..self.clone()
+        };
+        draft.bytes()
+    }
+
     pub fn trailer(&self) -> Line {
         let unit_start = (LINE * self.records.len()) as u32;
         let fuel_start = unit_start + (LINE * self.units.len()) as u32;

@@ -65,6 +65,20 @@ impl Field {
     }
 }
 
+/// A report that is given: its five figures in kg, and its decision.
+pub fn report(figures: [u64; 5], must_report: bool) -> Vec<Expectation> {
+    let [fossil, biomass, ch4, n2o, co2e] = figures;
+    vec![
+        Field::Number.is(0),
+        Field::FossilKg.is(fossil),
+        Field::BiomassKg.is(biomass),
+        Field::Ch4Kg.is(ch4),
+        Field::N2oKg.is(n2o),
+        Field::Co2eKg.is(co2e),
+        Field::MustReport.is(u64::from(must_report)),
+    ]
+}
+
 impl Expectation {
     /// What is wrong with an answer, if anything.
     pub fn complaint(&self, head: &[u8; HEAD]) -> Option<String> {

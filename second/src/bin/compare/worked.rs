@@ -1,7 +1,9 @@
 //! Group 1: every sum that the requirements work by hand ("Sums worked by hand"),
 //! with the result that the document prints.
 
-use crate::draft::{hour, unit, Burnt, Draft, FuelLine, Line, FIRST_SET};
+mod reports;
+
+use crate::draft::{hour, unit, Burnt, Draft, FuelLine, Line, FIRST_SET, SETS};
 use crate::exact::{self, Totals, UG_PER_TONNE};
 use crate::exchange::{Exchange, Outcome};
 use crate::expectation::{Expectation, Field};
@@ -138,34 +140,20 @@ fn hour_sums() -> Vec<Sum> {
     ]
 }
 
-/// P10 to P12: T and biomass in tonnes, and whether the site must report.
+/// P10 to P12: T and biomass in tonnes, and whether the site must report. They
+/// have no CH4 and no N2O, so each set of warming values gives the same.
 const DECISIONS: [(&str, u64, u64, u64); 3] = [
     ("P10", 10_000, 0, 1),
     ("P11", 24_999, 16_000, 0),
     ("P12", 25_000, 16_000, 1),
 ];
 
-fn decision_book(total: u64, biomass: u64) -> Vec<u8> {
+fn decision_book(total: u64, biomass: u64) -> Draft {
     exact::book(Totals {
         fossil_ug: (total - biomass) * UG_PER_TONNE,
         biomass_ug: biomass * UG_PER_TONNE,
         ..Totals::default()
     })
-    .bytes()
-}
-
-/// "For a 128-byte book of year 2010 with the record of P1, the unit, the
-/// fuel and the trailer, it prints" these.
-fn example_report() -> Vec<Expectation> {
-    vec![
-        Field::Number.is(0),
-        Field::FossilKg.is(1900),
-        Field::BiomassKg.is(0),
-        Field::Ch4Kg.is(0),
-        Field::N2oKg.is(0),
-        Field::Co2eKg.is(1902),
-        Field::MustReport.is(0),
-    ]
 }
 
 pub fn run(exchange: &mut Exchange, rng: &mut Random) -> Outcome<()> {
@@ -183,13 +171,12 @@ pub fn run(exchange: &mut Exchange, rng: &mut Random) -> Outcome<()> {
             Field::BiomassKg.is(biomass * 1_000),
             Field::MustReport.is(must_report),
         ];
-        job::whole(exchange, rng, &decision_book(total, biomass), printed)?;
+        for set in SETS {
+            let book = decision_book(total, biomass).under(set);
+            job::whole(exchange, rng, &book, printed.clone())?;
+        }
     }
-    exchange.case("the 128-byte example's report");
-    let example = book(&fuel_sums()[0]);
-    exchange.state(example.len() == 128, "the example has 128 bytes")?;
-    job::whole(exchange, rng, &example, example_report())?;
-    Ok(())
+    reports::run(exchange, rng)
 }
 
 #[cfg(test)]
@@ -210,18 +197,17 @@ mod tests {
     #[test]
     fn second_decides_as_document_01_does() {
         for (name, total, biomass, must_report) in DECISIONS {
-            let text = second::annual::text(&decision_book(total, biomass));
             let decision = ["no", "yes"][must_report as usize];
             let last = format!("must-report {decision}\n");
-            assert!(text.ends_with(&last), "{name}: {text}");
+            for set in SETS {
+                let text = second::annual::text(&decision_book(total, biomass).under(set));
+                assert!(text.ends_with(&last), "{name}: {text}");
+            }
         }
     }
 
     #[test]
-    fn the_example_is_printed_as_document_01_prints_it() {
-        let printed = "year 2010\nrecords 1\nfossil-co2-kg 1900\nbiomass-co2-kg 0\n\
-                       ch4-kg 0\nn2o-kg 0\nco2e-kg 1902\nmust-report no\n";
-        assert_eq!(second::annual::text(&book(&fuel_sums()[0])), printed);
+    fn a_record_set_aside_is_printed_with_its_reason() {
         let p4 = second::annual::text(&book(&fuel_sums()[3]));
         assert_eq!(p4, "refused 41 record 0 reason 6\n");
     }
