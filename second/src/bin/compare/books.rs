@@ -5,6 +5,7 @@ mod limits;
 mod methods;
 mod readings;
 mod sizes;
+mod warming;
 
 use crate::exchange::{Exchange, Outcome};
 use crate::random::Random;
@@ -14,6 +15,7 @@ pub fn run(exchange: &mut Exchange, rng: &mut Random) -> Outcome<()> {
     limits::run(exchange, rng)?;
     methods::run(exchange, rng)?;
     decisions::run(exchange, rng)?;
+    warming::run(exchange, rng)?;
     readings::run(exchange, rng)?;
     sizes::run(exchange, rng)?;
     random_books::run(exchange, rng)

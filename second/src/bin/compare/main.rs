@@ -21,6 +21,7 @@ mod random_books;
 mod run;
 mod sample;
 mod specials;
+mod warming;
 mod worked;
 #[cfg(test)]
 mod wrong_peers;

@@ -22,7 +22,7 @@ const fn start(line: usize) -> u32 {
 }
 
 /// Starts about those of the sample: four records, two units, three fuels.
-const TRAILER: [Field; 6] = [
+const TRAILER: [Field; 7] = [
     field(0, 4, &[0x4243_5453]),
     field(4, 2, &[1]),
     field(6, 2, &[0]),
@@ -33,6 +33,7 @@ const TRAILER: [Field; 6] = [
     ),
     field(12, 4, &[start(3), start(4), start(6), start(9), start(10)]),
     field(16, 2, &[2000, 2099]),
+    field(20, 1, &[0, 1]),
 ];
 
 const UNIT: [Field; 4] = [
