@@ -4,7 +4,7 @@
 use second::answer::{Call, Frame};
 use second::replay::LONGEST_PART;
 
-use crate::draft::{unit, Draft, LINE};
+use crate::draft::{unit, Draft, LINE, SET_PLACE};
 use crate::exchange::{Exchange, Outcome};
 use crate::expectation::Field;
 use crate::job::{self, CHECKPOINT};
@@ -57,12 +57,19 @@ fn books(draft: &Draft) -> Vec<Numbered> {
         book
     };
     let short = sound[..sound.len() - 1].to_vec();
+    let third_set = |mut book: Vec<u8>| {
+        book[trailer + SET_PLACE] = 2;
+        book
+    };
     vec![
         (sound.clone(), 0),
-        (short, 20),
+        (short.clone(), 20),
         (Vec::new(), 20),
         (spoilt(&[trailer]), 21),
         (spoilt(&[units, fuels, trailer]), 21),
+        (third_set(sound.clone()), 21),
+        (third_set(spoilt(&[units, fuels])), 21),
+        (third_set(short), 20),
         (spoilt(&[units]), 22),
         (spoilt(&[units, fuels]), 22),
         (spoilt(&[fuels]), 23),
