@@ -9,6 +9,10 @@ pub const FIRST_SET: u8 = 0;
 pub const SECOND_SET: u8 = 1;
 pub const SETS: [u8; 2] = [FIRST_SET, SECOND_SET];
 
+pub fn other_set(set: u8) -> u8 {
+    FIRST_SET + SECOND_SET - set
+}
+
 pub type Line = [u8; LINE];
 
 /// The parts of a book; `bytes` puts them together with the trailer.

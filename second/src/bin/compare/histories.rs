@@ -1,6 +1,7 @@
 //! Group 4: wakes of all budgets from all sorts of checkpoints.
 
 mod breakages;
+mod changed_set;
 mod made_up;
 mod smallest;
 
@@ -19,7 +20,7 @@ pub fn run(exchange: &mut Exchange, rng: &mut Random) -> Outcome<()> {
     exchange.case("wakes of random budgets from older checkpoints");
     for _ in 0..BOOKS * exchange.run.settings.times {
         let book = random_books::book(rng).bytes();
-        older(exchange, rng, &book)?;
+        older(exchange, rng, &[book])?;
     }
     exchange.case("every budget from 0 to past n, and the greatest");
     for _ in 0..BOOKS / 20 * exchange.run.settings.times {
@@ -36,7 +37,8 @@ pub fn run(exchange: &mut Exchange, rng: &mut Random) -> Outcome<()> {
         foreign(exchange, rng)?;
     }
     made_up::run(exchange, rng)?;
-    smallest::run(exchange, rng)
+    smallest::run(exchange, rng)?;
+    changed_set::run(exchange, rng)
 }
 
 fn budget(rng: &mut Random) -> u32 {
@@ -49,18 +51,19 @@ fn budget(rng: &mut Random) -> u32 {
     }
 }
 
-/// Also the requirements' third demand, within second: the checkpoint at a place
-/// is the same bytes whatever the history.
-fn older(exchange: &mut Exchange, rng: &mut Random, book: &[u8]) -> Outcome<()> {
-    let start = job::fresh(exchange, book, &rng.junk(CHECKPOINT))?;
+/// Wakes under books that take turns; but for the set of warming values they
+/// are one book. Also the requirements' third demand, within second: the
+/// checkpoint at a place is the same bytes whatever the history.
+fn older(exchange: &mut Exchange, rng: &mut Random, books: &[Vec<u8>]) -> Outcome<()> {
+    let start = job::fresh(exchange, &books[0], &rng.junk(CHECKPOINT))?;
     let mut checkpoints = vec![start.output.clone()];
     let mut at_place: BTreeMap<[u8; 4], Vec<u8>> = BTreeMap::new();
-    for _ in 0..WAKES {
+    for turn in 0..WAKES {
         let from = rng.index(checkpoints.len());
         let budget = budget(rng);
         let after = job::wake(
             exchange,
-            book,
+            &books[turn % books.len()],
             &checkpoints[from],
             budget,
             &rng.junk(CHECKPOINT),
@@ -75,7 +78,9 @@ fn older(exchange: &mut Exchange, rng: &mut Random, book: &[u8]) -> Outcome<()> 
             same,
             "second's checkpoint at a place depends on the history",
         )?;
-        exchange.ask(&job::report_frame(book, &checkpoint, &[]))?;
+        for book in books {
+            exchange.ask(&job::report_frame(book, &checkpoint, &[]))?;
+        }
         checkpoints.push(checkpoint);
     }
     Ok(())
