@@ -1,5 +1,7 @@
 //! What was compared and found equal, counted by what the requirements tell apart.
 
+mod warming;
+
 use second::answer::{Answer, Call, NO_SUCH_RECORD};
 use second::bytes::u32_at;
 use second::replay::FRAME_HEAD;
@@ -7,6 +9,7 @@ use second::replay::FRAME_HEAD;
 use crate::draft::LINE;
 use crate::run::Run;
 use crate::specials::{class, is_usable, CLASSES, FLOW_LIMIT, PERCENT_LIMIT};
+use warming::WarmingCounts;
 
 const NUMBERS: [u8; 10] = [0, 20, 21, 22, 23, 30, 31, 32, 40, 41];
 /// "Numbers 20 to 23, 30, 31", and 0 where records are counted.
@@ -14,6 +17,9 @@ const NUMBERS_OF_LEFT: [u8; 7] = [0, 20, 21, 22, 23, 30, 31];
 const METHODS: [u8; 6] = [0, 1, 2, 3, 4, NO_SUCH_RECORD];
 const HOUR: u8 = 2;
 const SET_ASIDE: u8 = 41;
+
+/// Names and their counts.
+type Rows = Vec<(String, u64)>;
 
 #[derive(Default)]
 pub struct Counts {
@@ -26,6 +32,7 @@ pub struct Counts {
     ledgers: [u64; 3],
     percents: [u64; CLASSES.len()],
     flows: [u64; CLASSES.len()],
+    warming: WarmingCounts,
 }
 
 impl Counts {
@@ -37,6 +44,7 @@ impl Counts {
             return add_at(&mut self.numbers_of_left, &NUMBERS_OF_LEFT, number);
         }
         self.calls[usize::from(frame[0]) - 1] += 1;
+        self.warming.count(frame, answer);
         add_at(&mut self.numbers, &NUMBERS, number);
         if frame[0] == Call::Record as u8 && number == 0 {
             self.count_record(frame, answer);
@@ -76,8 +84,8 @@ impl Counts {
     }
 
     /// What is told apart, and for each part its name and count.
-    fn table(&self, asks_left: bool) -> Vec<(&'static str, Vec<(String, u64)>)> {
-        let named = |names: &[&str], counts: &[u64]| -> Vec<(String, u64)> {
+    fn table(&self, asks_left: bool) -> Vec<(&'static str, Rows)> {
+        let named = |names: &[&str], counts: &[u64]| -> Rows {
             let names = names.iter().map(|name| name.to_string());
             names.zip(counts.iter().copied()).collect()
         };
@@ -101,6 +109,7 @@ impl Counts {
             ("percent", named(&CLASSES, &self.percents)),
             ("flow", named(&CLASSES, &self.flows)),
         ];
+        table.extend(self.warming.table());
         if asks_left {
             let numbers = NUMBERS_OF_LEFT.iter().map(u8::to_string);
             let rows = numbers.zip(self.numbers_of_left).collect();
@@ -122,7 +131,7 @@ pub fn tell(run: &mut Run) {
     for (subject, rows) in run.counts.table(run.settings.asks_left) {
         for (name, count) in rows {
             let row = format!("{subject} {name}");
-            run.tell("counts", &format!("{row:<38}{count:>9}"), count > 0, "");
+            run.tell("counts", &format!("{row:<44}{count:>9}"), count > 0, "");
         }
     }
 }
