@@ -77,7 +77,6 @@ caught! {
     takes_minus_zero_for_less_than_zero by ["books", "histories"];
     turns_carbon_into_co2_by_44_over_12 by ALL;
     subtracts_all_biomass_always by ALL;
-    warms_by_25_for_ch4 by ALL;
     clears_the_output_when_it_refuses by ALL;
     wakes_to_the_end_whatever_the_budget by ["books", "damage", "histories"];
     knows_eight_reasons by ["damage", "histories"];
@@ -85,6 +84,19 @@ caught! {
     minds_the_output_buffer_first by ["histories"];
     tells_the_records_done_as_left by ALL;
     asks_if_a_checkpoint_is_sound_before_its_length by ["damage", "histories"];
+    pairs_25_with_310_in_the_first_set by ALL;
+    pairs_25_with_310_in_the_second_set by ["worked", "books", "damage", "histories"];
+    pairs_21_with_298_in_the_first_set by ALL;
+    pairs_21_with_298_in_the_second_set by ["worked", "books", "damage", "histories"];
+    takes_the_first_set_always by ["worked", "books", "damage", "histories"];
+    takes_the_second_set_always by ALL;
+    decides_by_the_first_set by ["books", "histories"];
+    tells_co2e_of_the_first_set by ["worked", "books", "damage", "histories"];
+    subtracts_biomass_by_the_first_set by ["books", "histories"];
+    accepts_a_third_set by ["books", "damage", "histories"];
+    keeps_the_set_in_the_checkpoint by ["worked", "books", "damage", "histories"];
+    reports_under_the_set_that_the_job_was_begun_with by ["books", "histories"];
+    ties_a_checkpoint_to_the_set by ["books", "damage", "histories"];
 }
 
 #[test]

@@ -2,6 +2,8 @@
 
 mod calls;
 mod records;
+mod warming;
 
 pub use calls::*;
 pub use records::*;
+pub use warming::*;

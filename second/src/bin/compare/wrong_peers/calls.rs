@@ -11,7 +11,7 @@ use crate::draft::{put, LINE};
 use crate::job::CHECKPOINT;
 
 /// Reports made from the right ledgers in a wrong way.
-fn reporting(frame: &Frame, wrong: fn(&Ledgers, Warming) -> Report) -> Answer {
+pub fn reporting(frame: &Frame, wrong: impl Fn(&Ledgers, Warming) -> Report) -> Answer {
     let mut answered = answer(frame);
     if frame.call == Call::Report && answered.head[0] == 0 {
         let book = Book::read(frame.book).expect("the report was given");
@@ -47,13 +47,6 @@ pub fn subtracts_all_biomass_always(frame: &Frame) -> Answer {
     reporting(frame, |ledgers, warming| Report {
         must_report: co2e(ledgers, warming) - ledgers.biomass >= 10_000 * NG_PER_TONNE,
         ..Report::of(ledgers, warming)
-    })
-}
-
-/// As later tables of warming potentials have it.
-pub fn warms_by_25_for_ch4(frame: &Frame) -> Answer {
-    reporting(frame, |ledgers, warming| {
-        Report::of(ledgers, Warming { ch4: 25, ..warming })
     })
 }
 
