@@ -8,6 +8,7 @@ import shlex
 
 from program_annual import try_reports, try_set_aside
 from program_jobs import plan_plant
+from program_kept import try_kept_answers
 from program_lines import try_plant
 from program_replay import try_answers, try_heads
 from program_runs import Cases, Programs, Wrong, expect, memory_folder
@@ -20,8 +21,12 @@ WRONG = [
     ("annual", "a line is missing", "spoil sed /^co2e/d", try_reports),
     ("annual", "a blank line follows", "spoil sed '$G'", try_reports),
     ("annual", "a refusal is no status", 'real "$@"; exit 0', try_set_aside),
+    ("annual", "every site must report", "spoil sed 's/^must-report no/must-report yes/'",
+     try_kept_answers),
     ("lines", "one mass is off", "spoil sed '1s/ch4-ng /ch4-ng 9/'", try_plant),
     ("lines", "the last record is missing", "spoil sed '$d'", try_plant),
+    ("lines", "a half of R goes up", "spoil sed 's/co2-ug 32116 /co2-ug 32634 /'",
+     try_kept_answers),
     ("replay", "it says nothing", "spoil true", try_answers),
     ("replay", "a wrong head is no failure", 'real "$@"; exit 0', try_heads),
     ("replay", "a wrong head isn't told", 'real "$@" 2>/dev/null', try_heads),
@@ -29,6 +34,9 @@ WRONG = [
     ("wake", "done is one too many", "spoil sed 's/^done 100/done 101/'", try_jobs),
     ("wake", "its copy is another book's",
      'real "$@"; end=$?; echo >>"$3.book"; exit "$end"', try_jobs),
+    ("wake", "a rest in its checkpoint is off",
+     'real "$@"; end=$?; printf "\\377" | dd of="$3" bs=1 seek=24 conv=notrunc status=none; '
+     'exit "$end"', try_kept_answers),
     ("wake", "it keeps no copy", 'real "$@"; end=$?; rm "$3.book"; exit "$end"', try_jobs),
 ]
 # For the body of a stand-in: the real output goes through a command.

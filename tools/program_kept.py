@@ -1,0 +1,56 @@
+"""The books in tools/kept, of which every program prints and saves what is kept beside them."""
+import collections
+
+from program_jobs import ALL, Plan, job_on
+from program_runs import ROOT, expect, expect_told
+
+FOLDER = ROOT / "tools/kept"
+NAMES = ("biomass", "empty", "hours", "methods", "reasons")
+STEP = 3  # records of a wake, which divides the number of some books' records and not of others
+
+Kept = collections.namedtuple("Kept", "book annual lines checkpoint")
+
+
+def kept_books():
+    """Each name with the book and its answers."""
+    for name in NAMES:
+        yield name, Kept(*((FOLDER / f"{name}.{part}").read_bytes() for part in Kept._fields))
+
+
+def try_kept_folder(cases):
+    """A file that got lost would be a promise less, and one that nobody reads is none."""
+    with cases.case("tools/kept: its files are those that are tried"):
+        files = [f"{name}.{part}" for name in NAMES for part in Kept._fields]
+        expect(sorted(path.name for path in FOLDER.iterdir()), sorted(["README.md", *files]),
+               "the list of files")
+
+
+def wake_to_end(programs, kept, budget):
+    """A job from a fresh start, in wakes of this budget."""
+    plan = Plan(kept.book, [], kept.annual)
+    with job_on(programs, kept.book) as job:
+        for place in range(0, max(1, plan.count), budget):
+            expect_told(job.wake(budget), plan.told(place, budget))
+        job.expect_saved(kept.checkpoint)
+
+
+def try_kept_answers(programs, cases):
+    for name, kept in kept_books():
+        with cases.case(f"annual: tools/kept/{name}.book"):
+            expect_told(programs.run("annual", data=kept.book), kept.annual)
+        with cases.case(f"lines: tools/kept/{name}.book"):
+            expect_told(programs.run("lines", data=kept.book), kept.lines)
+        with cases.case(f"wake: tools/kept/{name}.book, at once"):
+            wake_to_end(programs, kept, int(ALL))
+
+
+def try_kept_steps(programs, cases):
+    for name, kept in kept_books():
+        with cases.case(f"wake: tools/kept/{name}.book, by {STEP} records"):
+            wake_to_end(programs, kept, STEP)
+
+
+def try_kept(programs, cases):
+    try_kept_folder(cases)
+    try_kept_answers(programs, cases)
+    try_kept_steps(programs, cases)
