@@ -1,112 +1,9 @@
-/*
- * Makes every call twice, of the library and of the plain C, and stops the program where reply or
- * buffer differ. Times are of no use if the two don't do the same work.
- */
+/* The books and checkpoints on which every call is compared. */
 #include "compare.h"
 
-#include "plain.h"
-#include "wetherstep.h"
+#include "compare_calls.h"
 
-#include <inttypes.h>
-#include <stdio.h>
-#include <stdlib.h>
-#include <string.h>
-
-enum { ROOM = 128, SIZE = WETHERSTEP_CHECKPOINT_SIZE, FUZZED = 30000 };
-
-enum call { FRESH, WAKE, REPORT, LEFT, RECORD, CALLS };
-enum field { NUMBER, REASON, METHOD, LEDGER, FIELDS }; /* the lowest bytes of a reply */
-
-static const char *const calls[CALLS] = {"fresh", "wake", "report", "left", "record"};
-static const char *const fields[FIELDS] = {"number", "reason", "method", "ledger"};
-
-static unsigned long compared, counts[CALLS][FIELDS][256];
-
-/* A buffer longer than any output, filled, so that a byte too many or too few shows. */
-struct out {
-    uint8_t bytes[ROOM];
-};
-
-static struct out filled(void)
-{
-    struct out out;
-    memset(out.bytes, 0x5a, sizeof out.bytes);
-    return out;
-}
-
-/* Method and ledger are counted where they are told: of a record that is there and isn't set aside,
-   the method also where there is no record. */
-static void count(enum call call, uint64_t reply)
-{
-    counts[call][NUMBER][wetherstep_number(reply)]++;
-    counts[call][REASON][wetherstep_reason(reply)]++;
-    if (wetherstep_number(reply) != 0 || wetherstep_reason(reply) != 0)
-        return;
-    counts[call][METHOD][wetherstep_method(reply)]++;
-    if (wetherstep_method(reply) != WETHERSTEP_NO_RECORD)
-        counts[call][LEDGER][wetherstep_ledger(reply)]++;
-}
-
-static void same(const char *name, enum call call, uint64_t library, uint64_t plain,
-                 const void *library_out, const void *plain_out, size_t length)
-{
-    compared++;
-    count(call, plain);
-    if (library == plain && memcmp(library_out, plain_out, length) == 0)
-        return;
-    printf("%s: %s differs: library %016" PRIx64 ", C %016" PRIx64 "\n", name, calls[call], library,
-           plain);
-    exit(1);
-}
-
-static struct out compare_fresh(const struct bytes *b, const char *name, size_t out_len)
-{
-    struct out one = filled(), two = filled();
-    uint64_t library = wetherstep_fresh(b->book, b->length, one.bytes, out_len);
-    uint64_t plain = plain_fresh(b->book, b->length, two.bytes, out_len);
-    same(name, FRESH, library, plain, &one, &two, sizeof one);
-    return one;
-}
-
-/* How many records were gone through; the new checkpoint is left in `from` if there is one. */
-static uint32_t compare_wake(const struct bytes *b, const char *name, struct out *from,
-                             size_t from_len, uint32_t budget, size_t out_len)
-{
-    struct out one = filled(), two = filled();
-    uint64_t library =
-        wetherstep_wake(b->book, b->length, from->bytes, from_len, budget, one.bytes, out_len);
-    uint64_t plain =
-        plain_wake(b->book, b->length, from->bytes, from_len, budget, two.bytes, out_len);
-    same(name, WAKE, library, plain, &one, &two, sizeof one);
-    if (wetherstep_number(plain) == 0)
-        *from = one;
-    return wetherstep_count(plain);
-}
-
-static void compare_report(const struct bytes *b, const char *name, const struct out *from,
-                           size_t from_len)
-{
-    uint64_t one[8] = {9, 9, 9, 9, 9, 9, 9, 9}, two[8] = {9, 9, 9, 9, 9, 9, 9, 9};
-    uint64_t library = wetherstep_report(b->book, b->length, from->bytes, from_len, one);
-    uint64_t plain = plain_report(b->book, b->length, from->bytes, from_len, two);
-    same(name, REPORT, library, plain, one, two, sizeof one);
-}
-
-static void compare_left(const struct bytes *b, const char *name, const struct out *from,
-                         size_t from_len)
-{
-    uint64_t library = wetherstep_left(b->book, b->length, from->bytes, from_len);
-    uint64_t plain = plain_left(b->book, b->length, from->bytes, from_len);
-    same(name, LEFT, library, plain, "", "", 0);
-}
-
-static void compare_record(const struct bytes *b, const char *name, uint32_t index)
-{
-    uint64_t one[5] = {9, 9, 9, 9, 9}, two[5] = {9, 9, 9, 9, 9};
-    uint64_t library = wetherstep_record(b->book, b->length, index, one);
-    uint64_t plain = plain_record(b->book, b->length, index, two);
-    same(name, RECORD, library, plain, one, two, sizeof one);
-}
+enum { FUZZED = 30000 };
 
 /* Every record, and two that aren't there. */
 static void compare_records(const struct bytes *b, const char *name)
@@ -180,30 +77,6 @@ static void compare_too_many(struct bytes *b)
     compare_book(b, fuels.name);
 }
 
-/* What each call has to have answered. */
-static void see_all(void)
-{
-    static const struct {
-        enum call call;
-        enum field field;
-        unsigned least, most;
-    } due[] = {
-        {FRESH, NUMBER, 0, 0},   {FRESH, NUMBER, 20, 23},  {FRESH, NUMBER, 32, 32},
-        {WAKE, NUMBER, 0, 0},    {WAKE, NUMBER, 20, 23},   {WAKE, NUMBER, 30, 32},
-        {REPORT, NUMBER, 0, 0},  {REPORT, NUMBER, 20, 23}, {REPORT, NUMBER, 30, 31},
-        {REPORT, NUMBER, 40, 41}, {REPORT, REASON, 1, 7},
-        {LEFT, NUMBER, 0, 0},    {LEFT, NUMBER, 20, 23},   {LEFT, NUMBER, 30, 31},
-        {RECORD, NUMBER, 0, 0},  {RECORD, NUMBER, 20, 23}, {RECORD, REASON, 1, 7},
-        {RECORD, METHOD, 0, 4},  {RECORD, METHOD, 255, 255}, {RECORD, LEDGER, 0, 2},
-    };
-    for (size_t i = 0; i < sizeof due / sizeof *due; i++)
-        for (unsigned x = due[i].least; x <= due[i].most; x++)
-            if (counts[due[i].call][due[i].field][x] == 0) {
-                printf("no %s answered with %s %u\n", calls[due[i].call], fields[due[i].field], x);
-                exit(1);
-            }
-}
-
 void compare_damaged(void)
 {
     static struct bytes b;
@@ -223,7 +96,5 @@ void compare_damaged(void)
         compare_book(&b, "damaged");
     }
     compare_too_many(&b);
-    see_all();
-    printf("compared: %lu calls, every number, reason, method and ledger among them; all alike\n",
-           compared);
+    tell_compared();
 }
