@@ -114,7 +114,12 @@ void make_book(struct bytes *b, const struct recipe *recipe)
     write(trailer + 4, 1, 2);
     write(trailer + 8, (uint32_t)(BOOK_LINE * n), 4);
     write(trailer + 12, (uint32_t)(BOOK_LINE * (n + recipe->units)), 4);
-    write(trailer + 16, 2010, 2);
+    write(trailer + YEAR_AT, 2010, 2);
+}
+
+size_t in_trailer(const struct bytes *b, size_t at)
+{
+    return b->length - BOOK_LINE + at;
 }
 
 /* Unit 0 has a monitor in a mixed book, unit 1 is small, unit 2 big, and no unit has number 1. */

@@ -5,7 +5,8 @@
 #include <stddef.h>
 #include <stdint.h>
 
-enum { LONGEST_BOOK = 65536, BOOK_LINE = 32 };
+enum { LONGEST_BOOK = 65536, BOOK_LINE = 32, WARMING_SETS = 2 };
+enum { YEAR_AT = 16, SET_AT = 20 }; /* bytes of the trailer */
 
 enum mix { MIXED, ALL_FUEL, ALL_HOURS };
 
@@ -23,8 +24,11 @@ struct bytes {
 /* A number below `limit`, the next of a fixed row. */
 uint32_t draw(uint64_t *row, uint32_t limit);
 
-/* A sound book, every record of which counts. */
+/* A sound book, every record of which counts. It has the first set of warming values. */
 void make_book(struct bytes *b, const struct recipe *recipe);
+
+/* Where this byte of the trailer stands in a book. */
+size_t in_trailer(const struct bytes *b, size_t at);
 
 /* Makes record i of a mixed book one with this reason, 1 to 7. For 7 the last fuel line loses its
    default heat. */

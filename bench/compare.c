@@ -3,7 +3,11 @@
 
 #include "compare_calls.h"
 
-enum { FUZZED = 30000 };
+#include <string.h>
+
+enum { FUZZED = 30000, DRAWN = 20000 };
+
+static const struct recipe small = {"small", MIXED, 10, 4, 4};
 
 /* Every record, and two that aren't there. */
 static void compare_records(const struct bytes *b, const char *name)
@@ -22,7 +26,9 @@ static void damage(uint8_t *bytes, size_t length, uint64_t *row)
     *at = choices[draw(row, 6)];
 }
 
-void compare_book(const struct bytes *b, const char *name)
+/* Every call on a book, by wakes of several budgets, from checkpoints that were damaged too, and a
+   look at every record. */
+static void compare_book(const struct bytes *b, const char *name)
 {
     static const uint32_t budgets[] = {0, 1, 10, 100, UINT32_MAX};
     uint64_t row = 3;
@@ -40,6 +46,72 @@ void compare_book(const struct bytes *b, const char *name)
         compare_report(b, name, &at, SIZE);
     }
     compare_records(b, name);
+}
+
+static void make_under(struct bytes *b, const struct recipe *recipe, unsigned set)
+{
+    make_book(b, recipe);
+    b->book[in_trailer(b, SET_AT)] = (uint8_t)set;
+}
+
+void compare_sets(struct bytes *b, const struct recipe *recipe)
+{
+    for (unsigned set = 0; set < WARMING_SETS; set++) {
+        make_under(b, recipe, set);
+        compare_book(b, recipe->name);
+    }
+}
+
+/* Every number of a set, and beside each that is right the bytes that have to be 0. */
+static void compare_trailers(struct bytes *b)
+{
+    for (unsigned set = 0; set < 256; set++) {
+        make_under(b, &small, set);
+        compare_book(b, "set");
+    }
+    for (unsigned set = 0; set < WARMING_SETS; set++)
+        for (size_t at = YEAR_AT + 2; at < BOOK_LINE; at++) {
+            make_under(b, &small, set);
+            b->book[in_trailer(b, at)] ^= 128;
+            compare_book(b, "trailer");
+        }
+}
+
+/* A checkpoint knows no set: begun under one it goes on and is reported under the other. */
+static void compare_other_set(struct bytes *b)
+{
+    for (unsigned set = 0; set < WARMING_SETS; set++) {
+        make_under(b, &small, set);
+        struct out at = compare_fresh(b, "other set", SIZE);
+        compare_wake(b, "other set", &at, SIZE, 4, SIZE);
+        b->book[in_trailer(b, SET_AT)] ^= 1;
+        compare_left(b, "other set", &at, SIZE);
+        compare_wake(b, "other set", &at, SIZE, UINT32_MAX, SIZE);
+        compare_report(b, "other set", &at, SIZE);
+        b->book[in_trailer(b, SET_AT)] ^= 1;
+        compare_report(b, "other set", &at, SIZE);
+    }
+}
+
+/* Whole tonnes about the limits of the decision, in a checkpoint that no wake made. It is reported
+   under both sets. */
+static void compare_decisions(struct bytes *b)
+{
+    static const uint32_t limits[4] = {8000, 20000, 100, 40}; /* fossil, biomass, CH4 and N2O */
+    uint64_t row = 7;
+    make_under(b, &small, 0);
+    struct out at = compare_fresh(b, "decisions", SIZE);
+    compare_wake(b, "decisions", &at, SIZE, UINT32_MAX, SIZE);
+    for (int i = 0; i < DRAWN; i++) {
+        for (int g = 0; g < 4; g++) {
+            const uint64_t ledger[2] = {draw(&row, limits[g]), 0};
+            memcpy(at.bytes + 16 + 16 * g, ledger, sizeof ledger);
+        }
+        for (unsigned set = 0; set < WARMING_SETS; set++) {
+            b->book[in_trailer(b, SET_AT)] = (uint8_t)set;
+            compare_report(b, "decisions", &at, SIZE);
+        }
+    }
 }
 
 /* Lengths that are wrong, one at a time and together. */
@@ -77,24 +149,33 @@ static void compare_too_many(struct bytes *b)
     compare_book(b, fuels.name);
 }
 
+/* Each reason, and a byte or two damaged, in a small book of this set. */
+static void compare_faults(struct bytes *b, unsigned set)
+{
+    uint64_t row = 5;
+    for (unsigned reason = 1; reason <= 7; reason++) {
+        make_under(b, &small, set);
+        spoil(b, 0, reason);
+        compare_book(b, "spoiled");
+    }
+    for (int i = 0; i < FUZZED; i++) {
+        make_under(b, &small, set);
+        for (uint32_t more = 1 + draw(&row, 2); more != 0; more--)
+            damage(b->book, b->length, &row);
+        compare_book(b, "damaged");
+    }
+}
+
 void compare_damaged(void)
 {
     static struct bytes b;
-    const struct recipe small = {"small", MIXED, 10, 4, 4};
-    uint64_t row = 5;
     make_book(&b, &small);
     compare_lengths(&b);
-    for (unsigned reason = 1; reason <= 7; reason++) {
-        make_book(&b, &small);
-        spoil(&b, 0, reason);
-        compare_book(&b, "spoiled");
-    }
-    for (int i = 0; i < FUZZED; i++) {
-        make_book(&b, &small);
-        for (uint32_t more = 1 + draw(&row, 2); more != 0; more--)
-            damage(b.book, b.length, &row);
-        compare_book(&b, "damaged");
-    }
+    for (unsigned set = 0; set < WARMING_SETS; set++)
+        compare_faults(&b, set);
+    compare_trailers(&b);
+    compare_other_set(&b);
+    compare_decisions(&b);
     compare_too_many(&b);
     tell_compared();
 }

@@ -4,12 +4,12 @@
 
 #include "books.h"
 
-/* Every call on a book, by wakes of several budgets, from checkpoints that were damaged too, and a
-   look at every record. */
-void compare_book(const struct bytes *b, const char *name);
+/* Every call on a recipe's book, under each set of warming values. */
+void compare_sets(struct bytes *b, const struct recipe *recipe);
 
-/* Books and buffers that are refused, and records set aside. Says how many calls were compared, and
-   stops unless each call gave every number, reason, method and ledger that it can. */
+/* Books and buffers that are refused, records set aside, and sets of warming values that change
+   between two calls. Says how many calls were compared, and stops unless each call gave all that
+   it can. */
 void compare_damaged(void);
 
 #endif

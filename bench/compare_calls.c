@@ -20,6 +20,9 @@ static const char *const fields[FIELDS] = {"number", "reason", "method", "ledger
 
 static unsigned long compared, counts[CALLS][FIELDS][256];
 
+/* Reports by the book's set of warming values and by the decision, 1 if the site must report. */
+static unsigned long reports[WARMING_SETS][2];
+
 static struct out filled(void)
 {
     struct out out;
@@ -82,6 +85,8 @@ void compare_report(const struct bytes *b, const char *name, const struct out *f
     uint64_t library = wetherstep_report(b->book, b->length, from->bytes, from_len, one);
     uint64_t plain = plain_report(b->book, b->length, from->bytes, from_len, two);
     same(name, REPORT, library, plain, one, two, sizeof one);
+    if (wetherstep_number(plain) == 0)
+        reports[b->book[in_trailer(b, SET_AT)]][two[5]]++;
 }
 
 void compare_left(const struct bytes *b, const char *name, const struct out *from, size_t from_len)
@@ -123,9 +128,21 @@ static void see_all(void)
             }
 }
 
+static void see_reports(void)
+{
+    for (int set = 0; set < WARMING_SETS; set++)
+        for (int decision = 0; decision < 2; decision++)
+            if (reports[set][decision] == 0) {
+                printf("no report under set %d had the decision %d\n", set, decision);
+                exit(1);
+            }
+}
+
 void tell_compared(void)
 {
     see_all();
-    printf("compared: %lu calls, every number, reason, method and ledger among them; all alike\n",
-           compared);
+    see_reports();
+    printf("compared: %lu calls, every number, reason, method and ledger among them; all alike\n"
+           "reports with figures: %lu under the first warming values, %lu under the second\n",
+           compared, reports[0][0] + reports[0][1], reports[1][0] + reports[1][1]);
 }

@@ -8,7 +8,6 @@
 #include "stack.h"
 #include "wetherstep.h"
 
-#include <stdbool.h>
 #include <stdio.h>
 #include <stdlib.h>
 #include <string.h>
@@ -125,12 +124,10 @@ static void row(const char *name, size_t records, struct times t, double parts)
     fflush(stdout);
 }
 
-static struct job begin(struct bytes *b, const struct recipe *recipe, bool compare)
+static struct job begin(struct bytes *b, const struct recipe *recipe)
 {
     struct job job = {b, {0}, {0}, 0};
     make_book(b, recipe);
-    if (compare)
-        compare_book(b, recipe->name);
     plain_fresh(b->book, b->length, job.start, SIZE);
     plain_wake(b->book, b->length, job.start, SIZE, UINT32_MAX, job.at, SIZE);
     return job;
@@ -152,7 +149,7 @@ static void time_books(struct bytes *b)
 {
     head("fresh start, one wake, report", "ns/record");
     for (int i = 0; i < BOOKS; i++) {
-        struct job job = begin(b, &books[i], false);
+        struct job job = begin(b, &books[i]);
         row(books[i].name, b->records, measure(do_whole, &job), (double)b->records);
     }
 }
@@ -163,7 +160,7 @@ static void time_wakes(struct bytes *b)
     head("a full book by wakes", "ns/wake");
     for (int i = 0; i < BOOKS; i++)
         for (int j = 0; j < 3 && books[i].mix == MIXED && books[i].records == 0; j++) {
-            struct job job = begin(b, &books[i], false);
+            struct job job = begin(b, &books[i]);
             char name[64];
             size_t wakes = (b->records + budgets[j] - 1) / budgets[j];
             job.budget = budgets[j];
@@ -186,7 +183,7 @@ static void time_openings(struct bytes *b)
     head("a book opened, and no more", "ns/call");
     for (int i = 0; i < BOOKS; i++)
         if (books[i].mix == MIXED && (books[i].records == 0 || books[i].records == 1)) {
-            struct job job = begin(b, &books[i], false);
+            struct job job = begin(b, &books[i]);
             time_opening(&job, &books[i], do_one_wake, "wake of 0");
             time_opening(&job, &books[i], do_report, "report");
         }
@@ -199,7 +196,7 @@ static void time_growth(struct bytes *b)
     head("a wake of all less a wake of none", "ns/record");
     for (int i = 0; i < 3; i++) {
         const struct recipe recipe = {"mixed, 8 units, 8 fuels", MIXED, sizes[i], 8, 8};
-        struct job job = begin(b, &recipe, false);
+        struct job job = begin(b, &recipe);
         struct times none = measure(do_one_wake, &job);
         job.budget = UINT32_MAX;
         struct times all = measure(do_one_wake, &job);
@@ -254,7 +251,7 @@ static void tell_stack(struct bytes *b)
     enum { CALLS = sizeof calls / sizeof *calls };
     size_t most[CALLS] = {0};
     for (int i = 0; i < BOOKS; i++) {
-        struct job job = begin(b, &books[i], false);
+        struct job job = begin(b, &books[i]);
         job.budget = UINT32_MAX;
         deep = &job;
         for (int j = 0; j < CALLS; j++) {
@@ -272,7 +269,7 @@ int main(int count, char **words)
 {
     static struct bytes b;
     for (int i = 0; i < BOOKS; i++)
-        begin(&b, &books[i], true);
+        compare_sets(&b, &books[i]);
     compare_damaged();
     if (count > 1 && strcmp(words[1], "compare") == 0)
         return 0;

@@ -10,7 +10,7 @@
 #include <stdbool.h>
 #include <string.h>
 
-enum { LINE = BOOK_LINE, MOST_LINES = 64, SMALL_RATING = 2500 };
+enum { LINE = BOOK_LINE, SETS = WARMING_SETS, MOST_LINES = 64, SMALL_RATING = 2500 };
 
 struct unit {
     bool monitored, small;
@@ -23,7 +23,7 @@ struct fuel {
 
 struct book {
     const uint8_t *records;
-    uint32_t n, length, year, units, fuels;
+    uint32_t n, length, year, set, units, fuels; /* set: of warming values, below SETS */
     uint16_t unit_number[MOST_LINES], fuel_number[MOST_LINES];
     struct unit unit[MOST_LINES];
     struct fuel fuel[MOST_LINES];
@@ -118,7 +118,8 @@ static bool decode_trailer(struct book *k, const uint8_t *bytes, uint32_t length
     k->units = (fuels - units) / LINE;
     k->fuels = (length - LINE - fuels) / LINE;
     k->year = read32(t + 16); /* with the two blank bytes behind it */
-    return in_range(k->year, 2000, 2099) && (read32(t + 20) | read64(t + 24)) == 0;
+    k->set = read32(t + 20);  /* with the three behind it */
+    return in_range(k->year, 2000, 2099) && k->set < SETS && read64(t + 24) == 0;
 }
 
 static unsigned open_book(struct book *k, const uint8_t *bytes, size_t length)
