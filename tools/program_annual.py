@@ -45,6 +45,12 @@ REFUSED = {
     "another signature": (21, patch(ONE, TRAILER, b"STCA")),
     "version 2": (21, patch(ONE, TRAILER + 4, b"\2")),
     "a byte of the trailer that must be 0": (21, patch(ONE, TRAILER + 6, b"\1")),
+    "a third set of warming values": (21, book(warming_set=2)),
+    "warming values of set 255": (21, book(warming_set=255)),
+    "byte 18 of the trailer": (21, patch(ONE, TRAILER + 18, b"\1")),
+    "byte 19 of the trailer": (21, patch(ONE, TRAILER + 19, b"\x80")),
+    "byte 21 of the trailer": (21, patch(ONE, TRAILER + 21, b"\1")),
+    "byte 31 of the trailer": (21, patch(ONE, TRAILER + 31, b"\x80")),
     "year 1999": (21, book(year=1999)),
     "year 2100": (21, book(year=2100)),
     "unit lines past fuel lines": (21, ONE[:TRAILER] + trailer(3 * LINE, 2 * LINE)),
@@ -65,12 +71,18 @@ REFUSED = {
 }
 
 
-def site(fossil, biomass):
-    """A book with so many tonnes of each CO2 alone: a unit of fuel gives one kilogram."""
+def site(fossil, biomass, ch4=0, n2o=0, warming_set=0):
+    """A book with so many tonnes of each ledger. A unit of fuel gives a kilogram of CO2, or 10 g of
+    CH4 or of N2O; the CO2 of these two is left to their unit's monitor, which has no hours."""
     gas = fuel_line(1, 3, 0, heat=100_000, co2=10_000, ch4=0, n2o=0)
     wood = fuel_line(2, 1, 3, heat=100_000, co2=10_000, ch4=0, n2o=0)
-    burned = [fuel_record(1000 * fossil), fuel_record(1000 * biomass, fuel=2)]
-    return book(burned, fuels=[gas, wood])
+    methane = fuel_line(3, 3, 0, heat=100_000, co2=1, ch4=100_000, n2o=0)
+    nitrous = fuel_line(4, 3, 0, heat=100_000, co2=1, ch4=0, n2o=100_000)
+    burned = [fuel_record(1000 * fossil), fuel_record(1000 * biomass, fuel=2),
+              fuel_record(100_000 * ch4, unit=2, fuel=3),
+              fuel_record(100_000 * n2o, unit=2, fuel=4)]
+    return book(burned, [unit_line(1), unit_line(2, monitor=True)], [gas, wood, methane, nitrous],
+                warming_set=warming_set)
 
 
 # Tonnes of fossil and biomass CO2, and the decision that the requirements work out by hand.

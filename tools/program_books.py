@@ -9,7 +9,8 @@ KILOGRAM, TONNE = 10**12, 10**15  # in ng
 LINE, LONGEST = 32, 65_536  # bytes of a line, and of the longest book
 CHECKPOINT = 96  # bytes
 LONGEST_PART = 131_072  # bytes that a frame may have of a book, a checkpoint and a buffer each
-CH4_WARMING, N2O_WARMING = 21, 310
+SET_AT = 20  # the byte of the trailer that names a book's set of warming values
+WARMING = ((21, 310), (25, 298))  # those of CH4 and N2O, by set
 LEDGERS = ("fossil", "biomass", "ch4", "n2o")
 
 
@@ -35,15 +36,17 @@ def fuel_line(number=1, kind=3, fuel_class=1, heat=38000, co2=50000, ch4=900, n2
     return pad(struct.pack("<HBBIIII", number, kind, fuel_class, heat, co2, ch4, n2o))
 
 
-def trailer(units_at, fuels_at, year=2010, version=1):
-    return pad(b"STCB" + struct.pack("<HxxIIH", version, units_at, fuels_at, year))
+def trailer(units_at, fuels_at, year=2010, version=1, warming_set=0):
+    return pad(b"STCB" + struct.pack("<HxxIIHxxB", version, units_at, fuels_at, year, warming_set))
 
 
-def book(records=(fuel_record(),), units=(unit_line(),), fuels=(fuel_line(),), year=2010):
+def book(records=(fuel_record(),), units=(unit_line(),), fuels=(fuel_line(),), year=2010,
+         warming_set=0):
     """A book of these lines. As it stands, the one of docs/FORMAT.md."""
     units_at = LINE * len(records)
     fuels_at = units_at + LINE * len(units)
-    return b"".join([*records, *units, *fuels, trailer(units_at, fuels_at, year)])
+    last = trailer(units_at, fuels_at, year, warming_set=warming_set)
+    return b"".join([*records, *units, *fuels, last])
 
 
 def patch(content, at, new):
@@ -56,6 +59,15 @@ def count_of(content):
 
 def year_of(content):
     return struct.unpack_from("<H", content, len(content) - LINE + 16)[0]
+
+
+def set_of(content):
+    return content[len(content) - LINE + SET_AT]
+
+
+def under_set(content, warming_set):
+    """The book with another set of warming values, and the same in all else."""
+    return patch(content, len(content) - LINE + SET_AT, bytes([warming_set]))
 
 
 def checkpoint(of, done=0, ledgers=(0, 0, 0, 0), aside=0, first=0, reason=0):
@@ -79,7 +91,8 @@ def must_report(total, biomass):
 def report(of, ledgers):
     """What is printed of a book whose records give these ledgers, in ng."""
     fossil, biomass, ch4, n2o = ledgers
-    total = fossil + biomass + CH4_WARMING * ch4 + N2O_WARMING * n2o
+    ch4_warming, n2o_warming = WARMING[set_of(of)]
+    total = fossil + biomass + ch4_warming * ch4 + n2o_warming * n2o
     figures = zip(("fossil-co2", "biomass-co2", "ch4", "n2o", "co2e"), (*ledgers, total))
     lines = [f"year {year_of(of)}", f"records {count_of(of)}"]
     lines += [f"{name}-kg {kilograms(mass)}" for name, mass in figures]

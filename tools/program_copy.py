@@ -2,7 +2,7 @@
 holds the book that the checkpoint stands for, so no figure of the one is added to the other's."""
 from program_annual import FULL, ONE, P1_MASSES, REFUSED, ROOM
 from program_books import CHECKPOINT, LINE, book, checkpoint, count_of, fuel_record, patch, report
-from program_books import trailer, unit_line
+from program_books import trailer, under_set, unit_line
 from program_jobs import ALL, Plan, job_on, plan_by_lines, plan_plant, plans_by_replay
 from program_runs import FAILED, expect, expect_answer, expect_failure, expect_told
 from program_wake import LEFT, expect_replaced
@@ -36,6 +36,7 @@ def changes(of):
             "it has a record less": resize(of, count - 1),
             "it has no record left": resize(of, 0),
             "the year is another": patch(of, len(of) - LINE + 16, b"\xdb\x07"),
+            "the warming values are others": under_set(of, 1),
             "a unit's rating is another": patch(of, LINE * count + 4, b"\x01\x00")}
 
 

@@ -13,6 +13,14 @@ from program_lines import try_plant
 from program_replay import try_answers, try_heads
 from program_runs import Cases, Programs, Wrong, expect, memory_folder
 from program_wake import try_jobs
+from program_warming import try_warming_changes, try_warming_reports
+
+
+def with_set(number):
+    """For a body: the real program reads the book with this set of warming values."""
+    return (f'cat >"$scratch/of"; printf "\\{number}" | dd of="$scratch/of" bs=1 conv=notrunc '
+            'seek=$(($(wc -c <"$scratch/of") - 12)) status=none; real "$@" <"$scratch/of"')
+
 
 # Each stand-in spoils one program's output, its end or its file. Its status stays the program's own
 # where that isn't the fault.
@@ -23,6 +31,8 @@ WRONG = [
     ("annual", "a refusal is no status", 'real "$@"; exit 0', try_set_aside),
     ("annual", "every site must report", "spoil sed 's/^must-report no/must-report yes/'",
      try_kept_answers),
+    ("annual", "the first warming values are every book's", with_set(0), try_warming_reports),
+    ("annual", "the second warming values are every book's", with_set(1), try_kept_answers),
     ("lines", "one mass is off", "spoil sed '1s/ch4-ng /ch4-ng 9/'", try_plant),
     ("lines", "the last record is missing", "spoil sed '$d'", try_plant),
     ("lines", "a half of R goes up", "spoil sed 's/co2-ug 32116 /co2-ug 32634 /'",
@@ -37,6 +47,8 @@ WRONG = [
     ("wake", "a rest in its checkpoint is off",
      'real "$@"; end=$?; printf "\\377" | dd of="$3" bs=1 seek=24 conv=notrunc status=none; '
      'exit "$end"', try_kept_answers),
+    ("wake", "it passes over an edited book",
+     'cp "$2" "$3.book" 2>/dev/null; real "$@"', try_warming_changes),
     ("wake", "it keeps no copy", 'real "$@"; end=$?; rm "$3.book"; exit "$end"', try_jobs),
 ]
 # For the body of a stand-in: the real output goes through a command.
