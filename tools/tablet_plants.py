@@ -96,7 +96,7 @@ def try_refused(programs, cases, plans):
     three = {name: plans[name] for name in "acd"}
     spoils = {f"of a book, {name}": refuse_book(*refused) for name, refused in REFUSED.items()}
     for number, saved in ((30, b""), (30, bytes(CHECKPOINT + 1)), (31, bytes(CHECKPOINT)),
-                          (31, checkpoint(plans["a"].book, 1))):
+                          (31, checkpoint(plans["b"].book, 1))):
         for is_copied in (True, False):
             name = f"a checkpoint of {len(saved)} bytes, copied {is_copied}, {saved[:1]!r}"
             spoils[name] = refuse_checkpoint(number, saved, is_copied)
