@@ -24,7 +24,7 @@
  * WHAT A CALL TAKES. The library keeps no state between calls, allocates nothing and doesn't call
  * the operating system. It is re-entrant: calls may run at once, each with buffers of its own to
  * write to, and may read the same book. Of the C library memcpy alone is linked. A call's stack in
- * bytes, measured by bench/run and not proved: fresh 304, wake 1,328, report 320, left 224, record
+ * bytes, measured by bench/run and not proved: fresh 320, wake 1,344, report 336, left 240, record
  * 192.
  */
 #ifndef WETHERSTEP_H
@@ -129,7 +129,8 @@ static inline uint32_t wetherstep_count(uint64_t reply) { return (uint32_t)(repl
 
 /*
  * FIGURES are six numbers, at these places: five in whole kg, each rounded once from its own exact
- * mass, so that they need not add up, and the decision.
+ * mass, so that they need not add up, and the decision. CO2e and the decision are under the set of
+ * warming values that the trailer of the report's book names. No checkpoint knows the set.
  */
 #define WETHERSTEP_FIGURES 6
 #define WETHERSTEP_FOSSIL_CO2 0
