@@ -26,7 +26,7 @@ use Rattle.rules.specs.Reader.{shown, sightAt}
 use Rattle.rules.specs.Right.{RightLines}
 use Rattle.rules.specs.Reason.{Reasons}
 use Rattle.rules.proofs.NumberLaws.{opened-20, opened-21, opened-22, opened-23, opened-number, opened-accepted}
-use Rattle.rules.proofs.ApartLaws.{opened-apart}
+use Rattle.rules.proofs.ApartLaws.{opened-apart, sightAt-apart}
 use Rattle.rules.proofs.RightLaws.{linesSound-rightLines}
 use Rattle.rules.proofs.ReaderLaws.{sightAt-shown}
 use Rattle.rules.proofs.ReasonLaws.{reasons-outcomeAt}
@@ -234,11 +234,12 @@ pub demand3-same : (k : List ℕ) (h : Head) → opened k ≡ accepted h
     → doneIn c ≡ doneIn d → c ≡ d
 demand3-same k h e cs ds c d p i q j same = same-history k h e cs ds c d p i q j same
 
--- Nor does the set of warming values alter a checkpoint: k′ is the accepted book k, but may name the other set. It is
--- accepted too, starts, wakes and counts reply alike and write the same bytes, whatever the checkpoint, and what
--- a history of k left, a history of k′ leaves.
+-- Nor does the set of warming values alter a mass or a checkpoint: k′ is the accepted book k, but may name the other set.
+-- It is accepted too, with the same of each record; starts, wakes and counts reply alike and write the same bytes, whatever
+-- the checkpoint; and what a history of k left, a history of k′ leaves.
 pub record SameWork (k k′ : List ℕ) : Type 0 where
   pub accepts : (h : Head) × (opened k′ ≡ accepted h)
+  pub looks : (i : ℕ) → sightAt k′ i ≡ sightAt k i
   pub starts : (out : List ℕ) → (freshReply k′ out ≡ freshReply k out) × (freshBytes k′ out ≡ freshBytes k out)
   pub wakes : (c : List ℕ) (b : ℕ) (out : List ℕ)
       → (wakeReply k′ c b out ≡ wakeReply k c b out) × (wakeBytes k′ c b out ≡ wakeBytes k c b out)
@@ -249,6 +250,7 @@ pub demand3-set : (k k′ : List ℕ) (h : Head) → opened k ≡ accepted h →
     → SameWork k k′
 demand3-set k k′ h e apart named = record {
   accepts = (_, opened-apart apart e named);
+  looks = sightAt-apart apart e named;
   starts = λ out. (freshReply-apart apart e named out, freshBytes-apart apart e named out);
   wakes = λ c b out. (wakeReply-apart apart e named c b out, wakeBytes-apart apart e named c b out);
   counts = leftReply-apart apart e named;

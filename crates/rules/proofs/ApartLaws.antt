@@ -1,21 +1,24 @@
 -- Of two books that differ in the set of warming values alone: if one is accepted and the other names a set, so is the
--- other, with the same head but for the set, and each record has the same outcome in both. Assumes nothing.
+-- other, with the same head but for the set, and what is seen of each record is the same in both. Assumes nothing.
 use Prim.Native.Nat.{ℕ, _+_, _-_, _*_, _/_, _%_, _<_, _≤_, min}
 use mathlib.Core.Bool.{true}
 use mathlib.Core.List.{List}
 use mathlib.Core.Path.{_≡_, refl, sym, ap, _∙_}
 use native.Mathlib.Omega.{arith}
-use lib.Dec.{leb, eqb, lit≤, lit<}
+use lib.Dec.{leb, ltb, eqb, lit≤, lit<}
 use lib.ListN.{length, drop, length-take, length-drop}
 use lib.Seq.{ext-getD, getD-take, getD-drop}
-use borrow.Author.Tests.{le-leb}
-use Rattle.choice.specs.Tests.{_also_}
-use Rattle.choice.proofs.TestsLaws.{also-t, also-l, also-r}
+use borrow.Author.Tests.{le-leb, le-ltb}
+use Rattle.choice.specs.Tests.{_also_, choose}
+use Rattle.choice.proofs.TestsLaws.{also-t, also-l, also-r, choose-f}
+use Rattle.choice.proofs.Splitting.{if-lt}
 use Rattle.rules.specs.declared.book.Head.{Head}
+use Rattle.rules.specs.declared.record.Outcome.{Outcome}
 use Rattle.rules.specs.Bytes.{byte, word, part, linesIn}
 use Rattle.rules.specs.Fields.{unitStart, fuelStart, year, warmingSet}
-use Rattle.rules.specs.Book.{longestBook, lengthOk, startsOk, trailerOk, unitOk, fuelOk, linesSound, trailer, headOf, unitLines, fuelLines, accepted, opened, SetApart}
+use Rattle.rules.specs.Book.{longestBook, lengthOk, startsOk, trailerOk, unitOk, fuelOk, linesSound, trailer, headOf, unitLines, fuelLines, Answer, accepted, opened, SetApart}
 use Rattle.rules.specs.Record.{outcomeOf, outcomeAt}
+use Rattle.rules.specs.Reader.{shown, missing, sightBy, sightAt}
 use Rattle.rules.proofs.BytesLaws.{word-same}
 use Rattle.rules.proofs.NumberLaws.{opened-accepted}
 use Rattle.rules.proofs.BookLaws.{accepted-facts}
@@ -129,3 +132,12 @@ module _ {s s′ : List ℕ} (apart : SetApart s s′) where
         let units = part-apart (h .units) (h .fuels) (omega arith) in
         let fuels = part-apart (h .fuels) (h .length - 32) (omega arith) in
         λ j. outcomeOf (record-line j) (linesIn (units j)) (linesIn (fuels j))
+
+    pub sightAt-apart : set′ ≤ 1 → (i : ℕ) → sightAt s′ i ≡ sightAt s i
+    unfolding sightAt sightBy
+    sightAt-apart named i =
+        ap (λ (a : Answer). sightBy a s′ i) (opened-apart named)
+        ∙ if-lt i (h .n)
+        (λ l. ap (λ (o : Outcome). choose (ltb i (h .n)) (shown o) missing) (outcomeAt-apart set′ i l))
+        (λ l. choose-f _ (le-ltb i (h .n) l) (sym (choose-f _ (le-ltb i (h .n) l) refl)))
+        ∙ sym (ap (λ (a : Answer). sightBy a s i) e)
