@@ -10,7 +10,7 @@ use Rattle.choice.specs.Tests.{choose}
 use Rattle.choice.proofs.TestsLaws.{choose-t, choose-f}
 use Rattle.mass.specs.Ledger.{tonne, tonnesEach}
 use Rattle.mass.specs.Figures.{mustReport}
-use Rattle.mass.proofs.FiguresLaws.{kgOf-tonnes}
+use Rattle.mass.proofs.FiguresLaws.{mustReport-none, kgOf-tonnes}
 use Rattle.mass.proofs.Cases as mass
 use Rattle.rules.specs.Book.{accepted, opened}
 use Rattle.rules.proofs.ApartLaws.{naming}
@@ -91,14 +91,14 @@ pub sets : Sets
 sets = record {
   ch4-first =
       reportReply-only 400 0 (lit≤ tt) (lit≤ tt) sampleBook 0 opened-sampleBook
-      ∙ figures-tonnes 0 warmingOf-first 400 0 8400 (choose-f 1 mass.t8400-reports refl) refl;
+      ∙ figures-tonnes 0 warmingOf-first 400 0 8400 (choose-f 1 (mustReport-none 8400) refl) refl;
   ch4-second =
       reportReply-only 400 0 (lit≤ tt) (lit≤ tt) secondBook 1 opened-secondBook
-      ∙ figures-tonnes 1 warmingOf-second 400 0 10000 (choose-t 0 mass.p10-reports refl) refl;
+      ∙ figures-tonnes 1 warmingOf-second 400 0 10000 (choose-t 0 (mustReport-none 10000) refl) refl;
   n2o-first =
       reportReply-only 0 33 (lit≤ tt) (lit≤ tt) sampleBook 0 opened-sampleBook
-      ∙ figures-tonnes 0 warmingOf-first 0 33 10230 (choose-t 0 mass.t10230-reports refl) refl;
+      ∙ figures-tonnes 0 warmingOf-first 0 33 10230 (choose-t 0 (mustReport-none 10230) refl) refl;
   n2o-second =
       reportReply-only 0 33 (lit≤ tt) (lit≤ tt) secondBook 1 opened-secondBook
-      ∙ figures-tonnes 1 warmingOf-second 0 33 9834 (choose-f 1 mass.t9834-reports refl) refl;
+      ∙ figures-tonnes 1 warmingOf-second 0 33 9834 (choose-f 1 (mustReport-none 9834) refl) refl;
 }

@@ -106,19 +106,6 @@ pub p12-reports : mustReport (25000 * tonne) (16000 * tonne) ≡ true
 unfolding mustReport decisive
 p12-reports = simp worked-out
 
--- CO2 equivalents near 10,000 t, none of it biomass CO2.
-pub t8400-reports : mustReport (8400 * tonne) 0 ≡ false
-unfolding mustReport decisive
-t8400-reports = simp worked-out
-
-pub t9834-reports : mustReport (9834 * tonne) 0 ≡ false
-unfolding mustReport decisive
-t9834-reports = simp worked-out
-
-pub t10230-reports : mustReport (10230 * tonne) 0 ≡ true
-unfolding mustReport decisive
-t10230-reports = simp worked-out
-
 -- ---- the figures of P1 alone, and of nothing
 pub p1-co2-kg : kgOf 1900000000000000 ≡ record { 0 = 1900 }
 unfolding kgOf halfUp

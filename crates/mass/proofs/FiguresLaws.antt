@@ -81,10 +81,24 @@ mustReport-tonnes v b = whole (decisive v b)
         (λ l. lt-leb 10000 (d / tonne) (omega arith) ∙ sym (lt-leb (10000 * tonne) d l))
         (λ l. le-leb 10000 (d / tonne) (omega arith) ∙ sym (le-leb (10000 * tonne) d l))
 
--- ---- whole tonnes are whole kilograms
+-- ---- whole tonnes
+-- Without biomass CO2 nothing is left out.
+decisive-none : (v : ℕ) → decisive v 0 ≡ v
+decisive-none v = if-lt v (25000 * tonne) (λ l. decisive-small v 0 l ∙ omega arith) (decisive-large v 0)
+
+pub mustReport-none : (t : ℕ) → mustReport (t * tonne) 0 ≡ leb 10000 t
+unfolding ledgerOf
+mustReport-none t =
+    let whole : t * tonne / tonne ≡ t = omega arith in
+    sym (mustReport-tonnes (t * tonne) 0)
+    ∙ ap (λ (v : ℕ). leb 10000 (v / tonne)) (decisive-none (t * tonne))
+    ∙ ap (leb 10000) whole
+
 pub kgOf-tonnes : (t : ℕ) → kgOf (t * tonne) ≡ record { 0 = t * 1000 }
 unfolding kgOf halfUp
-kgOf-tonnes t = let whole : (2 * (t * tonne) + kilogram) / (2 * kilogram) ≡ t * 1000 = omega arith in λ i. record { 0 = whole i }
+kgOf-tonnes t =
+    let whole : (2 * (t * tonne) + kilogram) / (2 * kilogram) ≡ t * 1000 = omega arith in
+    λ i. record { 0 = whole i }
 
 -- ---- the figures of ledgers that stand for four masses
 pub co2eOf-ledgers : (f b c n : ℕ) (w : Warming) →
