@@ -15,7 +15,7 @@ use Rattle.choice.proofs.Splitting.{if-lt}
 use Rattle.rules.specs.declared.book.Head.{Head}
 use Rattle.rules.specs.declared.record.Outcome.{Outcome}
 use Rattle.rules.specs.Bytes.{byte, word, part, linesIn}
-use Rattle.rules.specs.Fields.{unitStart, fuelStart, year, warmingSet}
+use Rattle.rules.specs.Fields.{unitStart, fuelStart, year, warmingSetAt, warmingSet}
 use Rattle.rules.specs.Book.{longestBook, lengthOk, startsOk, trailerOk, unitOk, fuelOk, linesSound, trailer, headOf, unitLines, fuelLines, Answer, accepted, opened, SetApart}
 use Rattle.rules.specs.Record.{outcomeOf, outcomeAt}
 use Rattle.rules.specs.Reader.{shown, missing, sightBy, sightAt}
@@ -50,27 +50,25 @@ module _ {s s′ : List ℕ} (apart : SetApart s s′) where
     byte-trailer t e i l =
         byte-part (length t - 32) (length t) t i (omega arith) ∙ ap (λ (n : ℕ). byte t (n - 32 + i)) (sym e)
 
-    byte-apart : (i : ℕ) → i < 32 → (i ≡ 20 → ⊥) → byte (trailer s′) i ≡ byte (trailer s) i
+    byte-apart : (i : ℕ) → i < 32 → (i ≡ warmingSetAt → ⊥) → byte (trailer s′) i ≡ byte (trailer s) i
     byte-apart i l other =
         byte-trailer s′ (apart .lengths) i l
         ∙ sym (apart .others (length s - 32 + i) (λ q. other (omega arith)))
         ∙ sym (byte-trailer s refl i l)
 
-    -- A field that stands before the set, and one behind it.
-    before : (k n : ℕ) → k + n ≤ 20 → word (trailer s′) k n ≡ word (trailer s) k n
-    before k n l = word-same (trailer s′) (trailer s) k n (λ i h m. byte-apart i (omega arith) (λ q. omega arith))
-
-    behind : (k n : ℕ) → 20 < k → k + n ≤ 32 → word (trailer s′) k n ≡ word (trailer s) k n
-    behind k n past l = word-same (trailer s′) (trailer s) k n (λ i h m. byte-apart i (omega arith) (λ q. omega arith))
+    -- A field that ends before the set, or begins behind it.
+    word-apart : (k n : ℕ) → k + n ≤ 32 → (k ≤ warmingSetAt → k + n ≤ warmingSetAt) → word (trailer s′) k n ≡ word (trailer s) k n
+    word-apart k n l other = word-same (trailer s′) (trailer s) k n (λ i h m.
+        byte-apart i (omega arith) (λ q. let ends = other (omega arith) in omega arith))
 
     units-apart : unitStart (trailer s′) ≡ unitStart (trailer s)
-    units-apart = before 8 4 (lit≤ tt)
+    units-apart = word-apart 8 4 (lit≤ tt) (λ l. lit≤ tt)
 
     fuels-apart : fuelStart (trailer s′) ≡ fuelStart (trailer s)
-    fuels-apart = before 12 4 (lit≤ tt)
+    fuels-apart = word-apart 12 4 (lit≤ tt) (λ l. lit≤ tt)
 
     year-apart : year (trailer s′) ≡ year (trailer s)
-    year-apart = before 16 2 (lit≤ tt)
+    year-apart = word-apart 16 2 (lit≤ tt) (λ l. lit≤ tt)
 
     headOf-apart : headOf s′ ≡ naming (warmingSet (trailer s′)) (headOf s)
     unfolding headOf
@@ -87,11 +85,11 @@ module _ {s s′ : List ℕ} (apart : SetApart s s′) where
         → trailerOk (trailer s′) (length s′ - 32) ≡ true
     unfolding trailerOk
     trailerOk-apart right set =
-        let signed = before 0 4 (lit≤ tt) in
-        let version = before 4 2 (lit≤ tt) in
-        let gap = before 6 2 (lit≤ tt) in
-        let year-gap = before 18 2 (lit≤ tt) in
-        let blank = behind 21 11 (lit< tt) (lit≤ tt) in
+        let signed = word-apart 0 4 (lit≤ tt) (λ l. lit≤ tt) in
+        let version = word-apart 4 2 (lit≤ tt) (λ l. lit≤ tt) in
+        let gap = word-apart 6 2 (lit≤ tt) (λ l. lit≤ tt) in
+        let year-gap = word-apart 18 2 (lit≤ tt) (λ l. lit≤ tt) in
+        let blank = word-apart 21 11 (lit≤ tt) (λ l. omega arith) in
         also-t
         (also-t
         ((λ i.

@@ -40,7 +40,7 @@ pub outcomeAt-sampleBook : outcomeAt sampleHead sampleBook 0 ≡ counted 1 19000
 unfolding sampleBook outcomeAt linesIn lines bytesOf
 outcomeAt-sampleBook = worked-sums .p1
 
--- ---- the same, with the second set of warming values
+-- ---- the same, with the second set of warming values in byte 20 of its trailer
 abbrev pub secondBook : List ℕ
 secondBook = set sampleBook 116 1
 

@@ -31,7 +31,7 @@ use Rattle.rules.specs.declared.book.Opened.the-variants.{Wrong, Open}
 use Rattle.rules.specs.declared.book.Fault.{Fault}
 use Rattle.rules.specs.declared.book.Fault.the-variants.{Length, Trailer, Units, Fuels}
 use Rattle.rules.specs.Bytes.{byte, part, linesIn}
-use Rattle.rules.specs.Fields.{signed, version, trailerGap, unitStart, fuelStart, year, yearGap, warmingSet, trailerBlank, number, unitFlags, unitGap, rating, unitBlank, fuelKind, fuelClass, defaultHeat, co2Factor, ch4Factor, n2oFactor, fuelBlank}
+use Rattle.rules.specs.Fields.{signed, version, trailerGap, unitStart, fuelStart, year, yearGap, warmingSetAt, warmingSet, trailerBlank, number, unitFlags, unitGap, rating, unitBlank, fuelKind, fuelClass, defaultHeat, co2Factor, ch4Factor, n2oFactor, fuelBlank}
 
 abbrev pub longestBook : ℕ
 longestBook = 65536
@@ -138,7 +138,6 @@ unfoldable pub answer : Opened → Answer
 answer (Wrong x) = refused (faultNumber x)
 answer (Open h) = accepted h
 
--- Byte 20 of the trailer names the set.
 pub record SetApart (s s′ : List ℕ) : Type 0 where
   pub lengths : length s ≡ length s′
-  pub others : (i : ℕ) → (i ≡ length s - 32 + 20 → ⊥) → byte s i ≡ byte s′ i
+  pub others : (i : ℕ) → (i ≡ length s - 32 + warmingSetAt → ⊥) → byte s i ≡ byte s′ i

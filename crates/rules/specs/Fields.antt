@@ -1,8 +1,8 @@
 -- The fields of a book's lines, each named once: no offset stands in a rule. RULES, "The book" and
 -- "Records"; docs/FORMAT.md has the same by offset.
 --
---     trailer t         signed, version, unitStart, fuelStart, year, warmingSet; trailerGap, yearGap,
---                       trailerBlank
+--     trailer t         signed, version, unitStart, fuelStart, year, warmingSet, which stands at warmingSetAt;
+--                       trailerGap, yearGap, trailerBlank
 --     unit line u       number, unitFlags, monitored, rating; unitGap, unitBlank
 --     fuel line f       number, fuelKind, fuelClass, defaultHeat, co2Factor, ch4Factor, n2oFactor;
 --                       fuelBlank
@@ -41,8 +41,11 @@ year t = word t 16 2
 abbrev pub yearGap : List ℕ → Bool
 yearGap t = zeros t 18 2
 
+abbrev pub warmingSetAt : ℕ
+warmingSetAt = 20
+
 abbrev pub warmingSet : List ℕ → ℕ
-warmingSet t = byte t 20
+warmingSet t = byte t warmingSetAt
 
 abbrev pub trailerBlank : List ℕ → Bool
 trailerBlank t = zeros t 21 11
