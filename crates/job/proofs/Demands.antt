@@ -235,8 +235,8 @@ pub demand3-same : (k : List ℕ) (h : Head) → opened k ≡ accepted h
 demand3-same k h e cs ds c d p i q j same = same-history k h e cs ds c d p i q j same
 
 -- Nor does the set of warming values alter a mass or a checkpoint: k′ is the accepted book k, but may name the other set.
--- It is accepted too, with the same of each record; starts, wakes and counts reply alike and write the same bytes, whatever
--- the checkpoint; and what a history of k left, a history of k′ leaves.
+-- It is accepted too; the same is seen of each record; starts, wakes and counts reply alike and write the same bytes,
+-- whatever the checkpoint; and what a history of k left, a history of k′ leaves.
 pub record SameWork (k k′ : List ℕ) : Type 0 where
   pub accepts : (h : Head) × (opened k′ ≡ accepted h)
   pub looks : (i : ℕ) → sightAt k′ i ≡ sightAt k i

@@ -10,7 +10,7 @@ use Rattle.rules.specs.declared.book.Head.{Head}
 use Rattle.rules.specs.Book.{accepted, opened, SetApart}
 use Rattle.rules.specs.Record.{outcomeAt}
 use Rattle.rules.proofs.Sample.{sampleBook, sampleHead, opened-sampleBook, emptyBook, emptyHead, opened-emptyBook}
-use Rattle.rules.proofs.Sample.{secondBook, sampleBook-apart}
+use Rattle.rules.proofs.Sample.{secondBook, opened-secondBook, sampleBook-apart}
 use Rattle.job.specs.State.{asideOf, sumTo}
 use Rattle.job.specs.Checkpoint.{checkpointSize, doneIn, asideIn, decode}
 use Rattle.job.specs.Reply.{Reply, reply}
@@ -93,11 +93,12 @@ no-refusing-every-wake f = refused-0 (seen .wakes) (f sampleBook _ 1 blank refl 
 pub no-refusing-every-report : ((k c : List ℕ) → Refuses (reportReply k c)) → ⊥
 no-refusing-every-report f = refused-0 (seen .reports) (f sampleBook _ .refuses) (omega arith)
 
--- A report that gives every book the figures of one set, whichever its trailer names.
-pub no-one-set : ((k k′ c : List ℕ) → SetApart k k′ → reportReply k′ c ≡ reportReply k c) → ⊥
+-- A report that gives every accepted book the figures of one set, whichever its trailer names.
+pub no-one-set : ((k k′ c : List ℕ) (h h′ : Head) → opened k ≡ accepted h → opened k′ ≡ accepted h′ → SetApart k k′
+    → reportReply k′ c ≡ reportReply k c) → ⊥
 no-one-set f =
-    let same : _≡_ {A = ℕ} 1 0 =
-    ap decision (sym (sets .ch4-second) ∙ f sampleBook secondBook _ sampleBook-apart ∙ sets .ch4-first) in
+    let alike = f sampleBook secondBook _ _ _ opened-sampleBook opened-secondBook sampleBook-apart in
+    let same : _≡_ {A = ℕ} 1 0 = ap decision (sym (sets .ch4-second) ∙ alike ∙ sets .ch4-first) in
     omega arith
   where
     decision : Reply → ℕ
