@@ -124,13 +124,14 @@ static inline uint32_t wetherstep_count(uint64_t reply) { return (uint32_t)(repl
  *   2. save the copy of the book, as a checkpoint is saved;
  *   3. make the fresh start, and save its checkpoint.
  * A first job begins with 2. The program `wake` does all this, with the copy in CHECKPOINT.book.
+ * Byte 20 of the trailer alone may change: no checkpoint knows the set of warming values.
  */
 #define WETHERSTEP_CHECKPOINT_SIZE 96
 
 /*
  * FIGURES are six numbers, at these places: five in whole kg, each rounded once from its own exact
  * mass, so that they need not add up, and the decision. CO2e and the decision are under the set of
- * warming values that the trailer of the report's book names. No checkpoint knows the set.
+ * warming values that the trailer of the report's book names.
  */
 #define WETHERSTEP_FIGURES 6
 #define WETHERSTEP_FOSSIL_CO2 0
