@@ -1,7 +1,6 @@
 -- The argument, from arithmetic to the promises: laws on plain values, worked cases, uniqueness.
 pub mod RoundingLaws
 pub mod NearestLaws
-pub mod ShiftLaws
 pub mod UnitsLaws
 pub mod PatternLaws
 pub mod ReadingLaws

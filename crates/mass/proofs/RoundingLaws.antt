@@ -1,9 +1,8 @@
--- `nearestTo` depends on the fraction alone, grows with it, and is what lifting by a half gives.
--- Assumes nothing.
-use Prim.Native.Nat.{ℕ, _+_, _-_, _*_, _/_, _%_, _<_, _≤_, compare, Ordering, Ordering·lt, Ordering·eq, Ordering·gt}
+-- `nearestTo` case by case; it depends on the fraction alone and grows with it. Assumes nothing.
+use Prim.Native.Nat.{ℕ, _+_, _*_, _/_, _%_, _<_, _≤_, compare, Ordering, Ordering·lt, Ordering·eq, Ordering·gt}
 use mathlib.Core.Bool.{not}
 use mathlib.Core.Path.{_≡_, refl, sym, ap, _∙_, subst}
-use native.Mathlib.Nat.{not-le-of-lt, le-of-eq, le-of-lt, mod-lt, div-eq-of-lt, mod-eq-of-lt, div-add-mod', mul-add-div-right, div-eq-of-lt-le, add-zero, mul-pos, mul-assoc}
+use native.Mathlib.Nat.{not-le-of-lt, le-of-eq, le-of-lt, div-eq-of-lt, mod-eq-of-lt, mul-pos, mul-assoc}
 use native.Mathlib.Numerals.{add-one}
 use native.Mathlib.Omega.{arith}
 use lib.Dec.{T, isLe, isEq, eqb, eqb-refl, eqb→eq, leb→le, nleb→lt}
@@ -11,7 +10,7 @@ use lib.Ieee.{nearest}
 use lib.Ieee.Nearest.{closest, closest-same, closest-mono}
 use borrow.Author.Tests.{lt-ltb, le-ltb}
 use Rattle.choice.proofs.TestsLaws.{choose-t, choose-f}
-use Rattle.choice.proofs.Splitting.{if-lt, if-eq}
+use Rattle.choice.proofs.Splitting.{if-lt}
 use Rattle.mass.specs.Rounding.{nearestTo}
 
 -- ---- the three cases
@@ -41,48 +40,6 @@ pub nearestTo-zero : (n d : ℕ) → 2 * n < d → nearestTo n d ≡ 0
 nearestTo-zero n d h =
     let l : n < d = omega arith in
     nearestTo-below n d (subst (λ (m : ℕ). 2 * m < d) (sym (mod-eq-of-lt l)) h) ∙ div-eq-of-lt l
-
--- ---- lifting: one less than a half, and one more where the quotient is odd
-up-one : (x d : ℕ) → d ≤ x → x < 2 * d → x / d ≡ 1
-up-one x d h l = div-eq-of-lt-le d (omega arith) (omega arith)
-
--- The remainder by 2h, lifted, carries 0 or 1 into the quotient.
-abbrev carried : ℕ → ℕ → ℕ
-carried n h = (n % (2 * h) + (h - 1) + n / (2 * h) % 2) / (2 * h)
-
-lift : (n h : ℕ) → 0 < h → (n + (h - 1) + n / (2 * h) % 2) / (2 * h) ≡ n / (2 * h) + carried n h
-lift n h H =
-    let q = n / (2 * h) in
-    let rest = n % (2 * h) + (h - 1) + q % 2 in
-    let parts : n + (h - 1) + q % 2 ≡ q * (2 * h) + rest = omega (arith, div-add-mod' n (2 * h)) in
-    ap (λ (x : ℕ). x / (2 * h)) parts ∙ mul-add-div-right (omega arith) q rest
-
-odd-lift : (q h : ℕ) → 0 < h → (h + (h - 1) + q % 2) / (2 * h) ≡ q % 2
-odd-lift q h H = if-eq (q % 2) 0
-    (λ e. div-eq-of-lt (omega arith) ∙ sym e)
-    (λ k. up-one (h + (h - 1) + q % 2) (2 * h) (omega arith) (omega arith) ∙ omega arith)
-
-pub nearestTo-lift : (n h : ℕ) → 0 < h → (n + (h - 1) + n / (2 * h) % 2) / (2 * h) ≡ nearestTo n (2 * h)
-nearestTo-lift n h H = nearestTo-cases n (2 * h)
-    (λ l. by (none l) ∙ add-zero (n / (2 * h)) ∙ sym (nearestTo-below n (2 * h) l))
-    (λ g. by (one g) ∙ sym (nearestTo-above n (2 * h) g))
-    (λ e. by (odd e) ∙ sym (nearestTo-half n (2 * h) e))
-  where
-    by : {c : ℕ} → carried n h ≡ c → (n + (h - 1) + n / (2 * h) % 2) / (2 * h) ≡ n / (2 * h) + c
-    by e = lift n h H ∙ ap (λ (x : ℕ). n / (2 * h) + x) e
-
-    none : 2 * (n % (2 * h)) < 2 * h → carried n h ≡ 0
-    none l = div-eq-of-lt (omega arith)
-
-    one : 2 * h < 2 * (n % (2 * h)) → carried n h ≡ 1
-    one g =
-        let m-lt : n % (2 * h) < 2 * h = mod-lt n (omega arith) in
-        up-one (n % (2 * h) + (h - 1) + n / (2 * h) % 2) (2 * h) (omega arith) (omega arith)
-
-    odd : 2 * (n % (2 * h)) ≡ 2 * h → carried n h ≡ n / (2 * h) % 2
-    odd e =
-        let q = n / (2 * h) in
-        ap (λ (y : ℕ). (y + (h - 1) + q % 2) / (2 * h)) (omega arith) ∙ odd-lift q h H
 
 -- ---- equal and larger fractions, by the kit's `closest`
 module _ (a b : ℕ) where

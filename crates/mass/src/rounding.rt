@@ -35,14 +35,24 @@ pub(crate) fn round_multiple(k: u64, p: f64) -> u64
     round_shifted(k * digits, WHOLE - exponent)
 }
 
-// n / 2^places. Adding one less than a half lifts what is above a half into the next number, and
-// the last bit of the quotient lifts a half itself where the quotient is odd.
+// n / 2^places, as it is taught: divide, and hold the remainder against half of the divisor. With
+// the half asked first the compiler makes no jumps of the tests; one on whether a remainder is above
+// half would be foreseen half of the time.
 fn round_shifted(n: u64, places: u64) -> u64
     requires room { ⌜ n < 2 ^ 63 ⌝ }
     requires some { ⌜ (0 < places) × (places < 64) ⌝ }
     ensures nearest { λ r. ⌜ r ≡ nearestTo n (2 ^ places) ⌝ }
 {
-    let half = 1u64 << (places - 1);
-    let odd = (n >> places) & 1;
-    (n + (half - 1) + odd) >> places
+    let divisor = 1u64 << places;
+    let quotient = n / divisor;
+    let remainder = n % divisor;
+    let half = divisor / 2;
+    if remainder == half {
+        // An odd quotient goes up, an even one stays.
+        return quotient + quotient % 2;
+    }
+    if half < remainder {
+        return quotient + 1;
+    }
+    quotient
 }

@@ -1,52 +1,82 @@
--- The sum stays below 2^63 + 2^62, and what is shifted out of it is the remainder. Assumes nothing.
-use Prim.Native.Nat.{ℕ, _+_, _-_, _*_, _/_, _%_, _^_}
-use mathlib.Core.Path.{_≡_, ap, _∙_}
+-- The divisor is even, so that the remainder stands to its half as twice the remainder, of which
+-- `nearestTo` speaks, stands to all of it. Assumes nothing.
+use Prim.Native.Nat.{ℕ, _+_, _-_, _*_, _/_, _%_, _^_, _<_}
+use mathlib.Core.Path.{_≡_, sym, ap, _∙_}
+use native.Mathlib.Nat.{one-mul, div-le-self}
 use native.Mathlib.Omega.{arith}
-use lib.Bits.{bitAnd, and-le-r}
-use lib.Pow.{pow-pos}
+use lib.Dec.{lit<}
+use lib.Pow.{pow-add, pow-pos, shl-exact}
 use borrow.Author.Needs.{needs}
-use Rattle.mass.proofs.ShiftLaws.{half-shifted, half-le, nearestTo-shift}
+use Rattle.mass.specs.Rounding.{nearestTo}
+use Rattle.mass.proofs.RoundingLaws.{nearestTo-below, nearestTo-above, nearestTo-half}
 use Rattle.mass.proofs.rounding.round_shifted.Statement.{statement}
 use Rattle.mass.proofs.rounding.round_shifted.Tie as tie
 
--- No bit of the code's half is shifted out.
-half : (c : tie.Start) → 1 * 2 ^ (c .args .places - 1) % 2 ^ 64 ≡ 2 ^ (c .args .places - 1)
-half c = half-shifted (c .args .places) (c .pre .1 .0) (c .pre .1 .1)
+abbrev divisor : tie.Start → ℕ
+divisor c = 1 * 2 ^ c .args .places % 2 ^ 64
 
-sub-half : tie.Need-sub-half
-sub-half c = search needs
+-- No bit of it is shifted out.
+power : (c : tie.Start) → divisor c ≡ 2 ^ c .args .places
+power c =
+    let s = c .args .places in
+    shl-exact 1 s 64 (lit< tt) (omega (arith, c .pre .1 .1)) ∙ one-mul (2 ^ s)
 
-shl-half : tie.Need-shl-half
-shl-half c = search needs
+positive : (c : tie.Start) → 0 < divisor c
+positive c = omega (arith, power c, pow-pos (c .args .places))
 
-shr-odd : tie.Need-shr-odd
-shr-odd c = search needs
+even : (c : tie.Start) → 2 * (divisor c / 2) ≡ divisor c
+even c = omega (arith, power c, doubled)
+  where
+    doubled : 2 ^ c .args .places ≡ 2 * 2 ^ (c .args .places - 1)
+    doubled =
+        let s = c .args .places in
+        let one-more : s ≡ 1 + (s - 1) = omega (arith, c .pre .1 .0) in
+        ap (λ (x : ℕ). 2 ^ x) one-more ∙ pow-add 2 1 (s - 1)
 
-sub-result : tie.Need-sub-result
-sub-result c = omega (arith, half c, pow-pos (c .args .places - 1))
+rounded : (c : tie.Start) {r : ℕ} → nearestTo (c .args .n) (divisor c) ≡ r
+    → r ≡ nearestTo (c .args .n) (2 ^ c .args .places)
+rounded c e = sym e ∙ ap (nearestTo (c .args .n)) (power c)
+
+room : (c : tie.Start) → c .args .n / divisor c < 2 ^ 63
+room c = omega (arith, div-le-self (c .args .n) (divisor c), c .pre .0)
+
+shl-divisor : tie.Need-shl-divisor
+shl-divisor c = search needs
+
+div-quotient : tie.Need-div-quotient
+div-quotient c = omega (arith, positive c)
+
+rem-remainder : tie.Need-rem-remainder
+rem-remainder c = omega (arith, positive c)
 
 add-result : tie.Need-add-result
-add-result c = omega (arith, half c, half-le (c .args .places) (c .pre .1 .0) (c .pre .1 .1))
-
-add-result-2 : tie.Need-add-result-2
-add-result-2 c =
-    omega (
-      arith,
-      half c,
-      half-le (c .args .places) (c .pre .1 .0) (c .pre .1 .1),
-      and-le-r (c .args .n / 2 ^ c .args .places) 1,
-    )
-
-shr-result : tie.Need-shr-result
-shr-result c = search needs
+add-result c = omega (arith, room (c .before))
 
 returns : tie.Need-returns
 returns c =
-    let n = c .args .n in
-    let s = c .args .places in
-    ap (λ (h : ℕ). (n + (h - 1) + bitAnd (n / 2 ^ s) 1) / 2 ^ s) (half c)
-    ∙ nearestTo-shift s (c .pre .1 .0) n
+    let s = c .before in
+    rounded s (nearestTo-half (s .args .n) (divisor s) (omega (arith, c .if1 .taken, even s)))
+
+add-result-2 : tie.Need-add-result-2
+add-result-2 c = omega (arith, room (c .before .before))
+
+returns-2 : tie.Need-returns-2
+returns-2 c =
+    let s = c .before .before in
+    rounded s (nearestTo-above (s .args .n) (divisor s) (omega (arith, c .if2 .taken, even s)))
+
+returns-3 : tie.Need-returns-3
+returns-3 c =
+    let s = c .before .before in
+    rounded s (nearestTo-below (s .args .n) (divisor s) (omega (arith, c .before .if1 .left, c .if2 .left, even s)))
 
 pub round-shifted-spec : {M : Type 1} → statement M
-round-shifted-spec =
-    tie.close (tie.spec sub-half shl-half shr-odd sub-result add-result add-result-2 shr-result returns)
+round-shifted-spec = tie.close (tie.spec
+    shl-divisor
+    div-quotient
+    rem-remainder
+    add-result
+    returns
+    add-result-2
+    returns-2
+    returns-3)
