@@ -7,6 +7,7 @@ import pathlib
 import shlex
 
 from program_annual import try_reports, try_set_aside
+from program_hours import try_hour_lines
 from program_jobs import plan_plant
 from program_kept import try_kept_answers
 from program_lines import try_plant
@@ -37,6 +38,10 @@ WRONG = [
     ("lines", "the last record is missing", "spoil sed '$d'", try_plant),
     ("lines", "a half of R goes up", "spoil sed 's/co2-ug 32116 /co2-ug 32634 /'",
      try_kept_answers),
+    ("lines", "a half of R goes down", "spoil sed 's/co2-ug 647502428384 /co2-ug 647502427866 /'",
+     try_hour_lines),
+    ("lines", "R is cut off", "spoil sed 's/co2-ug 647501214192 /co2-ug 647501213674 /'",
+     try_hour_lines),
     ("replay", "it says nothing", "spoil true", try_answers),
     ("replay", "a wrong head is no failure", 'real "$@"; exit 0', try_heads),
     ("replay", "a wrong head isn't told", 'real "$@" 2>/dev/null', try_heads),
