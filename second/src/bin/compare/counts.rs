@@ -1,5 +1,6 @@
 //! What was compared and found equal, counted by what the requirements tell apart.
 
+mod rounding;
 mod warming;
 
 use second::answer::{Answer, Call, NO_SUCH_RECORD};
@@ -9,6 +10,7 @@ use second::replay::FRAME_HEAD;
 use crate::draft::LINE;
 use crate::run::Run;
 use crate::specials::{class, is_usable, CLASSES, FLOW_LIMIT, PERCENT_LIMIT};
+use rounding::RoundingCounts;
 use warming::WarmingCounts;
 
 const NUMBERS: [u8; 10] = [0, 20, 21, 22, 23, 30, 31, 32, 40, 41];
@@ -32,6 +34,7 @@ pub struct Counts {
     ledgers: [u64; 3],
     percents: [u64; CLASSES.len()],
     flows: [u64; CLASSES.len()],
+    rounding: RoundingCounts,
     warming: WarmingCounts,
 }
 
@@ -71,6 +74,9 @@ impl Counts {
         if line[0] == HOUR && [0, 4, 5].contains(&reason) {
             self.count_readings(line);
         }
+        if line[0] == HOUR && reason == 0 {
+            self.rounding.count(line);
+        }
     }
 
     /// The flow is counted where it decides: "the percent is judged before
@@ -108,6 +114,7 @@ impl Counts {
             ),
             ("percent", named(&CLASSES, &self.percents)),
             ("flow", named(&CLASSES, &self.flows)),
+            ("R,", self.rounding.rows()),
         ];
         table.extend(self.warming.table());
         if asks_left {
