@@ -8,6 +8,20 @@ use crate::specials::{singles, FLOW_LIMIT, PERCENT_LIMIT};
 
 const HOURS_PER_BOOK: usize = 64;
 
+/// The random pairs of a case, and how many books hold them.
+type Case = (&'static str, usize, fn(&mut Random) -> [u32; 2]);
+
+const CASES: [Case; 4] = [
+    ("halves of R and the singles next to them", 40, near_half),
+    (
+        "large R, one part in 256 away from a half",
+        20,
+        large_near_half,
+    ),
+    ("random usable readings", 300, usable),
+    ("random bits as readings", 20, random_bits),
+];
+
 pub fn run(exchange: &mut Exchange, rng: &mut Random) -> Outcome<()> {
     exchange.case("every pair of special readings");
     for percent in singles(PERCENT_LIMIT) {
@@ -15,27 +29,12 @@ pub fn run(exchange: &mut Exchange, rng: &mut Random) -> Outcome<()> {
         let pairs: Vec<[u32; 2]> = flows.iter().map(|&flow| [percent, flow]).collect();
         compare(exchange, rng, &pairs)?;
     }
-    exchange.case("halves of R and the singles next to them");
-    for _ in 0..40 * exchange.run.settings.times {
-        let pairs: Vec<_> = (0..HOURS_PER_BOOK).map(|_| near_half(rng)).collect();
-        compare(exchange, rng, &pairs)?;
-    }
-    exchange.case("large R, one part in 256 away from a half");
-    for _ in 0..20 * exchange.run.settings.times {
-        let pairs: Vec<_> = (0..HOURS_PER_BOOK).map(|_| large_near_half(rng)).collect();
-        compare(exchange, rng, &pairs)?;
-    }
-    exchange.case("random usable readings");
-    for _ in 0..300 * exchange.run.settings.times {
-        let pairs: Vec<_> = (0..HOURS_PER_BOOK).map(|_| usable(rng)).collect();
-        compare(exchange, rng, &pairs)?;
-    }
-    exchange.case("random bits as readings");
-    for _ in 0..20 * exchange.run.settings.times {
-        let pairs: Vec<_> = (0..HOURS_PER_BOOK)
-            .map(|_| [rng.word(), rng.word()])
-            .collect();
-        compare(exchange, rng, &pairs)?;
+    for (name, books, pair) in CASES {
+        exchange.case(name);
+        for _ in 0..books * exchange.run.settings.times {
+            let pairs: Vec<_> = (0..HOURS_PER_BOOK).map(|_| pair(rng)).collect();
+            compare(exchange, rng, &pairs)?;
+        }
     }
     Ok(())
 }
@@ -118,6 +117,10 @@ fn usable(rng: &mut Random) -> [u32; 2] {
         _ => limit - rng.below(0x0C00_0000) as u32,
     };
     [below(PERCENT_LIMIT), below(FLOW_LIMIT)]
+}
+
+fn random_bits(rng: &mut Random) -> [u32; 2] {
+    [rng.word(), rng.word()]
 }
 
 #[cfg(test)]
