@@ -11,13 +11,14 @@ const HOURS_PER_BOOK: usize = 64;
 /// The random pairs of a case, and how many books hold them.
 type Case = (&'static str, usize, fn(&mut Random) -> [u32; 2]);
 
-const CASES: [Case; 4] = [
+const CASES: [Case; 5] = [
     ("halves of R and the singles next to them", 40, near_half),
     (
         "large R, one part in 256 away from a half",
         20,
         large_near_half,
     ),
+    ("R of 0 and of 1, next to a half", 10, near_half_of_one),
     ("random usable readings", 300, usable),
     ("random bits as readings", 20, random_bits),
 ];
@@ -96,6 +97,27 @@ fn large_near_half(rng: &mut Random) -> [u32; 2] {
     [percent, flow]
 }
 
+/// A pair of readings just below or just above 1,000 x percent x flow = 0.5,
+/// which none meets: R is 0 with the one and 1 with the other.
+fn near_half_of_one(rng: &mut Random) -> [u32; 2] {
+    let [percent, flow] = below_half_of_one(rng);
+    [percent, flow + rng.below(2) as u32]
+}
+
+/// A percent below 2^6 and the last flow, below 2^29, with which R is 0: the
+/// exponents add up to -58, and 1,000 times the significands' product stays
+/// below 2^57.
+fn below_half_of_one(rng: &mut Random) -> [u32; 2] {
+    // Above 2^33 / 1,000, so that the flow's significand is below 2^24.
+    const LEAST: u64 = (1 << 33) / 1_000 + 1;
+    let significand = LEAST + rng.below((1 << 24) - LEAST);
+    let exponent = -63 + rng.below(46) as i32;
+    let flow_significand = (1 << 57) / (1_000 * significand);
+    let percent = single(significand as u32, exponent);
+    let flow = single(flow_significand as u32, -58 - exponent);
+    [percent, flow]
+}
+
 /// An odd number of `width` bits at most.
 fn odd(rng: &mut Random, width: i32) -> u32 {
     (rng.below(1 << width) | 1) as u32
@@ -126,7 +148,8 @@ fn random_bits(rng: &mut Random) -> [u32; 2] {
 #[cfg(test)]
 mod tests {
     use super::*;
-    use second::single::{decode, Single, Size};
+    use second::hour::thousandfold;
+    use second::single::{decode, Single, Size, Thousandfold};
 
     #[test]
     fn halves_are_halves() {
@@ -141,6 +164,16 @@ mod tests {
             let product = 1_000 * u128::from(one.significand) * u128::from(other.significand);
             let unit = 1 << -(one.exponent + other.exponent);
             assert_eq!(product % unit * 2, unit);
+        }
+    }
+
+    #[test]
+    fn below_a_half_of_one_r_is_0_and_with_the_next_flow_1() {
+        let mut rng = Random::new(1);
+        for _ in 0..1_000 {
+            let [percent, flow] = below_half_of_one(&mut rng);
+            let r = |flow| thousandfold(&hour(1, 1, percent, flow)).map(Thousandfold::nearest);
+            assert_eq!([r(flow), r(flow + 1)], [Some(0), Some(1)]);
         }
     }
 
