@@ -70,7 +70,7 @@ caught! {
     rounds_each_record_to_kilograms by ALL;
     falls_back_to_method_1 by ["worked", "books", "damage", "histories"];
     counts_fuel_co2_of_a_monitored_unit by ALL;
-    multiplies_in_single_precision by ["books", "damage", "histories"];
+    multiplies_in_single_precision by ["worked", "books", "damage", "histories"];
     compares_rounded_co2e by ["books", "histories"];
     rounds_halves_of_r_upward by ["worked", "books", "damage", "histories"];
     takes_a_thousandfold_in_double_precision by ["books"];

@@ -1,7 +1,8 @@
 //! Group 1: every sum that the requirements work by hand ("Sums worked by hand"),
-//! with the result that the document prints.
+//! with the result that the document prints, and others worked from its rules.
 
 mod reports;
+mod rounding;
 
 use crate::draft::{hour, unit, Burnt, Draft, FuelLine, Line, FIRST_SET, SETS};
 use crate::exact::{self, Totals, UG_PER_TONNE};
@@ -140,6 +141,11 @@ fn hour_sums() -> Vec<Sum> {
     ]
 }
 
+fn sums() -> impl Iterator<Item = Sum> {
+    let of_the_document = fuel_sums().into_iter().chain(hour_sums());
+    of_the_document.chain(rounding::sums())
+}
+
 /// P10 to P12: T and biomass in tonnes, and whether the site must report. They
 /// have no CH4 and no N2O, so each set of warming values gives the same.
 const DECISIONS: [(&str, u64, u64, u64); 3] = [
@@ -157,7 +163,7 @@ fn decision_book(total: u64, biomass: u64) -> Draft {
 }
 
 pub fn run(exchange: &mut Exchange, rng: &mut Random) -> Outcome<()> {
-    for sum in fuel_sums().into_iter().chain(hour_sums()) {
+    for sum in sums() {
         exchange.case(sum.name);
         let book = book(&sum);
         job::record(exchange, &book, 0, sum.printed)?;
@@ -186,7 +192,7 @@ mod tests {
 
     #[test]
     fn second_gives_every_worked_sum() {
-        for sum in fuel_sums().into_iter().chain(hour_sums()) {
+        for sum in sums() {
             let head = one_record(&book(&sum), 0);
             for printed in &sum.printed {
                 assert_eq!(printed.complaint(&head), None, "{}", sum.name);
