@@ -2,8 +2,10 @@
 
 mod calls;
 mod records;
+mod rounding;
 mod warming;
 
 pub use calls::*;
 pub use records::*;
+pub use rounding::*;
 pub use warming::*;

@@ -11,7 +11,7 @@ use crate::draft::put;
 type Judged = Result<Addition, Reason>;
 
 /// A job done with a wrong judge of records: call 4 and wakes.
-fn judging(frame: &Frame, wrong: fn(&Book, &[u8]) -> Judged) -> Answer {
+pub fn judging(frame: &Frame, wrong: impl Fn(&Book, &[u8]) -> Judged) -> Answer {
     let mut answered = answer(frame);
     let Ok(book) = Book::read(frame.book) else {
         return answered;
@@ -106,44 +106,6 @@ pub fn counts_fuel_co2_of_a_monitored_unit(frame: &Frame) -> Answer {
             }),
             _ => Ok(judged),
         }
-    })
-}
-
-/// Hours with a wrong R.
-fn hour_with(book: &Book, line: &[u8], wrong: fn(f32, f32) -> f64) -> Judged {
-    let judged = judge(book, line)?;
-    let single = |place: usize| f32::from_bits(u32_at(line, place));
-    match judged.method {
-        0 => Ok(Addition {
-            co2_ug: 518 * wrong(single(8), single(12)) as u64,
-            ..judged
-        }),
-        _ => Ok(judged),
-    }
-}
-
-pub fn multiplies_in_single_precision(frame: &Frame) -> Answer {
-    judging(frame, |book, line| {
-        hour_with(book, line, |percent, flow| {
-            (1_000.0 * f64::from(percent * flow)).round_ties_even()
-        })
-    })
-}
-
-pub fn rounds_halves_of_r_upward(frame: &Frame) -> Answer {
-    judging(frame, |book, line| {
-        hour_with(book, line, |percent, flow| {
-            (1_000.0 * (f64::from(percent) * f64::from(flow))).round()
-        })
-    })
-}
-
-/// The product of the readings is exact in a double, a thousand times it not.
-pub fn takes_a_thousandfold_in_double_precision(frame: &Frame) -> Answer {
-    judging(frame, |book, line| {
-        hour_with(book, line, |percent, flow| {
-            (1_000.0 * (f64::from(percent) * f64::from(flow))).round_ties_even()
-        })
     })
 }
 
