@@ -73,6 +73,11 @@ caught! {
     multiplies_in_single_precision by ["worked", "books", "damage", "histories"];
     compares_rounded_co2e by ["books", "histories"];
     rounds_halves_of_r_upward by ["worked", "books", "damage", "histories"];
+    rounds_halves_of_r_downward by ["worked", "books", "damage", "histories"];
+    rounds_halves_of_r_to_the_odd_number by ["worked", "books", "damage", "histories"];
+    never_rounds_r_up by ["worked", "books", "damage", "histories"];
+    never_rounds_r_up_to_1 by ["books"];
+    holds_the_rest_of_r_against_half_of_1_000 by ["worked", "books", "damage", "histories"];
     takes_a_thousandfold_in_double_precision by ["books"];
     takes_minus_zero_for_less_than_zero by ["books", "histories"];
     turns_carbon_into_co2_by_44_over_12 by ALL;

@@ -2,7 +2,9 @@
 
 use second::answer::{Answer, Frame};
 use second::bytes::u32_at;
+use second::hour::thousandfold;
 use second::record::{judge, Addition};
+use second::single::Thousandfold;
 
 use super::records::judging;
 
@@ -34,15 +36,52 @@ pub fn multiplies_in_single_precision(frame: &Frame) -> Answer {
     })
 }
 
-pub fn rounds_halves_of_r_upward(frame: &Frame) -> Answer {
-    floating(frame, |percent, flow| {
-        (1_000.0 * (f64::from(percent) * f64::from(flow))).round()
-    })
-}
-
 /// The product of the readings is exact in a double, a thousand times it not.
 pub fn takes_a_thousandfold_in_double_precision(frame: &Frame) -> Answer {
     floating(frame, |percent, flow| {
         (1_000.0 * (f64::from(percent) * f64::from(flow))).round_ties_even()
+    })
+}
+
+/// R rounded from the exact product: the whole, and one more where `up` holds.
+fn rounding(frame: &Frame, up: impl Fn(Thousandfold) -> bool) -> Answer {
+    with_r(frame, |line| {
+        let product = thousandfold(line).expect("the hour counts");
+        let r = product.whole + u128::from(up(product));
+        u64::try_from(r).expect("R is at most 10^14 within the ranges")
+    })
+}
+
+pub fn rounds_halves_of_r_upward(frame: &Frame) -> Answer {
+    rounding(frame, |product| 2 * product.rest >= product.one)
+}
+
+/// So does a program that asks whether the rest is even and not the whole: a
+/// thousandfold is divided, so at a half the rest is a multiple of 8.
+pub fn rounds_halves_of_r_downward(frame: &Frame) -> Answer {
+    rounding(frame, |product| 2 * product.rest > product.one)
+}
+
+pub fn rounds_halves_of_r_to_the_odd_number(frame: &Frame) -> Answer {
+    rounding(frame, |Thousandfold { whole, rest, one }| {
+        2 * rest > one || (2 * rest == one && whole % 2 == 0)
+    })
+}
+
+pub fn never_rounds_r_up(frame: &Frame) -> Answer {
+    rounding(frame, |_| false)
+}
+
+/// That is, gives 0 wherever nothing is whole.
+pub fn never_rounds_r_up_to_1(frame: &Frame) -> Answer {
+    rounding(frame, |Thousandfold { whole, rest, one }| {
+        whole > 0 && (2 * rest > one || (2 * rest == one && whole % 2 == 1))
+    })
+}
+
+/// Instead of half of the divisor.
+pub fn holds_the_rest_of_r_against_half_of_1_000(frame: &Frame) -> Answer {
+    rounding(frame, |Thousandfold { whole, rest, .. }| {
+        2 * rest > 1_000 || (2 * rest == 1_000 && whole % 2 == 1)
     })
 }
