@@ -1,14 +1,15 @@
 -- The divisor is even, so that the remainder stands to its half as twice the remainder, of which
 -- `nearestTo` speaks, stands to all of it. Assumes nothing.
-use Prim.Native.Nat.{ℕ, _+_, _-_, _*_, _/_, _%_, _^_, _<_}
+use Prim.Native.Nat.{ℕ, _*_, _/_, _%_, _^_, _<_}
 use mathlib.Core.Path.{_≡_, sym, ap, _∙_}
 use native.Mathlib.Nat.{one-mul, div-le-self}
 use native.Mathlib.Omega.{arith}
 use lib.Dec.{lit<}
-use lib.Pow.{pow-add, pow-pos, shl-exact}
+use lib.Pow.{pow-pos, shl-exact}
 use borrow.Author.Needs.{needs}
 use Rattle.mass.specs.Rounding.{nearestTo}
 use Rattle.mass.proofs.RoundingLaws.{nearestTo-below, nearestTo-above, nearestTo-half}
+use Rattle.mass.proofs.MultipleLaws.{pow-parted}
 use Rattle.mass.proofs.rounding.round_shifted.Statement.{statement}
 use Rattle.mass.proofs.rounding.round_shifted.Tie as tie
 
@@ -25,13 +26,7 @@ positive : (c : tie.Start) → 0 < divisor c
 positive c = omega (arith, power c, pow-pos (c .args .places))
 
 even : (c : tie.Start) → 2 * (divisor c / 2) ≡ divisor c
-even c = omega (arith, power c, doubled)
-  where
-    doubled : 2 ^ c .args .places ≡ 2 * 2 ^ (c .args .places - 1)
-    doubled =
-        let s = c .args .places in
-        let one-more : s ≡ 1 + (s - 1) = omega (arith, c .pre .1 .0) in
-        ap (λ (x : ℕ). 2 ^ x) one-more ∙ pow-add 2 1 (s - 1)
+even c = omega (arith, power c, pow-parted (c .args .places) 1 (c .pre .1 .0))
 
 rounded : (c : tie.Start) {r : ℕ} → nearestTo (c .args .n) (divisor c) ≡ r
     → r ≡ nearestTo (c .args .n) (2 ^ c .args .places)
