@@ -11,7 +11,7 @@ use crate::draft::put;
 type Judged = Result<Addition, Reason>;
 
 /// A job done with a wrong judge of records: call 4 and wakes.
-pub fn judging(frame: &Frame, wrong: impl Fn(&Book, &[u8]) -> Judged) -> Answer {
+pub(super) fn judging(frame: &Frame, wrong: impl Fn(&Book, &[u8]) -> Judged) -> Answer {
     let mut answered = answer(frame);
     let Ok(book) = Book::read(frame.book) else {
         return answered;
