@@ -1,14 +1,19 @@
--- No mass of fuel passes 4,000,000 t, so that 64 bits hold it. Assumes nothing.
-use Prim.Native.Nat.{ℕ, _*_, _/_, _≤_}
+-- No mass of fuel passes 4,000,000 t, so that 64 bits hold it; and a low value makes no heat that a
+-- measured one couldn't be. Assumes nothing.
+use Prim.Native.Nat.{ℕ, _+_, _*_, _/_, _≤_}
+use mathlib.Core.Path.{_≡_}
 use native.Mathlib.Nat.{mul-le-mul, mul-le-mul-right, le-trans}
+use native.Mathlib.Omega.{arith}
 use lib.Dec.{lit≤}
 use Rattle.mass.specs.declared.fuel.Amount.{Amount}
 use Rattle.mass.specs.declared.fuel.Heat.{Heat}
+use Rattle.mass.specs.declared.fuel.LowHeat.{LowHeat}
 use Rattle.mass.specs.declared.fuel.Carbon.{Carbon}
 use Rattle.mass.specs.declared.fuel.Co2Factor.{Co2Factor}
 use Rattle.mass.specs.declared.fuel.TraceFactor.{TraceFactor}
+use Rattle.mass.specs.Rounding.{halfUp}
 use Rattle.mass.specs.Ledger.{tonne, tonnesEach}
-use Rattle.mass.specs.Fuel.{HeatInReach, CarbonInReach, co2OfHeat, co2OfCarbon, traceOfHeat}
+use Rattle.mass.specs.Fuel.{HeatInReach, CarbonInReach, co2OfHeat, co2OfCarbon, traceOfHeat, highOf}
 
 -- In µg of CO2; CH4 and N2O come to no more ng.
 abbrev pub mostEach : ℕ
@@ -40,3 +45,16 @@ pub traceOfHeat-le : (a : Amount) (h : Heat) (x : TraceFactor) → HeatInReach (
     → traceOfHeat a h x .0 ≤ mostEach
 unfolding traceOfHeat
 traceOfHeat-le a h x = heat-product-le
+
+-- ---- a low value
+-- Half a kJ more, and what is left of one falls away.
+pub highOf-hundredths : (h : LowHeat) (r : Heat) → r .0 ≡ (h .0 * 111 + 50) / 100 → r ≡ highOf h
+unfolding highOf halfUp
+highOf-hundredths h r e =
+    let p : r .0 ≡ halfUp (111 * h .0) 100 = omega arith in
+    λ i. record { 0 = p i }
+
+-- It comes to 199,800 kJ at most.
+pub highOf-le : (h : LowHeat) → h .0 ≤ 180000 → highOf h .0 ≤ 200000
+unfolding highOf halfUp
+highOf-le h l = omega arith

@@ -3,14 +3,18 @@
 use crate::Ng;
 use crate::Ug;
 ghost use mathlib.Core.Path.{_≡_};
-ghost use Prim.Native.Nat.{_*_};
-ghost use Rattle.mass.specs.Fuel.{HeatInReach, CarbonInReach, co2OfHeat, co2OfCarbon, traceOfHeat};
+ghost use Prim.Native.Nat.{_*_, _≤_};
+ghost use Rattle.mass.specs.Fuel.{HeatInReach, CarbonInReach, co2OfHeat, co2OfCarbon, traceOfHeat, highOf};
 
 // An amount of fuel in the unit of its kind: kilograms, litres or standard cubic metres.
 pub struct Amount(pub u32);
 
 // Heat in kJ for each unit of fuel.
 pub struct Heat(pub u32);
+
+// Heat as some suppliers of natural gas quote it, without that of its water vapour. No mass is made
+// from it as it stands.
+pub struct LowHeat(pub u32);
 
 // Carbon in mg for each unit of fuel.
 pub struct Carbon(pub u32);
@@ -23,6 +27,13 @@ pub struct TraceFactor(pub u32);
 
 // µg of CO2 for each mg of carbon.
 const CO2_OF_CARBON: u64 = 3664;
+
+// 1.11 kJ of heat for each kJ of low value, in hundredths.
+const HUNDREDTHS_OF_LOW: u32 = 111;
+
+const HUNDREDTHS_PER_KJ: u32 = 100;
+
+const HALF_KJ: u32 = 50;
 
 // CO2 by methods 1 and 2.
 pub fn weigh_by_heat(a: Amount, h: Heat, x: Co2Factor) -> Ug
@@ -50,6 +61,16 @@ pub fn weigh_trace(a: Amount, h: Heat, x: TraceFactor) -> Ng
 {
     let trace = multiply(a.0, h.0, x.0);
     Ng(trace)
+}
+
+// The heat of natural gas by its low value, to the nearest kJ; half a kJ goes up.
+pub fn find_high(h: LowHeat) -> Heat
+    requires reach { ⌜ h .0 ≤ 180000 ⌝ }
+    ensures exact { λ r. ⌜ r ≡ highOf h ⌝ }
+{
+    let hundredths = h.0 * HUNDREDTHS_OF_LOW;
+    let kj = (hundredths + HALF_KJ) / HUNDREDTHS_PER_KJ;
+    Heat(kj)
 }
 
 fn multiply(amount: u32, heat: u32, factor: u32) -> u64
