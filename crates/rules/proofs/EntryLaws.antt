@@ -1,25 +1,25 @@
 -- What the tests of a record and of its fuel line say of the numbers that masses are made of, and how
 -- large an entry's numbers get. Assumes nothing.
 use Prim.Native.Nat.{ℕ, _≤_, zero-le}
-use mathlib.Core.Bool.{true}
+use mathlib.Core.Bool.{true, false}
 use mathlib.Core.List.{List}
 use mathlib.Core.Path.{_≡_, refl, sym, _∙_}
-use native.Mathlib.Nat.{le-trans}
+use native.Mathlib.Nat.{le-trans, le-of-eq}
 use lib.Dec.{eqb, lit≤}
 use borrow.Author.Tests.{leb-true}
-use Rattle.choice.proofs.TestsLaws.{also-l, also-r, choose-t, if-choose}
+use Rattle.choice.proofs.TestsLaws.{also-l, also-r, choose-t, choose-f, if-choose}
 use Rattle.mass.specs.declared.Ug.{Ug}
 use Rattle.mass.specs.declared.hour.Readings.{Readings}
 use Rattle.mass.specs.Fuel.{HeatInReach, CarbonInReach}
 use Rattle.mass.specs.Hour.{InRange}
-use Rattle.mass.proofs.FuelLaws.{mostEach, co2OfHeat-le, co2OfCarbon-le, traceOfHeat-le}
+use Rattle.mass.proofs.FuelLaws.{mostEach, co2OfHeat-le, co2OfCarbon-le, traceOfHeat-le, highOf-le}
 use Rattle.mass.proofs.HourLaws.{hourMass-le}
 use Rattle.rules.specs.declared.entry.Entry.{Entry}
-use Rattle.rules.specs.Fields.{fuelKind, defaultHeat, co2Factor, ch4Factor, n2oFactor, heatMeasured, amount, carbon}
+use Rattle.rules.specs.Fields.{fuelKind, defaultHeat, co2Factor, ch4Factor, n2oFactor, heatMeasured, heatLow, amount, heat, carbon}
 use Rattle.rules.specs.Book.{fuelHeadOk, fuelOk}
 use Rattle.rules.specs.Method.{methodOf}
-use Rattle.rules.specs.Entry.{heatInUse, co2By, fuelEntry, hourEntry}
-use Rattle.rules.specs.Record.{heatRange, carbonLimit, fuelRanges}
+use Rattle.rules.specs.Entry.{measuredHeat, heatInUse, co2By, fuelEntry, hourEntry}
+use Rattle.rules.specs.Record.{heatLimit, heatRange, carbonLimit, fuelRanges}
 use Rattle.rules.proofs.MethodLaws.{methodOf-le}
 
 -- ---- ranges
@@ -27,11 +27,40 @@ carbonLimit-le : (f : List ℕ) → carbonLimit f ≤ 4000000
 unfolding carbonLimit
 carbonLimit-le f = if-choose (λ (x : ℕ). x ≤ 4000000) (eqb (fuelKind f) 3) (λ gas. lit≤ tt) (λ other. lit≤ tt)
 
-heatInUse-le : (l f : List ℕ) → heatRange l ≡ true → defaultHeat f ≤ 200000 → heatInUse l f ≤ 200000
-unfolding heatRange heatInUse
+-- The limit of a low value, and that of any other.
+pub low-le : (l : List ℕ) → heatLow l ≡ true → heat l ≤ heatLimit l → heat l ≤ 180000
+unfolding heatLimit
+low-le l low h = le-trans h (le-of-eq (choose-t _ low refl))
+
+high-le : (l : List ℕ) → heatLow l ≡ false → heat l ≤ heatLimit l → heat l ≤ 200000
+unfolding heatLimit
+high-le l high h = le-trans h (le-of-eq (choose-f _ high refl))
+
+measured-le : (l f : List ℕ) → heatRange l f ≡ true → heatMeasured l ≡ true → heat l ≤ heatLimit l
+unfolding heatRange
+measured-le l f h measured =
+    leb-true _ _ (also-r _ _ (also-l _ _ (sym (choose-t true measured refl) ∙ h)))
+
+heatRange-of-fuelRanges : (l f : List ℕ) → fuelRanges l f ≡ true → heatRange l f ≡ true
+unfolding fuelRanges
+heatRange-of-fuelRanges l f h = also-r _ _ (also-l _ _ h)
+
+-- A record in its ranges gives no heat past the limit.
+pub heat-le-heatLimit : (l f : List ℕ) → fuelRanges l f ≡ true → heatMeasured l ≡ true → heat l ≤ heatLimit l
+heat-le-heatLimit l f h = measured-le l f (heatRange-of-fuelRanges l f h)
+
+measuredHeat-le : (l : List ℕ) → heat l ≤ heatLimit l → measuredHeat l ≤ 200000
+unfolding measuredHeat
+measuredHeat-le l h =
+    if-choose (λ (x : ℕ). x ≤ 200000) (heatLow l)
+    (λ low. highOf-le _ (low-le l low h))
+    (λ high. high-le l high h)
+
+heatInUse-le : (l f : List ℕ) → heatRange l f ≡ true → defaultHeat f ≤ 200000 → heatInUse l f ≤ 200000
+unfolding heatInUse
 heatInUse-le l f h d =
     if-choose (λ (x : ℕ). x ≤ 200000) (heatMeasured l)
-    (λ measured. leb-true _ _ (also-r _ _ (sym (choose-t true measured refl) ∙ h)))
+    (λ measured. measuredHeat-le l (measured-le l f h measured))
     (λ not-measured. d)
 
 -- A fuel record in its ranges, of a fuel line that breaks no rule.

@@ -1,5 +1,6 @@
 -- What a record that counts gives to the ledgers. RULES, "Fuel", "Monitor hours" and "Ledgers".
 --
+--     measuredHeat l         the heat that the record gives: 1.11 times it where it is a low value
 --     heatInUse l f          the measured heat if flagged, else the fuel's default
 --     co2By m l f            CO2 of the record l of the fuel f by method m
 --     destinationBy m f      the ledger that this CO2 goes to
@@ -15,16 +16,19 @@ use Rattle.mass.specs.declared.Ug.{Ug}
 use Rattle.mass.specs.declared.fuel.Amount.{Amount}
 use Rattle.mass.specs.declared.fuel.Heat.{Heat}
 use Rattle.mass.specs.declared.hour.Readings.{Readings}
-use Rattle.mass.specs.Fuel.{co2OfHeat, co2OfCarbon, traceOfHeat}
+use Rattle.mass.specs.Fuel.{co2OfHeat, co2OfCarbon, traceOfHeat, highOf}
 use Rattle.mass.specs.Hour.{hourMass}
 use Rattle.rules.specs.declared.entry.Destination.{Destination}
 use Rattle.rules.specs.declared.entry.Destination.the-variants.{Fossil, Biomass, Nowhere}
 use Rattle.rules.specs.declared.entry.Entry.{Entry}
-use Rattle.rules.specs.Fields.{fuelClass, defaultHeat, co2Factor, ch4Factor, n2oFactor, heatMeasured, amount, heat, carbon}
+use Rattle.rules.specs.Fields.{fuelClass, defaultHeat, co2Factor, ch4Factor, n2oFactor, heatMeasured, heatLow, amount, heat, carbon}
 use Rattle.rules.specs.Method.{methodOf}
 
+unfoldable pub measuredHeat : List ℕ → ℕ
+measuredHeat l = choose (heatLow l) (highOf (record { 0 = heat l }) .0) (heat l)
+
 unfoldable pub heatInUse : List ℕ → List ℕ → ℕ
-heatInUse l f = choose (heatMeasured l) (heat l) (defaultHeat f)
+heatInUse l f = choose (heatMeasured l) (measuredHeat l) (defaultHeat f)
 
 abbrev pub amountOf : List ℕ → Amount
 amountOf l = record { 0 = amount l }

@@ -7,7 +7,7 @@
 --     fuel line f       number, fuelKind, fuelClass, defaultHeat, co2Factor, ch4Factor, n2oFactor;
 --                       fuelBlank
 --     record l          kind, flags, unitNumber, fuelNumber
---     fuel record l     heatMeasured, carbonMeasured, month, amount, heat, carbon; fuelRecordBlank
+--     fuel record l     heatMeasured, carbonMeasured, heatLow, month, amount, heat, carbon; fuelRecordBlank
 --     monitor hour l    hour, percentBits, flowBits; hourBlank
 --
 -- A gap or a blank is made of the bytes that no field names, and says that they are 0.
@@ -111,6 +111,10 @@ heatMeasured l = eqb (flags l % 2) 1
 
 abbrev pub carbonMeasured : List ℕ → Bool
 carbonMeasured l = eqb (flags l / 2 % 2) 1
+
+-- The heat is a low value.
+abbrev pub heatLow : List ℕ → Bool
+heatLow l = eqb (flags l / 4 % 2) 1
 
 abbrev pub month : List ℕ → ℕ
 month l = word l 6 2

@@ -50,7 +50,8 @@ pub data Applies (l : List ℕ) (units fuels : List (List ℕ)) : ℕ → Type 0
   noUnit : Lacks (unitNumber l) units → Applies l units fuels 2
   -- 3: fuel not listed.
   noFuel : FuelRecord l → Lacks (fuelNumber l) fuels → Applies l units fuels 3
-  -- 4: month, amount, heat or carbon out of range, the limit of carbon being that of the fuel's kind;
+  -- 4: month, amount, heat or carbon out of range, the limit of carbon being that of the fuel's kind, or a
+  -- low heat of a fuel that isn't natural gas;
   fuelOutside : (f : List ℕ) → FuelRecord l → Listed (fuelNumber l) fuels f → fuelRanges l f ≡ false
       → Applies l units fuels 4
   -- hour or reading out of range.

@@ -5,6 +5,8 @@
 --     listed x ls k rest           rest of the first line of ls with number x; set aside with reason k
 --                                  if there is none
 --     fuelForm l, hourForm l       reason 1 doesn't apply
+--     heatLimit l, carbonLimit f   the most heat and carbon that the record may give
+--     heatRange l f                the heat is in its range, if it was measured
 --     fuelRanges l f, hourRange l  reason 4 doesn't apply, the readings of an hour aside
 --     fuelJudged l u f             what becomes of a fuel record once unit and fuel are known
 --     fuelOutcome l units fuels    what becomes of a fuel record
@@ -16,7 +18,7 @@
 --
 -- Laws: proofs/RecordLaws.antt. Definitions only.
 use Prim.Native.Nat.{ℕ}
-use mathlib.Core.Bool.{Bool, true}
+use mathlib.Core.Bool.{Bool, true, not}
 use mathlib.Core.List.{List, [], _∷_}
 use lib.Dec.{eqb, leb, ltb}
 use Rattle.choice.specs.Tests.{_also_, _either_, choose}
@@ -27,7 +29,7 @@ use Rattle.rules.specs.declared.book.Head.{Head}
 use Rattle.rules.specs.declared.record.Outcome.{Outcome}
 use Rattle.rules.specs.declared.record.Outcome.the-variants.{SetAside, Counted}
 use Rattle.rules.specs.Bytes.{line, linesIn}
-use Rattle.rules.specs.Fields.{number, monitored, fuelKind, kind, flags, unitNumber, fuelNumber, heatMeasured, carbonMeasured, month, amount, heat, carbon, fuelRecordBlank, hour, percentBits, flowBits, hourBlank}
+use Rattle.rules.specs.Fields.{number, monitored, fuelKind, fuelClass, kind, flags, unitNumber, fuelNumber, heatMeasured, carbonMeasured, heatLow, month, amount, heat, carbon, fuelRecordBlank, hour, percentBits, flowBits, hourBlank}
 use Rattle.rules.specs.Book.{unitLines, fuelLines}
 use Rattle.rules.specs.Method.{methodOf}
 use Rattle.rules.specs.Entry.{heatInUse, fuelEntry, hourEntry}
@@ -43,9 +45,11 @@ listed x [] k rest = SetAside k
 listed x (l ∷ ls) k rest = choose (eqb (number l) x) (rest l) (listed x ls k rest)
 
 -- ---- reason 1: flags, and bytes that must be 0
+-- A low value is a measured one.
 unfoldable pub fuelForm : List ℕ → Bool
 fuelForm l =
-    leb (flags l) 3
+    leb (flags l) 7
+    also (heatMeasured l either not (heatLow l))
     also (heatMeasured l either eqb (heat l) 0)
     also (carbonMeasured l either eqb (carbon l) 0)
     also fuelRecordBlank l
@@ -54,8 +58,15 @@ unfoldable pub hourForm : List ℕ → Bool
 hourForm l = eqb (flags l) 0 also eqb (fuelNumber l) 0 also hourBlank l
 
 -- ---- reason 4: ranges
-unfoldable pub heatRange : List ℕ → Bool
-heatRange l = choose (heatMeasured l) (leb 1 (heat l) also leb (heat l) 200000) true
+unfoldable pub heatLimit : List ℕ → ℕ
+heatLimit l = choose (heatLow l) 180000 200000
+
+-- A low value is one of natural gas.
+unfoldable pub heatRange : List ℕ → List ℕ → Bool
+heatRange l f =
+    choose (heatMeasured l)
+    (leb 1 (heat l) also leb (heat l) (heatLimit l) also (eqb (fuelClass f) 1 either not (heatLow l)))
+    true
 
 unfoldable pub carbonLimit : List ℕ → ℕ
 carbonLimit f = choose (eqb (fuelKind f) 3) 4000000 1000000
@@ -65,7 +76,7 @@ fuelRanges l f =
     leb 1 (month l)
     also leb (month l) 12
     also leb (amount l) 100000000
-    also heatRange l
+    also heatRange l f
     also leb (carbon l) (carbonLimit f)
 
 unfoldable pub hourRange : List ℕ → Bool

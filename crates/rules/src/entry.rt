@@ -8,14 +8,16 @@ use mass::fuel::Amount;
 use mass::fuel::Carbon;
 use mass::fuel::Co2Factor;
 use mass::fuel::Heat;
+use mass::fuel::LowHeat;
 use mass::fuel::TraceFactor;
 ghost use mathlib.Core.Bool.{true};
 ghost use mathlib.Core.Path.{_≡_};
 ghost use Prim.Native.Nat.{_≤_};
 ghost use lib.ListN.{length};
+ghost use Rattle.rules.specs.Fields.{heat};
 ghost use Rattle.rules.specs.Book.{fuelOk};
-ghost use Rattle.rules.specs.Record.{fuelRanges};
-ghost use Rattle.rules.specs.Entry.{heatInUse, co2By, destinationBy, fuelEntry};
+ghost use Rattle.rules.specs.Record.{heatLimit, fuelRanges};
+ghost use Rattle.rules.specs.Entry.{measuredHeat, heatInUse, co2By, destinationBy, fuelEntry};
 
 // The ledger that a record's CO2 goes to. CH4 and N2O have one each.
 pub enum Destination {
@@ -59,12 +61,27 @@ pub(crate) fn make_entry(l: &[u8], u: &[u8], f: &[u8]) -> Entry
 // The heat in use.
 pub(crate) fn find_heat(l: &[u8], f: &[u8]) -> u32
     requires whole { ⌜ (32 ≤ length (now l)) × (32 ≤ length (now f)) ⌝ }
+    requires ranges { ⌜ fuelRanges (now l) (now f) ≡ true ⌝ }
     ensures heat { λ r. ⌜ r ≡ heatInUse (now (l .entry)) (now (f .entry)) ⌝ }
 {
     if field::is_heat_measured(l) {
-        return field::heat(l);
+        return find_measured(l);
     }
     field::default_heat(f)
+}
+
+// The heat that the record gives.
+fn find_measured(l: &[u8]) -> u32
+    requires whole { ⌜ 32 ≤ length (now l) ⌝ }
+    requires range { ⌜ heat (now l) ≤ heatLimit (now l) ⌝ }
+    ensures heat { λ r. ⌜ r ≡ measuredHeat (now (l .entry)) ⌝ }
+{
+    let heat = field::heat(l);
+    if field::is_heat_low(l) {
+        let high = fuel::find_high(LowHeat(heat));
+        return high.0;
+    }
+    heat
 }
 
 fn find_destination(by: u8, f: &[u8]) -> Destination

@@ -196,6 +196,13 @@ pub(crate) fn is_carbon_measured(l: &[u8]) -> bool
     l[1] / 2 % 2 == 1
 }
 
+pub(crate) fn is_heat_low(l: &[u8]) -> bool
+    requires whole { ⌜ 32 ≤ length (now l) ⌝ }
+    ensures field { λ r. ⌜ r ≡ fields.heatLow (now (l .entry)) ⌝ }
+{
+    l[1] / 4 % 2 == 1
+}
+
 pub(crate) fn month(l: &[u8]) -> u64
     requires whole { ⌜ 32 ≤ length (now l) ⌝ }
     ensures field { λ r. ⌜ r ≡ fields.month (now (l .entry)) ⌝ }
