@@ -34,10 +34,11 @@ static uint32_t number_of(size_t i)
     return (uint32_t)(7 + 11 * i + i * i % 5);
 }
 
-/* In a mixed book every fourth unit has a monitor, and of the others every fourth is a big one. */
+/* Where not all units have one, or none, every fourth has a monitor; of the others every third is a
+   big one. */
 static bool is_monitored(enum mix mix, size_t i)
 {
-    return mix == ALL_HOURS || (mix == MIXED && i % 4 == 0);
+    return mix == ALL_HOURS || (mix != ALL_FUEL && i % 4 == 0);
 }
 
 static bool is_big(size_t i)
@@ -52,12 +53,13 @@ static void write_unit(uint8_t *l, enum mix mix, size_t i)
     write(l + 4, is_big(i) ? 9000 : 2500, 4);
 }
 
-static void write_fuel(uint8_t *l, size_t i)
+static void write_fuel(uint8_t *l, enum mix mix, size_t i)
 {
     static const uint8_t kinds[4] = {3, 2, 1, 1}, classes[4] = {1, 2, 3, 0};
+    size_t sort = mix == LOW_HEATS ? 0 : i % 4;
     write(l, number_of(i), 2);
-    write(l + 2, kinds[i % 4], 1);
-    write(l + 3, classes[i % 4], 1);
+    write(l + 2, kinds[sort], 1);
+    write(l + 3, classes[sort], 1);
     write(l + 4, 38000 + (uint32_t)i, 4);
     write(l + 8, 50000 + 100 * (uint32_t)i, 4);
     write(l + 12, 900 + (uint32_t)i, 4);
@@ -80,6 +82,13 @@ static void write_burned(uint8_t *l, size_t unit, size_t fuel, uint64_t *row)
         write(l + 16, draw(row, 1000001), 4);
 }
 
+static void write_low(uint8_t *l, size_t unit, size_t fuel, uint64_t *row)
+{
+    write_burned(l, unit, fuel, row);
+    l[1] |= 5;
+    write(l + 12, 1 + draw(row, 180000), 4);
+}
+
 static void write_hour(uint8_t *l, size_t unit, uint64_t *row)
 {
     write(l, 2, 1);
@@ -87,6 +96,17 @@ static void write_hour(uint8_t *l, size_t unit, uint64_t *row)
     write(l + 6, 1 + draw(row, 8784), 2);
     write_single(l + 8, (float)draw(row, 100001) / 1000.0f);
     write_single(l + 12, (float)draw(row, 1000000001));
+}
+
+static void write_record(uint8_t *l, const struct recipe *recipe, size_t unit, uint64_t *row)
+{
+    enum mix mix = recipe->mix;
+    if (mix == ALL_HOURS || (mix == MIXED && is_monitored(mix, unit) && draw(row, 2)))
+        write_hour(l, unit, row);
+    else if (mix == LOW_HEATS)
+        write_low(l, unit, draw(row, (uint32_t)recipe->fuels), row);
+    else
+        write_burned(l, unit, draw(row, (uint32_t)recipe->fuels), row);
 }
 
 void make_book(struct bytes *b, const struct recipe *recipe)
@@ -99,16 +119,12 @@ void make_book(struct bytes *b, const struct recipe *recipe)
     b->length = BOOK_LINE * (n + rest);
     for (size_t i = 0; i < n; i++) {
         size_t unit = draw(&row, (uint32_t)recipe->units);
-        bool hour = is_monitored(recipe->mix, unit) && (recipe->mix == ALL_HOURS || draw(&row, 2));
-        if (hour)
-            write_hour(line(b, i), unit, &row);
-        else
-            write_burned(line(b, i), unit, draw(&row, (uint32_t)recipe->fuels), &row);
+        write_record(line(b, i), recipe, unit, &row);
     }
     for (size_t i = 0; i < recipe->units; i++)
         write_unit(line(b, n + i), recipe->mix, i);
     for (size_t i = 0; i < recipe->fuels; i++)
-        write_fuel(line(b, n + recipe->units + i), i);
+        write_fuel(line(b, n + recipe->units + i), recipe->mix, i);
     uint8_t *trailer = line(b, n + rest - 1);
     memcpy(trailer, "STCB", 4);
     write(trailer + 4, 1, 2);
@@ -122,7 +138,18 @@ size_t in_trailer(const struct bytes *b, size_t at)
     return b->length - BOOK_LINE + at;
 }
 
-/* Unit 0 has a monitor in a mixed book, unit 1 is small, unit 2 big, and no unit has number 1. */
+void write_heat(struct bytes *b, size_t i, size_t unit, size_t fuel, uint32_t flags, uint32_t heat)
+{
+    uint8_t *l = line(b, i);
+    uint64_t row = i;
+    memset(l, 0, BOOK_LINE);
+    write_burned(l, unit, fuel, &row);
+    write(l + 1, flags, 1);
+    write(l + 12, heat, 4);
+    write(l + 16, flags & 2 ? draw(&row, 1000001) : 0, 4);
+}
+
+/* No unit has number 1. */
 void spoil(struct bytes *b, size_t i, unsigned reason)
 {
     uint8_t *l = line(b, i);

@@ -8,7 +8,7 @@
 enum { LONGEST_BOOK = 65536, BOOK_LINE = 32, WARMING_SETS = 2 };
 enum { YEAR_AT = 16, SET_AT = 20 }; /* bytes of the trailer */
 
-enum mix { MIXED, ALL_FUEL, ALL_HOURS };
+enum mix { MIXED, ALL_FUEL, LOW_HEATS, ALL_HOURS }; /* LOW_HEATS: natural gas by its low value */
 
 struct recipe {
     const char *name;
@@ -29,6 +29,11 @@ void make_book(struct bytes *b, const struct recipe *recipe);
 
 /* Where this byte of the trailer stands in a book. */
 size_t in_trailer(const struct bytes *b, size_t at);
+
+/* Unit 0 of a mixed book has a monitor, unit 1 is small and unit 2 big; its first four fuels have
+   the classes 1, 2, 3 and 0. Record i becomes one of these with flags and heat as they are given,
+   right or not. */
+void write_heat(struct bytes *b, size_t i, size_t unit, size_t fuel, uint32_t flags, uint32_t heat);
 
 /* Makes record i of a mixed book one with this reason, 1 to 7. For 7 the last fuel line loses its
    default heat. */

@@ -8,6 +8,7 @@
 enum { FUZZED = 30000, DRAWN = 20000 };
 
 static const struct recipe small = {"small", MIXED, 10, 4, 4};
+static const struct recipe low = {"small, low", LOW_HEATS, 10, 4, 4};
 
 /* Every record, and two that aren't there. */
 static void compare_records(const struct bytes *b, const char *name)
@@ -93,6 +94,25 @@ static void compare_other_set(struct bytes *b)
     }
 }
 
+/* Every pattern of the lowest four flags, of each class in a unit with a monitor, a small and a big
+   one, with heats about the ends of their ranges and about a half of 1.11 times the value. */
+static void compare_heats(struct bytes *b)
+{
+    static const uint32_t heats[] = {0,      1,      49,     50,     51,     149,        150,
+                                     179949, 179950, 180000, 180001, 200000, 200001, UINT32_MAX};
+    make_under(b, &small, 0);
+    const struct out fresh = compare_fresh(b, "heats", SIZE);
+    for (uint32_t flags = 0; flags < 16; flags++)
+        for (size_t unit = 0; unit < 3; unit++)
+            for (size_t fuel = 0; fuel < 4; fuel++)
+                for (size_t i = 0; i < sizeof heats / sizeof *heats; i++) {
+                    struct out at = fresh;
+                    write_heat(b, 0, unit, fuel, flags, heats[i]);
+                    compare_record(b, "heats", 0);
+                    compare_wake(b, "heats", &at, SIZE, 1, SIZE);
+                }
+}
+
 /* Whole tonnes about the limits of the decision, in a checkpoint that no wake made. It is reported
    under both sets. */
 static void compare_decisions(struct bytes *b)
@@ -149,7 +169,7 @@ static void compare_too_many(struct bytes *b)
     compare_book(b, fuels.name);
 }
 
-/* Each reason, and a byte or two damaged, in a small book of this set. */
+/* Each reason, and a byte or two damaged, in small books of this set. */
 static void compare_faults(struct bytes *b, unsigned set)
 {
     uint64_t row = 5;
@@ -159,7 +179,7 @@ static void compare_faults(struct bytes *b, unsigned set)
         compare_book(b, "spoiled");
     }
     for (int i = 0; i < FUZZED; i++) {
-        make_under(b, &small, set);
+        make_under(b, i % 4 == 0 ? &low : &small, set);
         for (uint32_t more = 1 + draw(&row, 2); more != 0; more--)
             damage(b->book, b->length, &row);
         compare_book(b, "damaged");
@@ -175,6 +195,7 @@ void compare_damaged(void)
         compare_faults(&b, set);
     compare_trailers(&b);
     compare_other_set(&b);
+    compare_heats(&b);
     compare_decisions(&b);
     compare_too_many(&b);
     tell_compared();

@@ -8,6 +8,7 @@
 #include "wetherstep.h"
 
 #include <inttypes.h>
+#include <stdbool.h>
 #include <stdio.h>
 #include <stdlib.h>
 #include <string.h>
@@ -22,6 +23,9 @@ static unsigned long compared, counts[CALLS][FIELDS][256];
 
 /* Reports by the book's set of warming values and by the decision, 1 if the site must report. */
 static unsigned long reports[WARMING_SETS][2];
+
+/* Records that count with a low value, by their method. */
+static unsigned long lows[5];
 
 static struct out filled(void)
 {
@@ -96,12 +100,21 @@ void compare_left(const struct bytes *b, const char *name, const struct out *fro
     same(name, LEFT, library, plain, "", "", 0);
 }
 
+static bool has_low(const struct bytes *b, uint32_t index)
+{
+    const uint8_t *l = b->book + BOOK_LINE * index;
+    return l[0] == 1 && (l[1] & 4) != 0;
+}
+
 void compare_record(const struct bytes *b, const char *name, uint32_t index)
 {
     uint64_t one[5] = {9, 9, 9, 9, 9}, two[5] = {9, 9, 9, 9, 9};
     uint64_t library = wetherstep_record(b->book, b->length, index, one);
     uint64_t plain = plain_record(b->book, b->length, index, two);
     same(name, RECORD, library, plain, one, two, sizeof one);
+    if (wetherstep_number(plain) == 0 && wetherstep_reason(plain) == 0 &&
+        wetherstep_method(plain) != WETHERSTEP_NO_RECORD && has_low(b, index))
+        lows[wetherstep_method(plain)]++;
 }
 
 /* What each call has to have answered. */
@@ -138,11 +151,24 @@ static void see_reports(void)
             }
 }
 
+/* Under each method that can have one. */
+static void see_lows(void)
+{
+    for (unsigned method = 2; method <= 4; method++)
+        if (lows[method] == 0) {
+            printf("no record with a low value had method %u\n", method);
+            exit(1);
+        }
+}
+
 void tell_compared(void)
 {
     see_all();
     see_reports();
+    see_lows();
     printf("compared: %lu calls, every number, reason, method and ledger among them; all alike\n"
-           "reports with figures: %lu under the first warming values, %lu under the second\n",
-           compared, reports[0][0] + reports[0][1], reports[1][0] + reports[1][1]);
+           "reports with figures: %lu under the first warming values, %lu under the second\n"
+           "records that count with a low value: %lu\n",
+           compared, reports[0][0] + reports[0][1], reports[1][0] + reports[1][1],
+           lows[2] + lows[3] + lows[4]);
 }

@@ -27,7 +27,8 @@ void compare_left(const struct bytes *b, const char *name, const struct out *fro
 void compare_record(const struct bytes *b, const char *name, uint32_t index);
 
 /* Says how many calls were compared, and stops unless each call gave every number, reason, method
-   and ledger that it can, and reports each decision under each set of warming values. */
+   and ledger that it can, reports each decision under each set of warming values, and records with
+   a low value each method that they can have. */
 void tell_compared(void);
 
 #endif

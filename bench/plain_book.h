@@ -18,7 +18,8 @@ struct unit {
 
 struct fuel {
     uint32_t heat, co2, ch4, n2o, most_carbon;
-    bool biomass, refined; /* refined: natural gas or distillate oil, method 2 at any rating */
+    bool biomass, natural_gas;
+    bool refined; /* natural gas or distillate oil: method 2 at any rating */
 };
 
 struct book {
@@ -90,6 +91,7 @@ static bool decode_fuels(struct book *k, const uint8_t *l)
                          .n2o = read32(l + 16),
                          .most_carbon = kind == 3 ? 4000000 : 1000000,
                          .biomass = class == 3,
+                         .natural_gas = class == 1,
                          .refined = class == 1 || class == 2};
         uint64_t blank = read32(l + 20) | read64(l + 24);
         if (number <= before || !is_kind_right(kind, class) || f.heat > 200000 ||
