@@ -66,13 +66,21 @@ pub enum Class {
     PureBiomass = 3,
 }
 
+/// A measured heat in kJ per unit of fuel, as the supplier quotes it.
+#[derive(Clone, Copy)]
+pub enum Heat {
+    High(u32),
+    /// Without the heat of the water vapour. That of natural gas counts 1.11 times.
+    Low(u32),
+}
+
 pub enum Record {
     Delivery {
         unit: u16,
         fuel: u16,
         month: u16,
         amount: u32,
-        heat: Option<u32>,
+        heat: Option<Heat>,
         carbon: Option<u32>,
     },
     Hour {

@@ -1,6 +1,6 @@
 //! The 32 bytes of one line, by the offsets of docs/FORMAT.md.
 
-use crate::book::{Class, Fuel, Kind, Record, Unit, Warming, LINE};
+use crate::book::{Class, Fuel, Heat, Kind, Record, Unit, Warming, LINE};
 
 pub type Line = [u8; LINE];
 
@@ -10,6 +10,7 @@ const DELIVERY: u8 = 1;
 const HOUR: u8 = 2;
 const HEAT_MEASURED: u8 = 1;
 const CARBON_MEASURED: u8 = 2;
+const HEAT_LOW: u8 = 4;
 
 pub struct Trailer {
     pub unit_start: u32,
@@ -115,13 +116,13 @@ pub fn encode_record(record: &Record) -> Line {
             carbon,
         } => {
             line[0] = DELIVERY;
-            line[1] |= heat.map_or(0, |_| HEAT_MEASURED);
-            line[1] |= carbon.map_or(0, |_| CARBON_MEASURED);
+            let (heat_flags, heat) = encode_heat(heat);
+            line[1] = heat_flags | carbon.map_or(0, |_| CARBON_MEASURED);
             put16(&mut line, 2, unit);
             put16(&mut line, 4, fuel);
             put16(&mut line, 6, month);
             put32(&mut line, 8, amount);
-            put32(&mut line, 12, heat.unwrap_or(0));
+            put32(&mut line, 12, heat);
             put32(&mut line, 16, carbon.unwrap_or(0));
         }
         Record::Hour {
@@ -139,6 +140,14 @@ pub fn encode_record(record: &Record) -> Line {
         Record::Raw(bytes) => line = bytes,
     }
     line
+}
+
+fn encode_heat(heat: Option<Heat>) -> (u8, u32) {
+    match heat {
+        None => (0, 0),
+        Some(Heat::High(value)) => (HEAT_MEASURED, value),
+        Some(Heat::Low(value)) => (HEAT_MEASURED | HEAT_LOW, value),
+    }
 }
 
 /// A record is said in words only if the words give back all of its bytes.
@@ -159,6 +168,9 @@ pub fn form_fault(line: &Line) -> Option<String> {
     };
     let at = first_difference(line, &encode_record(&record))?;
     Some(match (kind, at) {
+        (DELIVERY, 1) if line[1] & !(HEAT_LOW | CARBON_MEASURED) == 0 => {
+            "it has the flag of a low heat without that of a measured one".to_string()
+        }
         (DELIVERY, 12..=15) => "it has a heat without the flag for one".to_string(),
         (DELIVERY, 16..=19) => "it has carbon without the flag for it".to_string(),
         _ => must_be_zero(at),
@@ -179,9 +191,16 @@ fn decode_delivery(line: &Line) -> Record {
         fuel: get16(line, 4),
         month: get16(line, 6),
         amount: get32(line, 8),
-        heat: (line[1] & HEAT_MEASURED != 0).then(|| get32(line, 12)),
+        heat: decode_heat(line),
         carbon: (line[1] & CARBON_MEASURED != 0).then(|| get32(line, 16)),
     }
+}
+
+fn decode_heat(line: &Line) -> Option<Heat> {
+    let value = get32(line, 12);
+    let is_low = line[1] & HEAT_LOW != 0;
+    let heat = if is_low { Heat::Low } else { Heat::High };
+    (line[1] & HEAT_MEASURED != 0).then(|| heat(value))
 }
 
 fn decode_hour(line: &Line) -> Record {

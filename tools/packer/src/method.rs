@@ -1,6 +1,6 @@
 //! Why no method is permitted for a delivery: docs/RULES.md, "Method".
 
-use crate::book::{in_tenths, Class, Fuel, Unit};
+use crate::book::{in_tenths, Class, Fuel, Heat, Unit};
 use crate::reasons::Account;
 
 /// In tenths of MMBtu/h. Above, a default heat doesn't do, and a measured one not for every class.
@@ -10,7 +10,7 @@ const HIGHEST_FOR_DEFAULT: u32 = 2500;
 pub fn no_method(
     unit: &Unit,
     fuel: &Fuel,
-    heat: Option<u32>,
+    heat: Option<Heat>,
     carbon: Option<u32>,
 ) -> Option<Account> {
     if unit.monitor || carbon.is_some() {

@@ -1,6 +1,6 @@
 //! A text for people, read into a book. The grammar stands in README.md beside this folder.
 
-use crate::book::{Book, Class, Fuel, Kind, Record, Unit, Warming};
+use crate::book::{Book, Class, Fuel, Heat, Kind, Record, Unit, Warming};
 use crate::words::Words;
 
 /// What is wrong with a text, and at which of its lines, counting from 1.
@@ -115,7 +115,7 @@ fn parse_delivery(words: &mut Words) -> Result<Record, String> {
     let fuel = short_after(words, "fuel")?;
     let month = short_after(words, "month")?;
     let amount = number_after(words, "amount")?;
-    let heat = number_if_said(words, "heat")?;
+    let heat = heat_if_said(words)?;
     let carbon = number_if_said(words, "carbon")?;
     words.end()?;
     Ok(Record::Delivery {
@@ -126,6 +126,13 @@ fn parse_delivery(words: &mut Words) -> Result<Record, String> {
         heat,
         carbon,
     })
+}
+
+fn heat_if_said(words: &mut Words) -> Result<Option<Heat>, String> {
+    if let Some(value) = number_if_said(words, "low-heat")? {
+        return Ok(Some(Heat::Low(value)));
+    }
+    Ok(number_if_said(words, "heat")?.map(Heat::High))
 }
 
 fn parse_hour(words: &mut Words) -> Result<Record, String> {

@@ -3,12 +3,13 @@
 use std::fmt::Display;
 use std::ops::RangeInclusive;
 
-use crate::book::{Fuel, Kind, Record};
+use crate::book::{Class, Fuel, Heat, Kind, Record};
 use crate::single;
 
 const MONTHS: RangeInclusive<u32> = 1..=12;
 const AMOUNTS: RangeInclusive<u32> = 0..=100_000_000;
 const MEASURED_HEATS: RangeInclusive<u32> = 1..=200_000;
+const LOW_HEATS: RangeInclusive<u32> = 1..=180_000;
 const CARBONS: RangeInclusive<u32> = 0..=1_000_000;
 const GAS_CARBONS: RangeInclusive<u32> = 0..=4_000_000;
 const HOURS: RangeInclusive<u32> = 1..=8_784;
@@ -36,7 +37,7 @@ pub fn beyond(record: &Record, fuel: Option<&Fuel>) -> Vec<Beyond> {
             vec![
                 number("month", month.into(), MONTHS),
                 number("amount", amount, AMOUNTS),
-                heat.and_then(|heat| number("heat", heat, MEASURED_HEATS)),
+                heat.and_then(measured),
                 carbon.and_then(|carbon| number("carbon", carbon, carbons)),
             ]
         }
@@ -53,6 +54,29 @@ pub fn beyond(record: &Record, fuel: Option<&Fuel>) -> Vec<Beyond> {
         Record::Raw(_) => Vec::new(),
     };
     found.into_iter().flatten().collect()
+}
+
+/// Says of a low heat that its fuel, if it is listed, may not have one.
+pub fn low_of_other_class(record: &Record, fuel: Option<&Fuel>) -> Option<String> {
+    let Record::Delivery {
+        heat: Some(Heat::Low(value)),
+        ..
+    } = *record
+    else {
+        return None;
+    };
+    let fuel = fuel.filter(|fuel| fuel.class != Class::NaturalGas)?;
+    let (number, class) = (fuel.number, fuel.class.word());
+    Some(format!(
+        "low-heat {value} is for natural-gas alone, and fuel {number} is {class}"
+    ))
+}
+
+fn measured(heat: Heat) -> Option<Beyond> {
+    match heat {
+        Heat::High(value) => number("heat", value, MEASURED_HEATS),
+        Heat::Low(value) => number("low-heat", value, LOW_HEATS),
+    }
 }
 
 fn number(field: &'static str, value: u32, range: RangeInclusive<u32>) -> Option<Beyond> {

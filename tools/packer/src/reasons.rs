@@ -4,7 +4,7 @@
 use crate::book::{Book, Fuel, Record, Unit};
 use crate::line::form_fault;
 use crate::method::no_method;
-use crate::ranges::beyond;
+use crate::ranges::{beyond, low_of_other_class};
 
 /// What is said of a record that is set aside.
 pub struct Account {
@@ -105,13 +105,21 @@ fn unlisted(what: &str, number: u16, listed: Vec<u16>) -> Option<Account> {
 }
 
 fn range(record: &Record, fuel: Option<&Fuel>) -> Option<Account> {
-    let (fields, whys): (Vec<_>, Vec<_>) = beyond(record, fuel)
+    let (fields, mut whys): (Vec<_>, Vec<_>) = beyond(record, fuel)
         .into_iter()
         .map(|value| (value.field, value.words))
         .unzip();
-    (!fields.is_empty()).then(|| Account {
+    let mut remedies = Vec::new();
+    if !fields.is_empty() {
+        remedies.push(format!("correct the {}", fields.join(", ")));
+    }
+    if let Some(why) = low_of_other_class(record, fuel) {
+        whys.push(why);
+        remedies.push("give the high value as `heat`, or correct the fuel".to_string());
+    }
+    (!whys.is_empty()).then(|| Account {
         why: whys.join("; "),
-        remedy: format!("correct the {}", fields.join(", ")),
+        remedy: remedies.join("; "),
     })
 }
 

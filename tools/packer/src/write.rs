@@ -1,6 +1,6 @@
 //! The canonical text of a book: the year, the units, the fuels, the records, a line each.
 
-use crate::book::{in_tenths, Book, Fuel, Record, Unit, Warming};
+use crate::book::{in_tenths, Book, Fuel, Heat, Record, Unit, Warming};
 use crate::single;
 
 pub fn text(book: &Book) -> String {
@@ -55,7 +55,11 @@ pub fn record_line(record: &Record) -> String {
             heat,
             carbon,
         } => {
-            let heat = heat.map_or(String::new(), |heat| format!(" heat {heat}"));
+            let heat = match heat {
+                None => String::new(),
+                Some(Heat::High(value)) => format!(" heat {value}"),
+                Some(Heat::Low(value)) => format!(" low-heat {value}"),
+            };
             let carbon = carbon.map_or(String::new(), |carbon| format!(" carbon {carbon}"));
             format!("delivery unit {unit} fuel {fuel} month {month} amount {amount}{heat}{carbon}")
         }

@@ -22,8 +22,17 @@ const FORMS: &str = "
 1 raw FF00000000000000000000000000000000000000000000000000000000000000
   its form is wrong: kind 255 is neither 1, a delivery, nor 2, an hour
   FORM
-1 raw 0104010001000600E80300000000000000000000000000000000000000000000
+1 raw 0108010001000600E80300000000000000000000000000000000000000000000
   its form is wrong: byte 1 of the line has a bit that must be 0
+  FORM
+1 raw 010C010001000600E80300000000000000000000000000000000000000000000
+  its form is wrong: byte 1 of the line has a bit that must be 0
+  FORM
+1 raw 0104010001000600E80300000000000000000000000000000000000000000000
+  its form is wrong: it has the flag of a low heat without that of a measured one
+  FORM
+1 raw 0106010001000600E8030000B889000000000000000000000000000000000000
+  its form is wrong: it has the flag of a low heat without that of a measured one
   FORM
 1 raw 0100010001000600E80300000100000000000000000000000000000000000000
   its form is wrong: it has a heat without the flag for one
@@ -82,6 +91,22 @@ const VALUES: &str = "
 4 delivery unit 1 fuel 1 month 1 amount 1 heat 200001
   RANGE: heat 200001 isn't from 1 to 200000
   correct the heat
+4 delivery unit 1 fuel 1 month 1 amount 1 low-heat 0
+  RANGE: low-heat 0 isn't from 1 to 180000
+  correct the low-heat
+4 delivery unit 1 fuel 1 month 1 amount 1 low-heat 180001
+  RANGE: low-heat 180001 isn't from 1 to 180000
+  correct the low-heat
+4 delivery unit 1 fuel 2 month 1 amount 1 low-heat 35100
+  RANGE: low-heat 35100 is for natural-gas alone, and fuel 2 is distillate-oil
+  give the high value as `heat`, or correct the fuel
+4 delivery unit 3 fuel 3 month 1 amount 1 low-heat 35100 carbon 1
+  RANGE: low-heat 35100 is for natural-gas alone, and fuel 3 is other
+  give the high value as `heat`, or correct the fuel
+4 delivery unit 2 fuel 4 month 13 amount 1 low-heat 180001
+  RANGE: month 13 isn't from 1 to 12; low-heat 180001 isn't from 1 to 180000; low-heat 180001 is \
+    for natural-gas alone, and fuel 4 is pure-biomass
+  correct the month, low-heat; give the high value as `heat`, or correct the fuel
 4 delivery unit 1 fuel 3 month 1 amount 1 carbon 4000001
   RANGE: carbon 4000001 isn't from 0 to 4000000
   correct the carbon
@@ -186,6 +211,12 @@ const UNSUPPORTED: &str = "
 4 delivery unit 1 fuel 2 month 12 amount 100000000 heat 200000 carbon 1000000
   RANGE
   ANY
+4 delivery unit 1 fuel 1 month 1 amount 1 low-heat 1
+  RANGE
+  ANY
+4 delivery unit 1 fuel 5 month 12 amount 100000000 low-heat 180000 carbon 4000000
+  RANGE
+  ANY
 4 hour unit 3 hour 1 percent 0 flow 0
   RANGE
   ANY
@@ -213,6 +244,9 @@ const UNSUPPORTED: &str = "
 6 delivery unit 2 fuel 2 month 1 amount 1 heat 1
   NONE
   give the measured carbon, or correct the unit's rating
+6 delivery unit 2 fuel 5 month 1 amount 1 low-heat 1
+  NONE
+  give the measured carbon, or correct the unit's rating
 6 delivery unit 2 fuel 3 month 1 amount 1 carbon 1
   NONE
   give the measured carbon, or correct the unit's rating
@@ -226,6 +260,9 @@ const UNSUPPORTED: &str = "
   there is no heat in use
   give the measured heat, or give the fuel a default heat
 7 delivery unit 1 fuel 4 month 1 amount 1 heat 1
+  there is no heat in use
+  give the measured heat, or give the fuel a default heat
+7 delivery unit 3 fuel 5 month 1 amount 1 low-heat 1
   there is no heat in use
   give the measured heat, or give the fuel a default heat
 8 delivery unit 1 fuel 1 month 1 amount 1

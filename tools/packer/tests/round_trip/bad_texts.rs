@@ -75,6 +75,7 @@ fuel 6 gas other co2 1 ch4 200001 n2o 0 => ch4 200001; its ch4 is from 0 to 2000
 fuel 6 gas other co2 1 ch4 0 n2o 200001 => n2o 200001; its n2o is from 0 to 200000
 fuel 6 gas other co2 4294967296 ch4 0 n2o 0 => co2 4294967296 is too large
 fuel 6 gas other ch4 0 co2 1 n2o 0 => `co2` should stand where `ch4` does
+fuel 6 gas natural-gas low-heat 1 co2 1 ch4 0 n2o 0 => `co2` should stand where `low-heat` does
 fuel 6 gas other co2 1 ch4 0 => `n2o` is missing
 fuel 6 gas other co2 1 ch4 0 n2o 0 0 => `0` is one word too many
 
@@ -89,6 +90,13 @@ delivery unit 1 fuel 1 month 1 => `amount` is missing
 delivery unit 1 fuel 1 month 1 amount 1 heat => `heat` is followed by nothing
 delivery unit 1 fuel 1 month 1 amount 1 heat 4294967296 => heat 4294967296 is too large
 delivery unit 1 fuel 1 month 1 amount 1 carbon 2 heat 3 => `heat` is one word too many
+delivery unit 1 fuel 1 month 1 amount 1 low-heat => `low-heat` is followed by nothing
+delivery unit 1 fuel 1 month 1 amount 1 low-heat 4294967296 => low-heat 4294967296 is too large
+delivery unit 1 fuel 1 month 1 amount 1 low-heat 35.1 => plain digits, not by `35.1`
+delivery unit 1 fuel 1 month 1 amount 1 low-heat 2 heat 3 => `heat` is one word too many
+delivery unit 1 fuel 1 month 1 amount 1 heat 3 low-heat 2 => `low-heat` is one word too many
+delivery unit 1 fuel 1 month 1 amount 1 carbon 2 low-heat 3 => `low-heat` is one word too many
+delivery unit 1 fuel 1 month 1 amount 1 low heat 3 => `low` is one word too many
 
 hour unit 65536 hour 1 percent 1 flow 1 => unit 65536 is too large
 hour unit 1 hour 65536 percent 1 flow 1 => hour 65536 is too large

@@ -13,12 +13,13 @@ pub struct Said {
     pub loosely: String,
 }
 
-/// Every sort of record that a book can hold; the last six can't be said in words.
-pub const SORTS: [fn(&mut Dice) -> Said; 8] = [
+/// Every sort of record that a book can hold; the last seven can't be said in words.
+pub const SORTS: [fn(&mut Dice) -> Said; 9] = [
     delivery,
     hour,
     unknown_kind,
     unknown_flags,
+    low_unmeasured,
     heat_unflagged,
     carbon_unflagged,
     delivery_with_tail,
@@ -113,10 +114,11 @@ fn delivery(dice: &mut Dice) -> Said {
     let amount = dice.within(0, u32::MAX.into());
     put(&mut line, 8, 4, amount);
     words += &format!(" amount {amount}");
-    for (name, at, flag) in [("heat", 12, 1), ("carbon", 16, 2)] {
+    let heat = dice.pick(&[("heat", 12, 1), ("low-heat", 12, 5)]);
+    for (name, at, flags) in [heat, ("carbon", 16, 2)] {
         if dice.one_in(2) {
             let value = dice.within(0, u32::MAX.into());
-            line[1] |= flag;
+            line[1] |= flags;
             put(&mut line, at, 4, value);
             words += &format!(" {name} {value}");
         }
@@ -168,7 +170,13 @@ fn unknown_kind(dice: &mut Dice) -> Said {
 
 fn unknown_flags(dice: &mut Dice) -> Said {
     let mut line = delivery(dice).line;
-    line[1] |= dice.pick(&[4, 8, 128]);
+    line[1] |= dice.pick(&[8, 16, 128]);
+    raw(line)
+}
+
+fn low_unmeasured(dice: &mut Dice) -> Said {
+    let mut line = delivery(dice).line;
+    line[1] = line[1] & 2 | 4;
     raw(line)
 }
 
@@ -181,7 +189,7 @@ fn heat_unflagged(dice: &mut Dice) -> Said {
 
 fn carbon_unflagged(dice: &mut Dice) -> Said {
     let mut line = delivery(dice).line;
-    line[1] &= 1;
+    line[1] &= 5;
     line[dice.pick(&[16, 17, 18, 19])] = 1 + dice.below(255) as u8;
     raw(line)
 }
