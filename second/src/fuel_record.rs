@@ -3,6 +3,7 @@
 use crate::book::Book;
 use crate::bytes::{all_zero, u16_at, u32_at};
 use crate::lines::{Fuel, Unit, DISTILLATE_OIL, GAS, NATURAL_GAS, PURE_BIOMASS};
+use crate::measured_heat::MeasuredHeat;
 use crate::record::{Addition, Co2Ledger, Reason};
 
 /// 250.0 MMBtu/h, in tenths.
@@ -13,7 +14,7 @@ const UG_CO2_PER_MG_CARBON: u64 = 3_664;
 struct FuelRecord {
     month: u16,
     amount: u32,
-    measured_heat: Option<u32>,
+    measured_heat: Option<MeasuredHeat>,
     measured_carbon: Option<u32>,
 }
 
@@ -30,20 +31,27 @@ pub fn judge(book: &Book, line: &[u8]) -> Result<Addition, Reason> {
 }
 
 impl FuelRecord {
-    /// Nothing if a flag is unknown or a byte that must be 0 is not; heat and
-    /// carbon bytes must be 0 "when their flag is clear".
+    /// Nothing if a flag is unknown, a low value is flagged without heat, or a
+    /// byte that must be 0 is not; heat and carbon bytes must be 0 "when their
+    /// flag is clear".
     fn read(line: &[u8]) -> Option<FuelRecord> {
         let flags = line[1];
         let heat_flagged = flags & 1 != 0;
         let carbon_flagged = flags & 2 != 0;
-        let sound = flags <= 3
+        let low_flagged = flags & 4 != 0;
+        let sound = flags <= 7
+            && (heat_flagged || !low_flagged)
             && (heat_flagged || all_zero(&line[12..16]))
             && (carbon_flagged || all_zero(&line[16..20]))
             && all_zero(&line[20..]);
+        let as_flagged = match low_flagged {
+            true => MeasuredHeat::Low,
+            false => MeasuredHeat::High,
+        };
         sound.then(|| FuelRecord {
             month: u16_at(line, 6),
             amount: u32_at(line, 8),
-            measured_heat: heat_flagged.then(|| u32_at(line, 12)),
+            measured_heat: heat_flagged.then(|| as_flagged(u32_at(line, 12))),
             measured_carbon: carbon_flagged.then(|| u32_at(line, 16)),
         })
     }
@@ -58,7 +66,7 @@ impl FuelRecord {
             && self.amount <= 100_000_000
             && self
                 .measured_heat
-                .is_none_or(|heat| (1..=200_000).contains(&heat))
+                .is_none_or(|heat| heat.is_in_range(fuel.class))
             && self
                 .measured_carbon
                 .is_none_or(|carbon| carbon <= most_carbon)
@@ -82,7 +90,7 @@ impl FuelRecord {
 
     fn heat_in_use(&self, fuel: &Fuel) -> Option<u32> {
         let default = Some(fuel.default_heat).filter(|&heat| heat > 0);
-        self.measured_heat.or(default)
+        self.measured_heat.map(MeasuredHeat::high).or(default)
     }
 
     fn addition(&self, method: u8, heat: u32, fuel: &Fuel) -> Addition {

@@ -11,6 +11,7 @@ pub mod fuel_record;
 pub mod hour;
 pub mod ledger;
 pub mod lines;
+mod measured_heat;
 pub mod record;
 pub mod refusal;
 pub mod replay;
