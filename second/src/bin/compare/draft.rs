@@ -13,6 +13,15 @@ pub fn other_set(set: u8) -> u8 {
     FIRST_SET + SECOND_SET - set
 }
 
+/// The class of fuel that may have a low heat value, and the greatest of these.
+pub const NATURAL_GAS: u8 = 1;
+pub const MOST_LOW_HEAT: u32 = 180_000;
+
+/// Flag bits of a fuel record.
+pub const HEAT_MEASURED: u8 = 1;
+pub const CARBON_MEASURED: u8 = 2;
+pub const HEAT_IS_LOW: u8 = 4;
+
 pub type Line = [u8; LINE];
 
 /// The parts of a book; `bytes` puts them together with the trailer.
@@ -43,6 +52,7 @@ pub struct Burnt {
     pub month: u16,
     pub amount: u32,
     pub heat: Option<u32>,
+    pub heat_is_low: bool,
     pub carbon: Option<u32>,
 }
 
@@ -108,7 +118,7 @@ impl Burnt {
     pub fn line(&self) -> Line {
         let mut line = [0; LINE];
         line[0] = 1;
-        line[1] = u8::from(self.heat.is_some()) | u8::from(self.carbon.is_some()) << 1;
+        line[1] = self.flags();
         put(&mut line, 2, &self.unit.to_le_bytes());
         put(&mut line, 4, &self.fuel.to_le_bytes());
         put(&mut line, 6, &self.month.to_le_bytes());
@@ -116,6 +126,16 @@ impl Burnt {
         put(&mut line, 12, &self.heat.unwrap_or(0).to_le_bytes());
         put(&mut line, 16, &self.carbon.unwrap_or(0).to_le_bytes());
         line
+    }
+
+    fn flags(&self) -> u8 {
+        let flags = [
+            (HEAT_MEASURED, self.heat.is_some()),
+            (CARBON_MEASURED, self.carbon.is_some()),
+            (HEAT_IS_LOW, self.heat_is_low),
+        ];
+        let set = flags.iter().filter(|(_, is_set)| *is_set);
+        set.map(|(flag, _)| flag).sum()
     }
 }
 

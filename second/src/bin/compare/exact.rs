@@ -80,6 +80,7 @@ fn addends(unit: u16, coarse_fuel: u16, total: u64) -> Vec<Line> {
         month: 12,
         amount: amount as u32,
         heat: Some(heat),
+        heat_is_low: false,
         carbon: None,
     });
     records.map(|record| record.line()).collect()

@@ -58,6 +58,7 @@ pub fn one_record(fuel: FuelLine, amount: u128, carbon: Option<u128>) -> Vec<u8>
         month: 12,
         amount: amount as u32,
         heat: None,
+        heat_is_low: false,
         carbon: carbon.map(|carbon| carbon as u32),
     };
     let draft = Draft {

@@ -4,7 +4,9 @@ use second::book::Book;
 use second::bytes::u16_at;
 use second::record::judge;
 
-use crate::draft::{hour, unit, Burnt, Draft, FuelLine, Line, LINE, SETS};
+use crate::draft::{
+    hour, unit, Burnt, Draft, FuelLine, Line, LINE, MOST_LOW_HEAT, NATURAL_GAS, SETS,
+};
 use crate::exchange::{Exchange, Outcome};
 use crate::job;
 use crate::random::Random;
@@ -110,15 +112,32 @@ pub fn good_record(rng: &mut Random, draft: &Draft) -> Line {
         let flow = FLOW_LIMIT - rng.below(0x0C00_0000) as u32;
         return hour(unit, 1 + rng.below(8_784) as u16, percent, flow);
     }
+    let fuel = rng.pick(&draft.fuels);
+    let heat_is_low = fuel[3] == NATURAL_GAS && rng.one_in(2);
+    let heat = match heat_is_low {
+        true => Some(low_heat(rng)),
+        false => rng.one_in(2).then(|| rng.within(200_000)),
+    };
     let record = Burnt {
         unit: u16_at(&rng.pick(&draft.units), 0),
-        fuel: u16_at(&rng.pick(&draft.fuels), 0),
+        fuel: u16_at(&fuel, 0),
         month: 1 + rng.below(12) as u16,
         amount: rng.within(100_000_000),
-        heat: rng.one_in(2).then(|| rng.within(200_000)),
+        heat,
+        heat_is_low,
         carbon: rng.one_in(4).then(|| rng.within(1_000_000)),
     };
     record.line()
+}
+
+/// A low heat value in range, often one that ends in 50, whose 1.11-fold is a
+/// half, or next to it.
+fn low_heat(rng: &mut Random) -> u32 {
+    let hundreds = MOST_LOW_HEAT / 100;
+    match rng.one_in(2) {
+        true => rng.within(MOST_LOW_HEAT),
+        false => 100 * rng.below(u64::from(hundreds)) as u32 + rng.pick(&[49, 50, 51]),
+    }
 }
 
 /// A record with anything at or past its edges.
@@ -134,7 +153,11 @@ pub fn wild_record(rng: &mut Random, draft: &Draft) -> Line {
             fuel: u16_at(&rng.pick(&draft.fuels), 0) + u16::from(rng.one_in(10)),
             month: rng.edgy(12) as u16,
             amount: rng.edgy(100_000_000),
-            heat: rng.one_in(2).then(|| rng.edgy(200_000)),
+            heat: rng.one_in(2).then(|| {
+                let most = rng.pick(&[MOST_LOW_HEAT, 200_000]);
+                rng.edgy(most)
+            }),
+            heat_is_low: rng.one_in(3),
             carbon: rng.one_in(2).then(|| {
                 let most = rng.pick(&[1_000_000, 4_000_000]);
                 rng.edgy(most)

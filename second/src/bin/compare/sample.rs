@@ -21,6 +21,7 @@ pub fn small_book() -> Draft {
         month: 7,
         amount: 70_000,
         heat,
+        heat_is_low: false,
         carbon,
     };
     let fuels = [fuel(1, 3, 1), fuel(2, 1, 3), fuel(3, 2, 2)];

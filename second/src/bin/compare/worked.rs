@@ -38,6 +38,7 @@ const PLAIN: Burnt = Burnt {
     month: 1,
     amount: 1_000,
     heat: None,
+    heat_is_low: false,
     carbon: None,
 };
 

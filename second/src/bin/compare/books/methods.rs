@@ -66,6 +66,7 @@ fn flagged(unit: u16, fuel: u16) -> [Burnt; 4] {
         month: 7,
         amount: 1_234_567,
         heat,
+        heat_is_low: false,
         carbon,
     })
 }

@@ -135,6 +135,7 @@ fn burnt_fuel(
         month: 12,
         amount,
         heat: None,
+        heat_is_low: false,
         carbon: None,
     };
     let fuel = FuelLine {
