@@ -1,6 +1,7 @@
 //! Group 1: every sum that the requirements work by hand ("Sums worked by hand"),
 //! with the result that the document prints, and others worked from its rules.
 
+mod low_heat;
 mod reports;
 mod rounding;
 
@@ -144,7 +145,8 @@ fn hour_sums() -> Vec<Sum> {
 
 fn sums() -> impl Iterator<Item = Sum> {
     let of_the_document = fuel_sums().into_iter().chain(hour_sums());
-    of_the_document.chain(rounding::sums())
+    let others = low_heat::sums().chain(rounding::sums());
+    of_the_document.chain(others)
 }
 
 /// P10 to P12: T and biomass in tonnes, and whether the site must report. They
