@@ -2,6 +2,7 @@
 
 mod decisions;
 mod limits;
+mod low_heat;
 mod methods;
 mod readings;
 mod sizes;
@@ -14,6 +15,7 @@ use crate::random_books;
 pub fn run(exchange: &mut Exchange, rng: &mut Random) -> Outcome<()> {
     limits::run(exchange, rng)?;
     methods::run(exchange, rng)?;
+    low_heat::run(exchange, rng)?;
     decisions::run(exchange, rng)?;
     warming::run(exchange, rng)?;
     readings::run(exchange, rng)?;

@@ -2,6 +2,16 @@
 
 use crate::draft::{hour, unit, Burnt, Draft, FuelLine, FIRST_SET};
 
+const UNMEASURED: Burnt = Burnt {
+    unit: 1,
+    fuel: 1,
+    month: 7,
+    amount: 70_000,
+    heat: None,
+    heat_is_low: false,
+    carbon: None,
+};
+
 /// Fuel records of a gas and of a solid with everything measured, one with
 /// nothing measured, and an hour; a plain and a monitored unit; fuels of every
 /// kind and class but "other".
@@ -16,13 +26,10 @@ pub fn small_book() -> Draft {
         n2o: 90,
     };
     let burnt = |fuel, heat, carbon| Burnt {
-        unit: 1,
         fuel,
-        month: 7,
-        amount: 70_000,
         heat,
-        heat_is_low: false,
         carbon,
+        ..UNMEASURED
     };
     let fuels = [fuel(1, 3, 1), fuel(2, 1, 3), fuel(3, 2, 2)];
     Draft {
@@ -37,4 +44,17 @@ pub fn small_book() -> Draft {
         year: 2010,
         warming_set: FIRST_SET,
     }
+}
+
+/// The same, but record 0 has nothing measured except a low heat value, near the
+/// end of the range, whose 1.11-fold is a half: 199,744.5.
+pub fn small_book_with_low_heat() -> Draft {
+    let gas = Burnt {
+        heat: Some(179_950),
+        heat_is_low: true,
+        ..UNMEASURED
+    };
+    let mut draft = small_book();
+    draft.records[0] = gas.line();
+    draft
 }

@@ -4,7 +4,7 @@ use crate::draft::{put, Draft, Line, LINE, LONGEST_BOOK};
 use crate::exchange::{Exchange, Outcome};
 use crate::job;
 use crate::random::Random;
-use crate::sample::small_book;
+use crate::sample::{small_book, small_book_with_low_heat};
 
 /// A field: where it lies, how many bytes it has, and the ends of its range.
 struct Field {
@@ -55,12 +55,12 @@ const FUEL: [Field; 7] = [
 
 const FUEL_RECORD: [Field; 8] = [
     field(0, 1, &[1, 2, 255]),
-    field(1, 1, &[0, 1, 2, 3, 255]),
+    field(1, 1, &[0, 1, 2, 3, 5, 7, 255]),
     field(2, 2, &[0, 1, 2, 3, 65_535]),
     field(4, 2, &[0, 1, 2, 3, 65_535]),
     field(6, 2, &[1, 12, 65_535]),
     field(8, 4, &[0, 100_000_000, u32::MAX]),
-    field(12, 4, &[0, 1, 200_000, u32::MAX]),
+    field(12, 4, &[0, 1, 180_000, 200_000, u32::MAX]),
     field(16, 4, &[0, 1_000_000, 4_000_000, u32::MAX]),
 ];
 
@@ -103,7 +103,12 @@ pub fn run(exchange: &mut Exchange, rng: &mut Random) -> Outcome<()> {
         }
     }
     exchange.case("every pair of limits in one fuel record");
-    pairs(exchange, &base)
+    pairs(exchange, &base)?;
+    let with_low_heat = small_book_with_low_heat();
+    exchange.case("limits in a fuel record with a low heat value");
+    vary(exchange, rng, &with_low_heat, &FUEL_RECORD, 0)?;
+    exchange.case("every pair of limits in a fuel record with a low heat value");
+    pairs(exchange, &with_low_heat)
 }
 
 fn vary(
