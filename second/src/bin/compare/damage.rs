@@ -7,7 +7,7 @@ use crate::draft::{Draft, LINE};
 use crate::exchange::{Exchange, Outcome};
 use crate::job::{self, CHECKPOINT};
 use crate::random::Random;
-use crate::sample::small_book;
+use crate::sample::{small_book, small_book_with_low_heat};
 use edits::Edit;
 
 const RANDOM_TIMES: usize = 12_000;
@@ -43,27 +43,35 @@ pub fn run(exchange: &mut Exchange, rng: &mut Random) -> Outcome<()> {
     let mut draft = small_book();
     draft.records[1][6] = 13;
     let with_one_set_aside = sound(exchange, draft)?;
-    single_bytes_of_book(exchange, rng, &whole)?;
-    single_bytes_of_checkpoints(exchange, rng, &whole, "all counted")?;
-    single_bytes_of_checkpoints(exchange, rng, &with_one_set_aside, "one set aside")?;
-    lengths(exchange, rng, &whole)?;
-    random_in_book(exchange, rng, &whole)?;
-    random_in_checkpoints(exchange, rng, &[whole, with_one_set_aside])
-}
-
-fn single_bytes_of_book(exchange: &mut Exchange, rng: &mut Random, sound: &Sound) -> Outcome<()> {
-    let mut book = sound.book.clone();
-    for line in 0..book.len() / LINE {
+    let with_low_heat = sound(exchange, small_book_with_low_heat())?;
+    exchange.case("every value of every byte of a fuel record with a low heat value");
+    single_bytes_of_line(exchange, rng, &with_low_heat, 0)?;
+    for line in 0..whole.book.len() / LINE {
         exchange.case(format!(
             "every value of every byte of line {line} of the book"
         ));
-        for place in LINE * line..LINE * (line + 1) {
-            for value in 0..=255 {
-                book[place] = value;
-                damaged_book(exchange, rng, &book, sound)?;
-            }
-            book[place] = sound.book[place];
+        single_bytes_of_line(exchange, rng, &whole, line)?;
+    }
+    single_bytes_of_checkpoints(exchange, rng, &whole, "all counted")?;
+    single_bytes_of_checkpoints(exchange, rng, &with_one_set_aside, "one set aside")?;
+    lengths(exchange, rng, &whole)?;
+    random_in_book(exchange, rng, &[&whole, &with_low_heat])?;
+    random_in_checkpoints(exchange, rng, &[whole, with_one_set_aside])
+}
+
+fn single_bytes_of_line(
+    exchange: &mut Exchange,
+    rng: &mut Random,
+    sound: &Sound,
+    line: usize,
+) -> Outcome<()> {
+    let mut book = sound.book.clone();
+    for place in LINE * line..LINE * (line + 1) {
+        for value in 0..=255 {
+            book[place] = value;
+            damaged_book(exchange, rng, &book, sound)?;
         }
+        book[place] = sound.book[place];
     }
     Ok(())
 }
@@ -145,10 +153,11 @@ fn lengths(exchange: &mut Exchange, rng: &mut Random, sound: &Sound) -> Outcome<
     Ok(())
 }
 
-fn random_in_book(exchange: &mut Exchange, rng: &mut Random, sound: &Sound) -> Outcome<()> {
+/// In books that have as many lines of each kind.
+fn random_in_book(exchange: &mut Exchange, rng: &mut Random, sounds: &[&Sound]) -> Outcome<()> {
     let times = RANDOM_TIMES * exchange.run.settings.times;
-    let records = 0..LINE * sound.draft.records.len();
-    let everywhere = 0..sound.book.len();
+    let records = 0..LINE * sounds[0].draft.records.len();
+    let everywhere = 0..sounds[0].book.len();
     let kinds: [(&str, Edit, _); 4] = [
         (
             "random damage anywhere in the book",
@@ -173,7 +182,7 @@ fn random_in_book(exchange: &mut Exchange, rng: &mut Random, sound: &Sound) -> O
     ];
     for (name, edit, range) in kinds {
         exchange.case(name);
-        for _ in 0..times {
+        for sound in sounds.iter().cycle().take(times) {
             let mut book = sound.book.clone();
             edit(rng, &mut book[range.clone()]);
             damaged_book(exchange, rng, &book, sound)?;
