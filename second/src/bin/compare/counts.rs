@@ -1,5 +1,6 @@
 //! What was compared and found equal, counted by what the requirements tell apart.
 
+mod low_heat;
 mod rounding;
 mod warming;
 
@@ -10,6 +11,7 @@ use second::replay::FRAME_HEAD;
 use crate::draft::LINE;
 use crate::run::Run;
 use crate::specials::{class, is_usable, CLASSES, FLOW_LIMIT, PERCENT_LIMIT};
+use low_heat::LowHeatCounts;
 use rounding::RoundingCounts;
 use warming::WarmingCounts;
 
@@ -17,6 +19,7 @@ const NUMBERS: [u8; 10] = [0, 20, 21, 22, 23, 30, 31, 32, 40, 41];
 /// "Numbers 20 to 23, 30, 31", and 0 where records are counted.
 const NUMBERS_OF_LEFT: [u8; 7] = [0, 20, 21, 22, 23, 30, 31];
 const METHODS: [u8; 6] = [0, 1, 2, 3, 4, NO_SUCH_RECORD];
+const FUEL_RECORD: u8 = 1;
 const HOUR: u8 = 2;
 const SET_ASIDE: u8 = 41;
 
@@ -34,6 +37,7 @@ pub struct Counts {
     ledgers: [u64; 3],
     percents: [u64; CLASSES.len()],
     flows: [u64; CLASSES.len()],
+    low_heat: LowHeatCounts,
     rounding: RoundingCounts,
     warming: WarmingCounts,
 }
@@ -70,7 +74,11 @@ impl Counts {
         if reason == 0 {
             self.ledgers[usize::from(ledger)] += 1;
         }
-        let line = &frame[FRAME_HEAD + LINE * index..][..LINE];
+        let book = &frame[FRAME_HEAD..][..u32_at(frame, 8) as usize];
+        let line = &book[LINE * index..][..LINE];
+        if line[0] == FUEL_RECORD {
+            self.low_heat.count(book, line, answer);
+        }
         if line[0] == HOUR && [0, 4, 5].contains(&reason) {
             self.count_readings(line);
         }
@@ -114,6 +122,7 @@ impl Counts {
             ),
             ("percent", named(&CLASSES, &self.percents)),
             ("flow", named(&CLASSES, &self.flows)),
+            ("low value", self.low_heat.rows()),
             ("R,", self.rounding.rows()),
         ];
         table.extend(self.warming.table());
