@@ -5,6 +5,7 @@
 //! in 2d, and in a product such parts add up. This holds for what a source
 //! prints and for the whole numbers of a book alike.
 
+mod low_heat_000;
 mod ratio;
 mod source_000;
 mod source_004;
@@ -30,7 +31,11 @@ pub const YEAR: u16 = 2009;
 const PARTS: u128 = 1_000_000_000_000;
 
 pub fn run(exchange: &mut Exchange, rng: &mut Random) -> Outcome<()> {
-    let groups = [source_004::figures(), source_000::figures()];
+    let groups = [
+        source_004::figures(),
+        source_000::figures(),
+        low_heat_000::figures(),
+    ];
     for figure in groups.into_iter().flatten() {
         exchange.case(figure.source);
         job::whole(exchange, rng, &figure.book, figure.expected)?;
@@ -50,17 +55,18 @@ pub fn within_rounding(field: Field, kg: Ratio, digits: &[u128]) -> Expectation 
     )
 }
 
-/// A book of one fuel, burnt once in a unit small enough for method 1.
+/// The book of one fuel with nothing measured, or carbon alone.
 pub fn one_record(fuel: FuelLine, amount: u128, carbon: Option<u128>) -> Vec<u8> {
     let record = Burnt {
-        unit: 1,
-        fuel: fuel.number,
-        month: 12,
         amount: amount as u32,
-        heat: None,
-        heat_is_low: false,
         carbon: carbon.map(|carbon| carbon as u32),
+        ..UNMEASURED
     };
+    book_of(fuel, record)
+}
+
+/// A book of one fuel, burnt once in a unit small enough for method 1.
+pub fn book_of(fuel: FuelLine, record: Burnt) -> Vec<u8> {
     let draft = Draft {
         records: vec![record.line()],
         units: vec![unit(1, false, 2_500)],
@@ -70,6 +76,17 @@ pub fn one_record(fuel: FuelLine, amount: u128, carbon: Option<u128>) -> Vec<u8>
     };
     draft.bytes()
 }
+
+/// A record that has yet to be given its amount.
+pub const UNMEASURED: Burnt = Burnt {
+    unit: 1,
+    fuel: TRACE.number,
+    month: 12,
+    amount: 0,
+    heat: None,
+    heat_is_low: false,
+    carbon: None,
+};
 
 /// A fuel of no particular class that gives nothing but a trace of CO2.
 pub const TRACE: FuelLine = FuelLine {

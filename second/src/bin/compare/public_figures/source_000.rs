@@ -7,7 +7,7 @@ use super::units::{Amount, Heat};
 use super::{one_record, within_rounding, PublicFigure, TRACE};
 use crate::draft::FuelLine;
 use crate::exact::{self, Totals};
-use crate::expectation::Field;
+use crate::expectation::{Expectation, Field};
 
 pub fn figures() -> Vec<PublicFigure> {
     let mut figures = Vec::new();
@@ -20,35 +20,64 @@ pub fn figures() -> Vec<PublicFigure> {
     figures
 }
 
-fn source(table: &Table, row: &Row) -> String {
+pub fn source(table: &Table, row: &Row) -> String {
     format!("000 line {}, {}, {}", row.lines, table.name, row.fuel)
 }
 
 /// Heat of a row in whole kJ per kilogram, litre or cubic metre.
-fn book_heat(heat: Heat, per: Amount, text: &str) -> u128 {
+pub fn book_heat(heat: Heat, per: Amount, text: &str) -> u128 {
     let kilojoules = printed(text).value.times(heat.kilojoules());
     kilojoules.per(per.in_book()).nearest()
 }
 
 fn product_figure(table: &Table, row: &Row) -> PublicFigure {
-    let heat = book_heat(table.heat, table.heat_per, row.heat);
-    let factor = table.heat.factor(printed(row.factor).value).nearest();
-    let count = Ratio::whole(table.product_per.plenty());
-    let amount = count.times(table.product_per.in_book()).nearest();
-    let sum = printed(row.product).value.times(count);
-    let grams = Ratio::whole(1_000);
-    let (field, kg) = match table.gas {
-        Gas::Fossil => (Field::FossilKg, sum),
-        Gas::Biomass => (Field::BiomassKg, sum),
-        Gas::Ch4 => (Field::Ch4Kg, sum.per(grams)),
-        Gas::N2o => (Field::N2oKg, sum.per(grams)),
-    };
-    let rounded = [row.heat, row.factor, row.product].map(|text| printed(text).digits);
-    let digits = [&rounded[..], &[amount, heat, factor]].concat();
+    let product = Product::of(table, row);
     PublicFigure {
         source: source(table, row),
-        book: one_record(fuel(table, heat as u32, factor as u32), amount, None),
-        expected: vec![within_rounding(field, kg, &digits)],
+        book: one_record(product.fuel, product.amount, None),
+        expected: vec![product.expected(&[])],
+    }
+}
+
+/// A row in the numbers of a book, and the sum that the source prints for it.
+pub struct Product {
+    pub fuel: FuelLine,
+    pub heat: u128,
+    pub amount: u128,
+    field: Field,
+    kg: Ratio,
+    rounded: Vec<u128>,
+}
+
+impl Product {
+    pub fn of(table: &Table, row: &Row) -> Product {
+        let heat = book_heat(table.heat, table.heat_per, row.heat);
+        let factor = table.heat.factor(printed(row.factor).value).nearest();
+        let count = Ratio::whole(table.product_per.plenty());
+        let amount = count.times(table.product_per.in_book()).nearest();
+        let sum = printed(row.product).value.times(count);
+        let grams = Ratio::whole(1_000);
+        let (field, kg) = match table.gas {
+            Gas::Fossil => (Field::FossilKg, sum),
+            Gas::Biomass => (Field::BiomassKg, sum),
+            Gas::Ch4 => (Field::Ch4Kg, sum.per(grams)),
+            Gas::N2o => (Field::N2oKg, sum.per(grams)),
+        };
+        let digits = [row.heat, row.factor, row.product].map(|text| printed(text).digits);
+        Product {
+            fuel: fuel(table, heat as u32, factor as u32),
+            heat,
+            amount,
+            field,
+            kg,
+            rounded: [&digits[..], &[amount, heat, factor]].concat(),
+        }
+    }
+
+    /// The sum, where these digits are rounded besides the row's.
+    pub fn expected(&self, besides: &[u128]) -> Expectation {
+        let digits = [&self.rounded, besides].concat();
+        within_rounding(self.field, self.kg, &digits)
     }
 }
 

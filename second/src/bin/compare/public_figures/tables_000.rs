@@ -125,7 +125,7 @@ const METRIC_WOOD: Table = Table {
     ..METRIC_SOLIDS
 };
 
-const METRIC_GAS: Table = Table {
+pub const METRIC_GAS: Table = Table {
     name: "Tables 20-1 and 20-3 (metric)",
     heat_per: Amount::CubicMetre,
     product_per: Amount::CubicMetre,
@@ -135,14 +135,14 @@ const METRIC_GAS: Table = Table {
     ..METRIC_LIQUIDS
 };
 
-const METRIC_GAS_CH4: Table = Table {
+pub const METRIC_GAS_CH4: Table = Table {
     name: "Tables 20-1 and 20-4 (metric)",
     gas: Gas::Ch4,
     rows: "1652 and 1728; natural gas, electric utilities, CH4; 0.03832; 12.79; 0.49",
     ..METRIC_GAS
 };
 
-const METRIC_GAS_N2O: Table = Table {
+pub const METRIC_GAS_N2O: Table = Table {
     gas: Gas::N2o,
     rows: "1652 and 1728; natural gas, electric utilities, N2O; 0.03832; 1.279; 0.049",
     ..METRIC_GAS_CH4
