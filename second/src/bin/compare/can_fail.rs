@@ -46,6 +46,7 @@ fn new_run() -> Run {
 fn caught_by(answering: Peer) -> Vec<&'static str> {
     let fails = |&(name, group): &(&'static str, Group)| {
         let mut run = new_run();
+        run.settings.most_failures = 1;
         run_group(&mut run, name, group, peer(answering));
         (run.failed > 0).then_some(name)
     };

@@ -15,7 +15,6 @@ use crate::run::Run;
 
 /// Bytes that may be under way before an answer is waited for.
 const MOST_BYTES_UNDER_WAY: usize = 4 << 20;
-const MOST_FAILURES: u32 = 10;
 
 /// The group goes no further; why has been told.
 #[derive(Debug)]
@@ -154,7 +153,7 @@ impl<'a> Exchange<'a> {
             Ok(other) => one.complaint(other),
             Err(trouble) => {
                 // Nothing more will come: the group ends with this failure.
-                self.failures = MOST_FAILURES;
+                self.failures = self.run.settings.most_failures;
                 self.run.fell_silent |= matches!(trouble, Trouble::Silent(_));
                 return self.fail_frame(&one, &trouble.to_string());
             }
@@ -190,7 +189,7 @@ impl<'a> Exchange<'a> {
         self.cases[case].failures += 1;
         let (seed, group, name) = (self.run.settings.seed, self.group, &self.cases[case].name);
         println!("failure, seed {seed}, group {group}, case {name}: {complaint}");
-        if self.failures >= MOST_FAILURES {
+        if self.failures >= self.run.settings.most_failures {
             return Err(Stopped);
         }
         Ok(())

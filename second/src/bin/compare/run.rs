@@ -16,6 +16,8 @@ pub struct Settings {
     pub asks_left: bool,
     /// How long the other program may be silent.
     pub patience: Duration,
+    /// A group goes no further after so many.
+    pub most_failures: u32,
     pub failures_folder: PathBuf,
 }
 
@@ -26,6 +28,7 @@ impl Default for Settings {
             times: 1,
             asks_left: false,
             patience: Duration::from_secs(60),
+            most_failures: 10,
             failures_folder: PathBuf::from("target/second-failures"),
         }
     }
