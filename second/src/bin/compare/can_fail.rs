@@ -104,6 +104,23 @@ caught! {
     keeps_the_set_in_the_checkpoint by ["worked", "books", "damage", "histories"];
     reports_under_the_set_that_the_job_was_begun_with by ["books", "histories"];
     ties_a_checkpoint_to_the_set by ["books", "damage", "histories"];
+    rounds_halves_of_the_heat_downward by ["worked", "books", "damage", "histories"];
+    rounds_halves_of_the_heat_to_the_even_number by ["worked", "books", "damage", "histories"];
+    never_rounds_the_heat_up by ALL;
+    takes_a_low_value_for_a_high_one by ALL;
+    multiplies_the_masses_by_1_11 by ALL;
+    takes_the_high_value_for_co2_alone by ALL;
+    takes_the_high_value_under_method_2_alone by ["worked", "books", "damage", "histories"];
+    does_not_ask_the_class by ["worked", "books", "damage", "histories"];
+    takes_any_gas_for_natural_gas by ["worked", "books", "damage", "histories"];
+    lets_low_values_reach_200_000 by ["worked", "books", "damage", "histories"];
+    takes_0_for_a_low_value by ["worked", "books", "histories"];
+    takes_the_default_heat_for_a_low_value by ALL;
+    chooses_the_method_as_if_a_low_value_were_not_measured by ALL;
+    refuses_a_low_value_with_carbon by ["worked", "books", "damage", "histories"];
+    overlooks_a_low_flag_without_heat by ["worked", "books", "damage", "histories"];
+    takes_a_low_flag_for_measured_heat by ["worked", "books", "damage", "histories"];
+    takes_a_low_flag_without_heat_for_out_of_range by ["worked", "books", "damage", "histories"];
 }
 
 #[test]

@@ -8,7 +8,7 @@ use second::record::{judge, Addition, Co2Ledger, Reason};
 
 use crate::draft::put;
 
-type Judged = Result<Addition, Reason>;
+pub(super) type Judged = Result<Addition, Reason>;
 
 /// A job done with a wrong judge of records: call 4 and wakes.
 pub(super) fn judging(frame: &Frame, wrong: impl Fn(&Book, &[u8]) -> Judged) -> Answer {
