@@ -1,4 +1,4 @@
-//! Group 6: figures that public documents print, each turned into a book.
+//! Group 5: figures that public documents print, each turned into a book.
 //!
 //! Tolerance: a number of the digits d (its value without the decimal point)
 //! that was rounded is off by at most half a unit of its last digit, one part
