@@ -18,10 +18,11 @@ def pad(content):
     return content.ljust(LINE, b"\0")
 
 
-def fuel_record(amount=1000, unit=1, fuel=1, month=6, heat=None, carbon=None):
-    flags = (heat is not None) + 2 * (carbon is not None)
+def fuel_record(amount=1000, unit=1, fuel=1, month=6, heat=None, carbon=None, low_heat=None):
+    """At most one of the two heats is given."""
+    flags = (heat is not None) + 2 * (carbon is not None) + 5 * (low_heat is not None)
     return pad(struct.pack("<BBHHHIII", 1, flags, unit, fuel, month, amount,
-                           heat or 0, carbon or 0))
+                           heat or low_heat or 0, carbon or 0))
 
 
 def hour_record(percent, flow, unit=1, hour=1):

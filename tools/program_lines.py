@@ -8,9 +8,9 @@ from program_runs import PLANT, ROOT, expect, expect_told
 
 # Unit 1 is at the limit of default heats, 2 is past it, and 3 has a monitor.
 UNITS = [unit_line(1), unit_line(2, 2501), unit_line(3, 2501, monitor=True)]
-# Fuel 1 is the requirements' gas, 2 the same of class 0, 3 wood, and 4 has no default heat.
+# Fuel 1 is the requirements' gas, 2 the same of class 0, 3 wood, 4 has no default heat, 6 is oil.
 FUELS = [fuel_line(1), fuel_line(2, fuel_class=0), fuel_line(3, 1, 3, 17500, 95000, 30000, 4000),
-         fuel_line(4, heat=0)]
+         fuel_line(4, heat=0), fuel_line(6, 2, 2)]
 
 # Each record with what stands behind its index. Masses: amount × heat × factor, amount × carbon ×
 # 3,664, and 518 × R.
@@ -48,14 +48,15 @@ FORMS = [
 ]
 
 
-def try_forms(programs, cases):
-    for name, record, wanted in FORMS:
+def try_forms(programs, cases, forms):
+    """Each of these records alone, and all in one book."""
+    for name, record, wanted in forms:
         with cases.case(f"lines: {name}"):
             of = book([record], UNITS, FUELS)
             expect_told(programs.run("lines", data=of), f"record 0 {wanted}\n".encode())
-    with cases.case("lines: all of these in one book"):
-        of = book([record for _, record, _ in FORMS], UNITS, FUELS)
-        lines = [f"record {i} {wanted}\n" for i, (_, _, wanted) in enumerate(FORMS)]
+    with cases.case(f"lines: {forms[0][0]} to {forms[-1][0]} in one book"):
+        of = book([record for _, record, _ in forms], UNITS, FUELS)
+        lines = [f"record {i} {wanted}\n" for i, (_, _, wanted) in enumerate(forms)]
         expect_told(programs.run("lines", data=of), "".join(lines).encode())
 
 
@@ -75,7 +76,7 @@ def try_lines(programs, cases):
         expect_told(programs.run("lines", data=ONE), f"record 0 {FORMS[0][2]}\n".encode())
     with cases.case("lines: a book with no records has none"):
         expect_told(programs.run("lines", data=trailer(0, 0)), b"")
-    try_forms(programs, cases)
+    try_forms(programs, cases, FORMS)
     try_plant(programs, cases)
     try_usage(programs, cases, "lines", b"BOOK")
     try_failures(programs, cases, "lines", BOOKS)

@@ -11,6 +11,7 @@ from program_hours import try_hour_lines
 from program_jobs import plan_plant
 from program_kept import try_kept_answers
 from program_lines import try_plant
+from program_low_heat import try_low_lines
 from program_replay import try_answers, try_heads
 from program_runs import Cases, Programs, Wrong, expect, memory_folder
 from program_wake import try_jobs
@@ -42,6 +43,12 @@ WRONG = [
      try_hour_lines),
     ("lines", "R is cut off", "spoil sed 's/co2-ug 647501214192 /co2-ug 647501213674 /'",
      try_hour_lines),
+    ("lines", "half a kJ of a low value's heat goes down",
+     "spoil sed 's/co2-ug 1945300000000 /co2-ug 1945250000000 /'", try_low_lines),
+    ("lines", "1.11 times the mass in place of the heat",
+     "spoil sed 's/co2-ug 1945300000000 /co2-ug 1945275000000 /'", try_low_lines),
+    ("lines", "every fuel may have a low value", "spoil sed 's/reason 4$/method 2 fossil co2-ug "
+     "1942500000000 ch4-ng 34965000000 n2o-ng 3496500000/'", try_low_lines),
     ("replay", "it says nothing", "spoil true", try_answers),
     ("replay", "a wrong head is no failure", 'real "$@"; exit 0', try_heads),
     ("replay", "a wrong head isn't told", 'real "$@" 2>/dev/null', try_heads),
