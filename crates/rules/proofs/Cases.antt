@@ -20,7 +20,7 @@ use Rattle.rules.specs.declared.record.Outcome.{Outcome}
 use Rattle.rules.specs.declared.record.Outcome.the-variants.{SetAside, Counted}
 use Rattle.rules.specs.Bytes.{word, bytesOf}
 use Rattle.rules.specs.Method.{methodOf}
-use Rattle.rules.specs.Entry.{measuredHeat, heatInUse, co2By, destinationBy, fuelEntry, hourEntry}
+use Rattle.rules.specs.Entry.{measuredHeat, heatInUse, co2By, destinationBy, entryBy, fuelEntry, hourEntry}
 use Rattle.rules.specs.Record.{check, listed, fuelForm, hourForm, heatLimit, heatRange, carbonLimit, fuelRanges, hourRange, fuelJudged, fuelOutcome, hourRead, hourJudged, hourOutcome, outcomeOf}
 
 -- ---- lines
@@ -100,7 +100,7 @@ pub worked-sums : WorkedSums
 unfolding
     outcomeOf check listed word bytesOf
     fuelOutcome fuelForm fuelRanges heatRange heatLimit carbonLimit fuelJudged methodOf fuelEntry destinationBy co2By
-    heatInUse measuredHeat
+    entryBy heatInUse measuredHeat
     hourOutcome hourForm hourRange hourJudged
 worked-sums = record {
   p1 = simp worked-out (fuelled mass.p1-co2 mass.p1-ch4 mass.p1-n2o);

@@ -9,6 +9,7 @@ use lib.Dec.{eqb, lit≤}
 use borrow.Author.Tests.{leb-true}
 use Rattle.choice.proofs.TestsLaws.{also-l, also-r, choose-t, choose-f, if-choose}
 use Rattle.mass.specs.declared.Ug.{Ug}
+use Rattle.mass.specs.declared.fuel.Heat.{Heat}
 use Rattle.mass.specs.declared.hour.Readings.{Readings}
 use Rattle.mass.specs.Fuel.{HeatInReach, CarbonInReach}
 use Rattle.mass.specs.Hour.{InRange}
@@ -18,7 +19,7 @@ use Rattle.rules.specs.declared.entry.Entry.{Entry}
 use Rattle.rules.specs.Fields.{fuelKind, defaultHeat, co2Factor, ch4Factor, n2oFactor, heatMeasured, heatLow, amount, heat, carbon}
 use Rattle.rules.specs.Book.{fuelHeadOk, fuelOk}
 use Rattle.rules.specs.Method.{methodOf}
-use Rattle.rules.specs.Entry.{measuredHeat, heatInUse, co2By, fuelEntry, hourEntry}
+use Rattle.rules.specs.Entry.{measuredHeat, heatInUse, co2By, entryBy, fuelEntry, hourEntry}
 use Rattle.rules.specs.Record.{heatLimit, heatRange, carbonLimit, fuelRanges}
 use Rattle.rules.proofs.MethodLaws.{methodOf-le}
 
@@ -49,25 +50,29 @@ heatRange-of-fuelRanges l f h = also-r _ _ (also-l _ _ h)
 pub heat-le-heatLimit : (l f : List ℕ) → fuelRanges l f ≡ true → heatMeasured l ≡ true → heat l ≤ heatLimit l
 heat-le-heatLimit l f h = measured-le l f (heatRange-of-fuelRanges l f h)
 
-measuredHeat-le : (l : List ℕ) → heat l ≤ heatLimit l → measuredHeat l ≤ 200000
+-- What `mass` asks of a heat.
+abbrev Fits : Heat → Type 0
+Fits x = x .0 ≤ 200000
+
+measuredHeat-le : (l : List ℕ) → heat l ≤ heatLimit l → measuredHeat l .0 ≤ 200000
 unfolding measuredHeat
 measuredHeat-le l h =
-    if-choose (λ (x : ℕ). x ≤ 200000) (heatLow l)
+    if-choose Fits (heatLow l)
     (λ low. highOf-le _ (low-le l low h))
     (λ high. high-le l high h)
 
-heatInUse-le : (l f : List ℕ) → heatRange l f ≡ true → defaultHeat f ≤ 200000 → heatInUse l f ≤ 200000
+heatInUse-le : (l f : List ℕ) → heatRange l f ≡ true → defaultHeat f ≤ 200000 → heatInUse l f .0 ≤ 200000
 unfolding heatInUse
 heatInUse-le l f h d =
-    if-choose (λ (x : ℕ). x ≤ 200000) (heatMeasured l)
+    if-choose Fits (heatMeasured l)
     (λ measured. measuredHeat-le l (measured-le l f h measured))
     (λ not-measured. d)
 
 -- A fuel record in its ranges, of a fuel line that breaks no rule.
 pub record Reach (l f : List ℕ) : Type 0 where
-  pub by-co2 : HeatInReach (amount l) (heatInUse l f) (co2Factor f)
-  pub by-ch4 : HeatInReach (amount l) (heatInUse l f) (ch4Factor f)
-  pub by-n2o : HeatInReach (amount l) (heatInUse l f) (n2oFactor f)
+  pub by-co2 : HeatInReach (amount l) (heatInUse l f .0) (co2Factor f)
+  pub by-ch4 : HeatInReach (amount l) (heatInUse l f .0) (ch4Factor f)
+  pub by-n2o : HeatInReach (amount l) (heatInUse l f .0) (n2oFactor f)
   pub by-carbon : CarbonInReach (amount l) (carbon l)
 
 pub reach : (l f : List ℕ) → fuelRanges l f ≡ true → fuelOk f ≡ true → Reach l f
@@ -108,7 +113,7 @@ co2By-le m l f r =
     Few x = x .0 ≤ mostEach
 
 pub bounded-fuelEntry : (l u f : List ℕ) → fuelRanges l f ≡ true → fuelOk f ≡ true → Bounded (fuelEntry l u f)
-unfolding fuelEntry
+unfolding fuelEntry entryBy
 bounded-fuelEntry l u f h k =
     let r = reach l f h k in
     record {

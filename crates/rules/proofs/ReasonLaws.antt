@@ -140,9 +140,9 @@ module _ (l : List ℕ) (units fuels : List (List ℕ)) where
           let same : methodOf l u f ≡ methodOf l v g = ap₂ (methodOf l) (U _ u v i a) (F _ f g j b) in
           omega arith
 
-      fuel-not-7 : 0 < heatInUse l f → Applies l units fuels 7 → ⊥
+      fuel-not-7 : 0 < heatInUse l f .0 → Applies l units fuels 7 → ⊥
       fuel-not-7 h (Applies.noHeat g q b t) =
-          let same : heatInUse l f ≡ heatInUse l g = ap (heatInUse l) (F _ f g j b) in
+          let same : heatInUse l f .0 ≡ heatInUse l g .0 = ap (λ (y : List ℕ). heatInUse l y .0) (F _ f g j b) in
           omega arith
 
       due-fuelEntry : Clear 8 → Due (fuelEntry l u f)
@@ -159,7 +159,7 @@ module _ (l : List ℕ) (units fuels : List (List ℕ)) where
           let to-6 = clear-next 5 (clear-next 4 to-4 (fuel-not-4 inside)) fuel-not-5 in
           decided-check (ltb 0 (methodOf l u f)) 6 _ (λ t. Applies.noMethod u f p i j (ltb-zero _ t)) to-6 (λ permitted.
           let to-7 = clear-next 6 to-6 (fuel-not-6 (ltb-true _ _ permitted)) in
-          decided-check (ltb 0 (heatInUse l f)) 7 _ (λ t. Applies.noHeat f p j (ltb-zero _ t)) to-7 (λ heated.
+          decided-check (ltb 0 (heatInUse l f .0)) 7 _ (λ t. Applies.noHeat f p j (ltb-zero _ t)) to-7 (λ heated.
           due-fuelEntry (clear-next 7 to-7 (fuel-not-7 (ltb-true _ _ heated))))))
 
     decided-fuelOutcome : Decided (fuelOutcome l units fuels)

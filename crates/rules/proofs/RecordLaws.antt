@@ -59,7 +59,7 @@ unfolding fuelJudged
 within-fuelJudged l u f k =
     within-check (fuelRanges l f) 4 _ (lit≤ tt) (lit≤ tt) (λ ranges.
     within-check (ltb 0 (methodOf l u f)) 6 _ (lit≤ tt) (lit≤ tt) (λ permitted.
-    within-check (ltb 0 (heatInUse l f)) 7 _ (lit≤ tt) (lit≤ tt) (λ heated.
+    within-check (ltb 0 (heatInUse l f .0)) 7 _ (lit≤ tt) (lit≤ tt) (λ heated.
     bounded-fuelEntry l u f ranges k)))
 
 within-hourRead : (u : List ℕ) (p q : ℕ) (x : Hour) → hourOf p q ≡ x → Within (hourRead u x)

@@ -4,6 +4,7 @@
 --     heatInUse l f          the measured heat if flagged, else the fuel's default
 --     co2By m l f            CO2 of the record l of the fuel f by method m
 --     destinationBy m f      the ledger that this CO2 goes to
+--     entryBy m l f          what the record l of the fuel f gives by method m
 --     fuelEntry l u f        what a fuel record gives
 --     hourEntry r            what a usable hour gives; it has no method, which is told as 0
 --
@@ -24,36 +25,36 @@ use Rattle.rules.specs.declared.entry.Entry.{Entry}
 use Rattle.rules.specs.Fields.{fuelClass, defaultHeat, co2Factor, ch4Factor, n2oFactor, heatMeasured, heatLow, amount, heat, carbon}
 use Rattle.rules.specs.Method.{methodOf}
 
-unfoldable pub measuredHeat : List ℕ → ℕ
-measuredHeat l = choose (heatLow l) (highOf (record { 0 = heat l }) .0) (heat l)
+unfoldable pub measuredHeat : List ℕ → Heat
+measuredHeat l = choose (heatLow l) (highOf (record { 0 = heat l })) (record { 0 = heat l })
 
-unfoldable pub heatInUse : List ℕ → List ℕ → ℕ
-heatInUse l f = choose (heatMeasured l) (measuredHeat l) (defaultHeat f)
+unfoldable pub heatInUse : List ℕ → List ℕ → Heat
+heatInUse l f = choose (heatMeasured l) (measuredHeat l) (record { 0 = defaultHeat f })
 
 abbrev pub amountOf : List ℕ → Amount
 amountOf l = record { 0 = amount l }
-
-abbrev pub heatOf : List ℕ → List ℕ → Heat
-heatOf l f = record { 0 = heatInUse l f }
 
 -- A monitored unit's fuel gives no CO2: its hours do.
 unfoldable pub co2By : ℕ → List ℕ → List ℕ → Ug
 co2By m l f =
     choose (eqb m 4) (record { 0 = 0 })
     (choose (eqb m 3) (co2OfCarbon (amountOf l) (record { 0 = carbon l }))
-    (co2OfHeat (amountOf l) (heatOf l f) (record { 0 = co2Factor f })))
+    (co2OfHeat (amountOf l) (heatInUse l f) (record { 0 = co2Factor f })))
 
 unfoldable pub destinationBy : ℕ → List ℕ → Destination
 destinationBy m f = choose (eqb m 4) Nowhere (choose (eqb (fuelClass f) 3) Biomass Fossil)
 
-unfoldable pub fuelEntry : List ℕ → List ℕ → List ℕ → Entry
-fuelEntry l u f = record {
-  method = methodOf l u f;
-  destination = destinationBy (methodOf l u f) f;
-  co2 = co2By (methodOf l u f) l f;
-  ch4 = traceOfHeat (amountOf l) (heatOf l f) (record { 0 = ch4Factor f });
-  n2o = traceOfHeat (amountOf l) (heatOf l f) (record { 0 = n2oFactor f });
+unfoldable pub entryBy : ℕ → List ℕ → List ℕ → Entry
+entryBy m l f = record {
+  method = m;
+  destination = destinationBy m f;
+  co2 = co2By m l f;
+  ch4 = traceOfHeat (amountOf l) (heatInUse l f) (record { 0 = ch4Factor f });
+  n2o = traceOfHeat (amountOf l) (heatInUse l f) (record { 0 = n2oFactor f });
 }
+
+unfoldable pub fuelEntry : List ℕ → List ℕ → List ℕ → Entry
+fuelEntry l u f = entryBy (methodOf l u f) l f
 
 unfoldable pub hourEntry : Readings → Entry
 hourEntry r = record {

@@ -65,7 +65,7 @@ pub data Applies (l : List ℕ) (units fuels : List (List ℕ)) : ℕ → Type 0
   noMethod : (u f : List ℕ) → FuelRecord l → Listed (unitNumber l) units u → Listed (fuelNumber l) fuels f
       → methodOf l u f ≡ 0 → Applies l units fuels 6
   -- 7: no heat in use.
-  noHeat : (f : List ℕ) → FuelRecord l → Listed (fuelNumber l) fuels f → heatInUse l f ≡ 0
+  noHeat : (f : List ℕ) → FuelRecord l → Listed (fuelNumber l) fuels f → heatInUse l f .0 ≡ 0
       → Applies l units fuels 7
 
 pub record Reasons (l : List ℕ) (units fuels : List (List ℕ)) (o : Outcome) : Type 0 where

@@ -87,7 +87,7 @@ unfoldable pub fuelJudged : List ℕ → List ℕ → List ℕ → Outcome
 fuelJudged l u f =
     check (fuelRanges l f) 4
     (check (ltb 0 (methodOf l u f)) 6
-    (check (ltb 0 (heatInUse l f)) 7
+    (check (ltb 0 (heatInUse l f .0)) 7
     (Counted (fuelEntry l u f))))
 
 unfoldable pub fuelOutcome : List ℕ → List (List ℕ) → List (List ℕ) → Outcome

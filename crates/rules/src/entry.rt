@@ -1,6 +1,5 @@
 // What a record that counts gives to the ledgers.
 use crate::field;
-use crate::method;
 use mass::Ng;
 use mass::Ug;
 use mass::fuel;
@@ -17,7 +16,7 @@ ghost use lib.ListN.{length};
 ghost use Rattle.rules.specs.Fields.{heat};
 ghost use Rattle.rules.specs.Book.{fuelOk};
 ghost use Rattle.rules.specs.Record.{heatLimit, fuelRanges};
-ghost use Rattle.rules.specs.Entry.{measuredHeat, heatInUse, co2By, destinationBy, fuelEntry};
+ghost use Rattle.rules.specs.Entry.{measuredHeat, heatInUse, co2By, destinationBy, entryBy};
 
 // The ledger that a record's CO2 goes to. CH4 and N2O have one each.
 pub enum Destination {
@@ -36,17 +35,17 @@ pub struct Entry {
     pub n2o: Ng,
 }
 
-pub(crate) fn make_entry(l: &[u8], u: &[u8], f: &[u8]) -> Entry
-    requires whole { ⌜ (32 ≤ length (now l)) × (32 ≤ length (now u)) × (32 ≤ length (now f)) ⌝ }
+// What the record gives by this method and with this heat in use.
+pub(crate) fn make_entry(method: u8, h: Heat, l: &[u8], f: &[u8]) -> Entry
+    requires whole { ⌜ (32 ≤ length (now l)) × (32 ≤ length (now f)) ⌝ }
     requires ranges { ⌜ fuelRanges (now l) (now f) ≡ true ⌝ }
     requires fuel { ⌜ fuelOk (now f) ≡ true ⌝ }
-    ensures entry { λ r. ⌜ r ≡ fuelEntry (now (l .entry)) (now (u .entry)) (now (f .entry)) ⌝ }
+    requires used { ⌜ h ≡ heatInUse (now l) (now f) ⌝ }
+    ensures entry { λ r. ⌜ r ≡ entryBy method (now (l .entry)) (now (f .entry)) ⌝ }
 {
-    let method = method::choose_method(l, u, f);
     let destination = find_destination(method, f);
-    let co2 = weigh_co2(method, l, f);
+    let co2 = weigh_co2(method, h, l, f);
     let a = Amount(field::amount(l));
-    let h = Heat(find_heat(l, f));
     let ch4 = fuel::weigh_trace(a, h, TraceFactor(field::ch4_factor(f)));
     let n2o = fuel::weigh_trace(a, h, TraceFactor(field::n2o_factor(f)));
     Entry {
@@ -59,7 +58,7 @@ pub(crate) fn make_entry(l: &[u8], u: &[u8], f: &[u8]) -> Entry
 }
 
 // The heat in use.
-pub(crate) fn find_heat(l: &[u8], f: &[u8]) -> u32
+pub(crate) fn find_heat(l: &[u8], f: &[u8]) -> Heat
     requires whole { ⌜ (32 ≤ length (now l)) × (32 ≤ length (now f)) ⌝ }
     requires ranges { ⌜ fuelRanges (now l) (now f) ≡ true ⌝ }
     ensures heat { λ r. ⌜ r ≡ heatInUse (now (l .entry)) (now (f .entry)) ⌝ }
@@ -67,21 +66,20 @@ pub(crate) fn find_heat(l: &[u8], f: &[u8]) -> u32
     if field::is_heat_measured(l) {
         return find_measured(l);
     }
-    field::default_heat(f)
+    Heat(field::default_heat(f))
 }
 
 // The heat that the record gives.
-fn find_measured(l: &[u8]) -> u32
+fn find_measured(l: &[u8]) -> Heat
     requires whole { ⌜ 32 ≤ length (now l) ⌝ }
     requires range { ⌜ heat (now l) ≤ heatLimit (now l) ⌝ }
     ensures heat { λ r. ⌜ r ≡ measuredHeat (now (l .entry)) ⌝ }
 {
     let heat = field::heat(l);
     if field::is_heat_low(l) {
-        let high = fuel::find_high(LowHeat(heat));
-        return high.0;
+        return fuel::find_high(LowHeat(heat));
     }
-    heat
+    Heat(heat)
 }
 
 fn find_destination(by: u8, f: &[u8]) -> Destination
@@ -97,10 +95,11 @@ fn find_destination(by: u8, f: &[u8]) -> Destination
     Destination::Fossil
 }
 
-fn weigh_co2(method: u8, l: &[u8], f: &[u8]) -> Ug
+fn weigh_co2(method: u8, h: Heat, l: &[u8], f: &[u8]) -> Ug
     requires whole { ⌜ (32 ≤ length (now l)) × (32 ≤ length (now f)) ⌝ }
     requires ranges { ⌜ fuelRanges (now l) (now f) ≡ true ⌝ }
     requires fuel { ⌜ fuelOk (now f) ≡ true ⌝ }
+    requires used { ⌜ h ≡ heatInUse (now l) (now f) ⌝ }
     ensures co2 { λ r. ⌜ r ≡ co2By method (now (l .entry)) (now (f .entry)) ⌝ }
 {
     if method == 4 {
@@ -110,6 +109,5 @@ fn weigh_co2(method: u8, l: &[u8], f: &[u8]) -> Ug
     if method == 3 {
         return fuel::weigh_by_carbon(a, Carbon(field::carbon(l)));
     }
-    let h = Heat(find_heat(l, f));
     fuel::weigh_by_heat(a, h, Co2Factor(field::co2_factor(f)))
 }

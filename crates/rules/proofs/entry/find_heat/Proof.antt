@@ -27,7 +27,8 @@ default-heat-requires c κs = search needs
 returns-2 : tie.Need-returns-2
 unfolding heatInUse
 returns-2 c =
-    c .default-heat .ensures
+    let heat = c .default-heat .ensures in
+    (λ i. record { 0 = heat i })
     ∙ sym (choose-f _ (is (c .before .before .is-heat-measured .ensures) (c .before .if1 .left)) refl)
 
 pub find-heat-spec : {M : Type 1} → statement M

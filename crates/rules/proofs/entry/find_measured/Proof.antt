@@ -27,14 +27,15 @@ unfolding measuredHeat
 returns c =
     let low = c .before .before in
     let heat = low .before .heat .ensures in
-    (λ i. c .find-high .ensures i .0)
-    ∙ (λ i. highOf (record { 0 = heat i }) .0)
+    c .find-high .ensures
+    ∙ (λ i. highOf (record { 0 = heat i }))
     ∙ sym (choose-t _ (is (low .is-heat-low .ensures) (c .before .if1 .taken)) refl)
 
 returns-2 : tie.Need-returns-2
 unfolding measuredHeat
 returns-2 c =
-    c .before .before .heat .ensures
+    let heat = c .before .before .heat .ensures in
+    (λ i. record { 0 = heat i })
     ∙ sym (choose-f _ (is (c .before .is-heat-low .ensures) (c .if1 .left)) refl)
 
 pub find-measured-spec : {M : Type 1} → statement M

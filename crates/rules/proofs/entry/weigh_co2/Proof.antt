@@ -1,11 +1,12 @@
 -- The ranges keep the products in reach, and each method is its own mass. Assumes nothing.
-use mathlib.Core.Path.{refl, sym, _∙_}
+use mathlib.Core.Path.{_≡_, refl, sym, _∙_}
+use native.Mathlib.Nat.{le-trans, le-of-eq}
 use native.Mathlib.Omega.{arith}
 use borrow.Author.Needs.{needs}
 use borrow.Author.Tests.{eq-eqb, ne-eqb}
 use Rattle.choice.proofs.TestsLaws.{choose-t, choose-f}
 use Rattle.mass.specs.Fuel.{co2OfHeat, co2OfCarbon}
-use Rattle.rules.specs.Entry.{co2By}
+use Rattle.rules.specs.Entry.{heatInUse, co2By}
 use Rattle.rules.proofs.EntryLaws.{Reach, reach}
 use Rattle.rules.proofs.entry.weigh_co2.Statement.{statement}
 use Rattle.rules.proofs.entry.weigh_co2.Tie as tie
@@ -14,7 +15,12 @@ in-reach : (c : tie.After-amount)
     → Reach (c .before .before .before .before .args .l .now) (c .before .before .before .before .args .f .now)
 in-reach c =
     let h = c .before .before .before .before .pre in
-    reach _ _ (h .1 .0) (h .1 .1)
+    reach _ _ (h .1 .0) (h .1 .1 .0)
+
+used : (c : tie.After-amount) →
+    let a = c .before .before .before .before .args in
+    a .h ≡ heatInUse (a .l .now) (a .f .now)
+used c = c .before .before .before .before .pre .1 .1 .1
 
 returns : tie.Need-returns
 unfolding co2By
@@ -45,32 +51,29 @@ returns-2 c =
     ∙ sym (choose-f _ (ne-eqb _ _ (a .before .if1 .left))
     (choose-t _ (eq-eqb _ _ (c .before .before .if2 .taken)) refl))
 
-find-heat-requires : tie.Need-find-heat-requires
-find-heat-requires c κs = search needs
-
 co2-factor-requires : tie.Need-co2-factor-requires
 co2-factor-requires c κs = search needs
 
 weigh-by-heat-requires : tie.Need-weigh-by-heat-requires
 weigh-by-heat-requires c κs =
-    let a = c .before .before .before in
+    let a = c .before .before in
     let amount = a .amount .ensures in
-    let heat = c .before .find-heat .ensures in
     let factor = c .co2-factor .ensures in
     let r = in-reach a .by-co2 in
-    record { amount-le = omega arith; heat-le = omega arith; factor-le = omega arith }
+    let heat-in = le-trans (le-of-eq (λ i. used a i .0)) (r .heat-le) in
+    record { amount-le = omega arith; heat-le = heat-in; factor-le = omega arith }
 
 returns-3 : tie.Need-returns-3
 unfolding co2By
 returns-3 c =
-    let a = c .before .before .before .before in
+    let a = c .before .before .before in
     let amount = a .amount .ensures in
-    let heat = c .before .before .find-heat .ensures in
+    let heat = used a in
     let factor = c .before .co2-factor .ensures in
     c .weigh-by-heat .ensures
-    ∙ (λ i. co2OfHeat (record { 0 = amount i }) (record { 0 = heat i }) (record { 0 = factor i }))
+    ∙ (λ i. co2OfHeat (record { 0 = amount i }) (heat i) (record { 0 = factor i }))
     ∙ sym (choose-f _ (ne-eqb _ _ (a .before .if1 .left))
-    (choose-f _ (ne-eqb _ _ (c .before .before .before .if2 .left)) refl))
+    (choose-f _ (ne-eqb _ _ (c .before .before .if2 .left)) refl))
 
 pub weigh-co2-spec : {M : Type 1} → statement M
 weigh-co2-spec =
@@ -81,7 +84,6 @@ weigh-co2-spec =
     carbon-requires
     weigh-by-carbon-requires
     returns-2
-    find-heat-requires
     co2-factor-requires
     weigh-by-heat-requires
     returns-3)
