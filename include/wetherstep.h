@@ -87,7 +87,8 @@ static inline uint32_t wetherstep_count(uint64_t reply) { return (uint32_t)(repl
 #define WETHERSTEP_REASON_FORM 1     /* kind, flags or a byte that must be 0: write it anew */
 #define WETHERSTEP_REASON_UNIT 2     /* the unit isn't listed: list it, or correct its number */
 #define WETHERSTEP_REASON_FUEL 3     /* the fuel isn't listed: list it, or correct its number */
-#define WETHERSTEP_REASON_RANGE 4    /* month, hour, amount, heat, carbon or reading: correct it */
+#define WETHERSTEP_REASON_RANGE 4    /* month, hour, amount, heat, carbon or reading: correct it; a
+                                        low heat value is for natural gas alone */
 #define WETHERSTEP_REASON_MONITOR 5  /* an hour of a unit without a monitor: correct unit or flag */
 #define WETHERSTEP_REASON_METHOD 6   /* no permitted method: give the carbon, or check the rating */
 #define WETHERSTEP_REASON_HEAT 7     /* no heat in use: give it, or give the fuel a default */
@@ -95,7 +96,7 @@ static inline uint32_t wetherstep_count(uint64_t reply) { return (uint32_t)(repl
 /* METHODS by which a record counts. */
 #define WETHERSTEP_METHOD_HOUR 0           /* none: a monitor hour, by its readings */
 #define WETHERSTEP_METHOD_DEFAULT_HEAT 1   /* fuel, by its default heat */
-#define WETHERSTEP_METHOD_MEASURED_HEAT 2  /* fuel, by the heat measured */
+#define WETHERSTEP_METHOD_MEASURED_HEAT 2  /* fuel, by the heat measured, as a low value or not */
 #define WETHERSTEP_METHOD_CARBON 3         /* fuel, by the carbon measured */
 #define WETHERSTEP_METHOD_MONITORED 4      /* fuel of a monitored unit, whose hours give the CO2 */
 #define WETHERSTEP_NO_RECORD 255           /* the book has no record with this index */
