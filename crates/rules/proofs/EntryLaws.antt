@@ -29,17 +29,17 @@ unfolding carbonLimit
 carbonLimit-le f = if-choose (λ (x : ℕ). x ≤ 4000000) (eqb (fuelKind f) 3) (λ gas. lit≤ tt) (λ other. lit≤ tt)
 
 -- The limit of a low value, and that of any other.
-pub low-le : (l : List ℕ) → heatLow l ≡ true → heat l ≤ heatLimit l → heat l ≤ 180000
+pub heatLimit-low : (l : List ℕ) → heatLow l ≡ true → heat l ≤ heatLimit l → heat l ≤ 180000
 unfolding heatLimit
-low-le l low h = le-trans h (le-of-eq (choose-t _ low refl))
+heatLimit-low l low h = le-trans h (le-of-eq (choose-t _ low refl))
 
-high-le : (l : List ℕ) → heatLow l ≡ false → heat l ≤ heatLimit l → heat l ≤ 200000
+heatLimit-high : (l : List ℕ) → heatLow l ≡ false → heat l ≤ heatLimit l → heat l ≤ 200000
 unfolding heatLimit
-high-le l high h = le-trans h (le-of-eq (choose-f _ high refl))
+heatLimit-high l high h = le-trans h (le-of-eq (choose-f _ high refl))
 
-measured-le : (l f : List ℕ) → heatRange l f ≡ true → heatMeasured l ≡ true → heat l ≤ heatLimit l
+heatRange-measured : (l f : List ℕ) → heatRange l f ≡ true → heatMeasured l ≡ true → heat l ≤ heatLimit l
 unfolding heatRange
-measured-le l f h measured =
+heatRange-measured l f h measured =
     leb-true _ _ (also-r _ _ (also-l _ _ (sym (choose-t true measured refl) ∙ h)))
 
 heatRange-of-fuelRanges : (l f : List ℕ) → fuelRanges l f ≡ true → heatRange l f ≡ true
@@ -47,8 +47,8 @@ unfolding fuelRanges
 heatRange-of-fuelRanges l f h = also-r _ _ (also-l _ _ h)
 
 -- A record in its ranges gives no heat past the limit.
-pub heat-le-heatLimit : (l f : List ℕ) → fuelRanges l f ≡ true → heatMeasured l ≡ true → heat l ≤ heatLimit l
-heat-le-heatLimit l f h = measured-le l f (heatRange-of-fuelRanges l f h)
+pub heatLimit-le : (l f : List ℕ) → fuelRanges l f ≡ true → heatMeasured l ≡ true → heat l ≤ heatLimit l
+heatLimit-le l f h = heatRange-measured l f (heatRange-of-fuelRanges l f h)
 
 -- What `mass` asks of a heat.
 abbrev Fits : Heat → Type 0
@@ -58,14 +58,14 @@ measuredHeat-le : (l : List ℕ) → heat l ≤ heatLimit l → measuredHeat l .
 unfolding measuredHeat
 measuredHeat-le l h =
     if-choose Fits (heatLow l)
-    (λ low. highOf-le _ (low-le l low h))
-    (λ high. high-le l high h)
+    (λ low. highOf-le _ (heatLimit-low l low h))
+    (λ high. heatLimit-high l high h)
 
 heatInUse-le : (l f : List ℕ) → heatRange l f ≡ true → defaultHeat f ≤ 200000 → heatInUse l f .0 ≤ 200000
 unfolding heatInUse
 heatInUse-le l f h d =
     if-choose Fits (heatMeasured l)
-    (λ measured. measuredHeat-le l (measured-le l f h measured))
+    (λ measured. measuredHeat-le l (heatRange-measured l f h measured))
     (λ not-measured. d)
 
 -- A fuel record in its ranges, of a fuel line that breaks no rule.

@@ -3,7 +3,7 @@ use mathlib.Core.Path.{refl, sym, _∙_}
 use borrow.Author.Needs.{needs}
 use Rattle.choice.proofs.TestsLaws.{is, choose-t, choose-f}
 use Rattle.rules.specs.Entry.{heatInUse}
-use Rattle.rules.proofs.EntryLaws.{heat-le-heatLimit}
+use Rattle.rules.proofs.EntryLaws.{heatLimit-le}
 use Rattle.rules.proofs.entry.find_heat.Statement.{statement}
 use Rattle.rules.proofs.entry.find_heat.Tie as tie
 
@@ -13,7 +13,7 @@ is-heat-measured-requires c κs = search needs
 find-measured-requires : tie.Need-find-measured-requires
 find-measured-requires c κs =
     let h = c .before .before .before .before .pre in
-    (h .0 .0, heat-le-heatLimit _ _ (h .1) (is (c .before .is-heat-measured .ensures) (c .if1 .taken)))
+    (h .0 .0, heatLimit-le _ _ (h .1) (is (c .before .is-heat-measured .ensures) (c .if1 .taken)))
 
 returns : tie.Need-returns
 unfolding heatInUse

@@ -6,7 +6,7 @@ use borrow.Author.Needs.{needs}
 use Rattle.choice.proofs.TestsLaws.{is, choose-t, choose-f}
 use Rattle.mass.specs.Fuel.{highOf}
 use Rattle.rules.specs.Entry.{measuredHeat}
-use Rattle.rules.proofs.EntryLaws.{low-le}
+use Rattle.rules.proofs.EntryLaws.{heatLimit-low}
 use Rattle.rules.proofs.entry.find_measured.Statement.{statement}
 use Rattle.rules.proofs.entry.find_measured.Tie as tie
 
@@ -20,7 +20,7 @@ find-high-requires : tie.Need-find-high-requires
 find-high-requires c κs =
     let h = c .before .before in
     let low = is (c .before .is-heat-low .ensures) (c .if1 .taken) in
-    le-trans (le-of-eq (h .heat .ensures)) (low-le _ low (h .before .before .pre .1))
+    le-trans (le-of-eq (h .heat .ensures)) (heatLimit-low _ low (h .before .before .pre .1))
 
 returns : tie.Need-returns
 unfolding measuredHeat
