@@ -34,7 +34,7 @@ static uint32_t number_of(size_t i)
     return (uint32_t)(7 + 11 * i + i * i % 5);
 }
 
-/* Where not all units have one, or none, every fourth has a monitor; of the others every third is a
+/* Unless all units have a monitor, or none, every fourth has one; of the others every third is a
    big one. */
 static bool is_monitored(enum mix mix, size_t i)
 {

@@ -94,23 +94,28 @@ static void compare_other_set(struct bytes *b)
     }
 }
 
-/* Every pattern of the lowest four flags, of each class in a unit with a monitor, a small and a big
-   one, with heats about the ends of their ranges and about a half of 1.11 times the value. */
-static void compare_heats(struct bytes *b)
+/* Heats about the ends of their ranges, and about a half of 1.11 times the value. */
+static void compare_heats_of(struct bytes *b, size_t unit, size_t fuel, uint32_t flags)
 {
     static const uint32_t heats[] = {0,      1,      49,     50,     51,     149,        150,
                                      179949, 179950, 180000, 180001, 200000, 200001, UINT32_MAX};
+    for (size_t i = 0; i < sizeof heats / sizeof *heats; i++) {
+        struct out at = compare_fresh(b, "heats", SIZE);
+        write_heat(b, 0, unit, fuel, flags, heats[i]);
+        compare_record(b, "heats", 0);
+        compare_wake(b, "heats", &at, SIZE, 1, SIZE);
+    }
+}
+
+/* Every pattern of the lowest four flags, of each class in a unit with a monitor, a small and a big
+   one. */
+static void compare_heats(struct bytes *b)
+{
     make_under(b, &small, 0);
-    const struct out fresh = compare_fresh(b, "heats", SIZE);
     for (uint32_t flags = 0; flags < 16; flags++)
         for (size_t unit = 0; unit < 3; unit++)
             for (size_t fuel = 0; fuel < 4; fuel++)
-                for (size_t i = 0; i < sizeof heats / sizeof *heats; i++) {
-                    struct out at = fresh;
-                    write_heat(b, 0, unit, fuel, flags, heats[i]);
-                    compare_record(b, "heats", 0);
-                    compare_wake(b, "heats", &at, SIZE, 1, SIZE);
-                }
+                compare_heats_of(b, unit, fuel, flags);
 }
 
 /* Whole tonnes about the limits of the decision, in a checkpoint that no wake made. It is reported
