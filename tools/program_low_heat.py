@@ -1,7 +1,9 @@
 """Natural gas by its low heat value: what `lines` prints of such records, and how they are set aside."""
+import collections
 import fractions
 import itertools
 import math
+import struct
 
 from program_books import book, fuel_record, masses_of, patch, report
 from program_lines import FUELS, UNITS, try_forms
@@ -41,13 +43,11 @@ LOW_HEATS = [
     ("the same of an unlisted unit", patch(fuel_record(unit=4), 1, b"\4"), "reason 1"),
 ]
 HEATS = (0, 1, 49, 50, 149, 150, 35_049, 35_050, 179_950, 180_000, 180_001, 200_000, 200_001)
-# Of UNITS and FUELS by their numbers: which unit is past 250.0 and which has a monitor; a fuel's
-# class, its default heat and its factors.
-LARGE, MONITORED = 2, 3
-CLASSES = {1: 1, 2: 0, 3: 3, 4: 1, 6: 2}
-DEFAULTS = {1: 38_000, 2: 38_000, 3: 17_500, 4: 0, 6: 38_000}
-FACTORS = {1: (50_000, 900, 90), 2: (50_000, 900, 90), 3: (95_000, 30_000, 4_000),
-           4: (50_000, 900, 90), 6: (50_000, 900, 90)}
+LARGE, MONITORED = 2, 3  # the units of UNITS past 250.0, and with a monitor
+
+Fuel = collections.namedtuple("Fuel", "number kind fuel_class heat co2 ch4 n2o")
+FUEL = {fuel.number: fuel
+        for fuel in (Fuel(*struct.unpack_from("<HBBIIII", line)) for line in FUELS)}
 
 
 def high(low):
@@ -61,11 +61,11 @@ def reason_of(unit, fuel, flags, heat):
         return 1
     if measured and not 1 <= heat <= (180_000 if low else 200_000):
         return 4
-    if low and CLASSES[fuel] != 1:
+    if low and FUEL[fuel].fuel_class != 1:
         return 4
     if method_of(unit, fuel, flags) == 0:
         return 6
-    return 7 if not measured and DEFAULTS[fuel] == 0 else 0
+    return 7 if not measured and FUEL[fuel].heat == 0 else 0
 
 
 def method_of(unit, fuel, flags):
@@ -74,8 +74,8 @@ def method_of(unit, fuel, flags):
     if flags & 2:
         return 3
     if flags & 1:
-        return 2 if unit != LARGE or CLASSES[fuel] in (1, 2) else 0
-    return 1 if unit != LARGE and DEFAULTS[fuel] else 0
+        return 2 if unit != LARGE or FUEL[fuel].fuel_class in (1, 2) else 0
+    return 1 if unit != LARGE and FUEL[fuel].heat else 0
 
 
 def wanted_of(unit, fuel, flags, heat, carbon):
@@ -84,10 +84,11 @@ def wanted_of(unit, fuel, flags, heat, carbon):
     if reason:
         return f"reason {reason}"
     method = method_of(unit, fuel, flags)
-    in_use = (high(heat) if flags & 4 else heat) if flags & 1 else DEFAULTS[fuel]
-    co2, ch4, n2o = (1_000 * in_use * factor for factor in FACTORS[fuel])
+    of = FUEL[fuel]
+    in_use = (high(heat) if flags & 4 else heat) if flags & 1 else of.heat
+    co2, ch4, n2o = (1_000 * in_use * factor for factor in (of.co2, of.ch4, of.n2o))
     co2 = {3: 1_000 * carbon * 3_664, 4: 0}.get(method, co2)
-    ledger = "none" if method == 4 else "biomass" if CLASSES[fuel] == 3 else "fossil"
+    ledger = "none" if method == 4 else "biomass" if of.fuel_class == 3 else "fossil"
     return f"method {method} {ledger} co2-ug {co2} ch4-ng {ch4} n2o-ng {n2o}"
 
 
@@ -95,7 +96,7 @@ def try_patterns(programs, cases):
     """Every pattern of the flags, on each unit, of each fuel, with heats at the edges."""
     for flags in range(16):
         carbon = 520_000 if flags & 2 else 0
-        drawn = list(itertools.product((1, 2, 3), CLASSES, HEATS))
+        drawn = list(itertools.product((1, 2, 3), FUEL, HEATS))
         records = [patch(fuel_record(unit=unit, fuel=fuel, heat=heat, carbon=carbon), 1,
                          bytes([flags])) for unit, fuel, heat in drawn]
         lines = [f"record {i} {wanted_of(unit, fuel, flags, heat, carbon)}\n"
