@@ -56,7 +56,7 @@ pub p7-usable : hourOf 0x4148_0000 0x49F4_2400 ≡ Usable (readingsOf 0x4148_000
 unfolding hourOf judged upTo natural unitsIn readingsOf ofBits
 p7-usable = simp worked-out
 
-pub p7-mass : hourMass (readingsOf 0x4148_0000 0x49F4_2400) ≡ record { 0 = 12950000000000 }
+pub p7-mass : hourMass (record { 0 = 0 }) (readingsOf 0x4148_0000 0x49F4_2400) ≡ record { 0 = 12950000000000 }
 unfolding hourMass roundedProduct nearestTo unitsIn readingsOf ofBits
 p7-mass = simp worked-out
 
@@ -69,7 +69,7 @@ pub p8-rounded : roundedProduct 1000 (readingsOf 0x3E80_0000 0x3E80_0000) ≡ 62
 unfolding roundedProduct nearestTo unitsIn readingsOf ofBits
 p8-rounded = simp worked-out
 
-pub p8-mass : hourMass (readingsOf 0x3E80_0000 0x3E80_0000) ≡ record { 0 = 32116 }
+pub p8-mass : hourMass (record { 0 = 0 }) (readingsOf 0x3E80_0000 0x3E80_0000) ≡ record { 0 = 32116 }
 unfolding hourMass roundedProduct nearestTo unitsIn readingsOf ofBits
 p8-mass = simp worked-out
 
@@ -82,7 +82,7 @@ pub p9-rounded : roundedProduct 1000 (readingsOf 0x3F40_0000 0x3E80_0000) ≡ 18
 unfolding roundedProduct nearestTo unitsIn readingsOf ofBits
 p9-rounded = simp worked-out
 
-pub p9-mass : hourMass (readingsOf 0x3F40_0000 0x3E80_0000) ≡ record { 0 = 97384 }
+pub p9-mass : hourMass (record { 0 = 0 }) (readingsOf 0x3F40_0000 0x3E80_0000) ≡ record { 0 = 97384 }
 unfolding hourMass roundedProduct nearestTo unitsIn readingsOf ofBits
 p9-mass = simp worked-out
 

@@ -90,7 +90,7 @@ fuelled : {m co2 ch4 n2o : ℕ} {x : Ug} {y z : Ng} → x ≡ record { 0 = co2 }
     → Counted (record { method = m; destination = Fossil; co2 = x; ch4 = y; n2o = z }) ≡ counted m co2 ch4 n2o
 fuelled {m} p q r = λ i. Counted (record { method = m; destination = Fossil; co2 = p i; ch4 = q i; n2o = r i })
 
-metered : {x : Hour} {r : Readings} {co2 : ℕ} → x ≡ Usable r → hourMass r ≡ record { 0 = co2 }
+metered : {x : Hour} {r : Readings} {co2 : ℕ} → x ≡ Usable r → hourMass (record { 0 = 0 }) r ≡ record { 0 = co2 }
     → hourRead (unit 1 2500) x ≡ counted 0 co2 0 0
 unfolding bytesOf hourRead hourEntry check
 metered usable weighed =

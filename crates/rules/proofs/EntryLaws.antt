@@ -127,7 +127,7 @@ pub bounded-hourEntry : (r : Readings) → InRange r → Bounded (hourEntry r)
 unfolding hourEntry
 bounded-hourEntry r h = record {
   method-le = zero-le;
-  co2-le = le-trans (hourMass-le r h) (lit≤ tt);
+  co2-le = le-trans (hourMass-le _ r h) (lit≤ tt);
   ch4-le = zero-le;
   n2o-le = zero-le;
 }

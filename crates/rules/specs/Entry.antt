@@ -60,7 +60,7 @@ unfoldable pub hourEntry : Readings → Entry
 hourEntry r = record {
   method = 0;
   destination = Fossil;
-  co2 = hourMass r;
+  co2 = hourMass (record { 0 = 0 }) r;
   ch4 = record { 0 = 0 };
   n2o = record { 0 = 0 };
 }
