@@ -19,9 +19,10 @@ use Rattle.rules.specs.declared.entry.Destination.the-variants.{Fossil}
 use Rattle.rules.specs.declared.record.Outcome.{Outcome}
 use Rattle.rules.specs.declared.record.Outcome.the-variants.{SetAside, Counted}
 use Rattle.rules.specs.Bytes.{word, bytesOf}
+use Rattle.rules.specs.Fields.{moisture}
 use Rattle.rules.specs.Method.{methodOf}
 use Rattle.rules.specs.Entry.{measuredHeat, heatInUse, co2By, destinationBy, entryBy, fuelEntry, hourEntry}
-use Rattle.rules.specs.Record.{check, listed, fuelForm, hourForm, heatLimit, heatRange, carbonLimit, fuelRanges, hourRange, fuelJudged, fuelOutcome, hourRead, hourJudged, hourOutcome, outcomeOf}
+use Rattle.rules.specs.Record.{check, listed, fuelForm, hourForm, moistureForm, heatLimit, heatRange, carbonLimit, fuelRanges, hourRange, fuelJudged, fuelOutcome, hourRead, hourJudged, hourOutcome, outcomeOf}
 
 -- ---- lines
 -- a unit line by its flags and rating
@@ -90,18 +91,18 @@ fuelled : {m co2 ch4 n2o : ℕ} {x : Ug} {y z : Ng} → x ≡ record { 0 = co2 }
     → Counted (record { method = m; destination = Fossil; co2 = x; ch4 = y; n2o = z }) ≡ counted m co2 ch4 n2o
 fuelled {m} p q r = λ i. Counted (record { method = m; destination = Fossil; co2 = p i; ch4 = q i; n2o = r i })
 
-metered : {x : Hour} {r : Readings} {co2 : ℕ} → x ≡ Usable r → hourMass (record { 0 = 0 }) r ≡ record { 0 = co2 }
-    → hourRead (unit 1 2500) x ≡ counted 0 co2 0 0
+metered : (l : List ℕ) {x : Hour} {r : Readings} {co2 : ℕ} → x ≡ Usable r
+    → hourMass (record { 0 = moisture l }) r ≡ record { 0 = co2 } → hourRead l (unit 1 2500) x ≡ counted 0 co2 0 0
 unfolding bytesOf hourRead hourEntry check
-metered usable weighed =
-    ap (hourRead (unit 1 2500)) usable ∙ choose-true _ _ ∙ fuelled weighed refl refl
+metered l usable weighed =
+    ap (hourRead l (unit 1 2500)) usable ∙ choose-true _ _ ∙ fuelled weighed refl refl
 
 pub worked-sums : WorkedSums
 unfolding
     outcomeOf check listed word bytesOf
     fuelOutcome fuelForm fuelRanges heatRange heatLimit carbonLimit fuelJudged methodOf fuelEntry destinationBy co2By
     entryBy heatInUse measuredHeat
-    hourOutcome hourForm hourRange hourJudged
+    hourOutcome hourForm moistureForm hourRange hourJudged
 worked-sums = record {
   p1 = simp worked-out (fuelled mass.p1-co2 mass.p1-ch4 mass.p1-n2o);
   p2 = simp worked-out (fuelled mass.p2-co2 mass.p2-ch4 mass.p2-n2o);
@@ -109,10 +110,10 @@ worked-sums = record {
   p4 = simp worked-out;
   p5 = simp worked-out (fuelled mass.p2-co2 mass.p2-ch4 mass.p2-n2o);
   p6 = simp worked-out;
-  p7 = simp worked-out (metered mass.p7-usable mass.p7-mass);
-  p8 = simp worked-out (metered mass.p8-usable mass.p8-mass);
+  p7 = simp worked-out (metered _ mass.p7-usable mass.p7-mass);
+  p8 = simp worked-out (metered _ mass.p8-usable mass.p8-mass);
   p8-R = mass.p8-rounded;
-  p9 = simp worked-out (metered mass.p9-usable mass.p9-mass);
+  p9 = simp worked-out (metered _ mass.p9-usable mass.p9-mass);
   p9-R = mass.p9-rounded;
   p10 = mass.p10-reports;
   p11 = mass.p11-reports;

@@ -16,11 +16,11 @@ use Rattle.mass.specs.Hour.{InRange}
 use Rattle.mass.proofs.FuelLaws.{mostEach, co2OfHeat-le, co2OfCarbon-le, traceOfHeat-le, highOf-le}
 use Rattle.mass.proofs.HourLaws.{hourMass-le}
 use Rattle.rules.specs.declared.entry.Entry.{Entry}
-use Rattle.rules.specs.Fields.{fuelKind, defaultHeat, co2Factor, ch4Factor, n2oFactor, heatMeasured, heatLow, amount, heat, carbon}
+use Rattle.rules.specs.Fields.{fuelKind, defaultHeat, co2Factor, ch4Factor, n2oFactor, heatMeasured, heatLow, amount, heat, carbon, moisture}
 use Rattle.rules.specs.Book.{fuelHeadOk, fuelOk}
 use Rattle.rules.specs.Method.{methodOf}
 use Rattle.rules.specs.Entry.{measuredHeat, heatInUse, co2By, entryBy, fuelEntry, hourEntry}
-use Rattle.rules.specs.Record.{heatLimit, heatRange, carbonLimit, fuelRanges}
+use Rattle.rules.specs.Record.{heatLimit, heatRange, carbonLimit, fuelRanges, hourRange}
 use Rattle.rules.proofs.MethodLaws.{methodOf-le}
 
 -- ---- ranges
@@ -49,6 +49,11 @@ heatRange-of-fuelRanges l f h = also-r _ _ (also-l _ _ h)
 -- A record in its ranges gives no heat past the limit.
 pub heatLimit-le : (l f : List ℕ) → fuelRanges l f ≡ true → heatMeasured l ≡ true → heat l ≤ heatLimit l
 heatLimit-le l f h = heatRange-measured l f (heatRange-of-fuelRanges l f h)
+
+-- What `mass` asks of an hour's moisture.
+pub moisture-le : (l : List ℕ) → hourRange l ≡ true → moisture l ≤ 1000
+unfolding hourRange
+moisture-le l h = leb-true _ _ (also-r _ _ h)
 
 -- What `mass` asks of a heat.
 abbrev Fits : Heat → Type 0
@@ -123,9 +128,9 @@ bounded-fuelEntry l u f h k =
       n2o-le = traceOfHeat-le _ _ _ (r .by-n2o);
     }
 
-pub bounded-hourEntry : (r : Readings) → InRange r → Bounded (hourEntry r)
+pub bounded-hourEntry : (l : List ℕ) (r : Readings) → InRange r → Bounded (hourEntry l r)
 unfolding hourEntry
-bounded-hourEntry r h = record {
+bounded-hourEntry l r h = record {
   method-le = zero-le;
   co2-le = le-trans (hourMass-le _ r h) (lit≤ tt);
   ch4-le = zero-le;

@@ -24,7 +24,7 @@ use Rattle.rules.specs.Fields.{monitored, kind, unitNumber, fuelNumber, 
 use Rattle.rules.specs.Book.{unitOk, fuelOk, linesSound, unitLines, fuelLines, opened, accepted}
 use Rattle.rules.specs.Method.{methodOf}
 use Rattle.rules.specs.Entry.{heatInUse, fuelEntry, hourEntry}
-use Rattle.rules.specs.Record.{lastReason, check, fuelForm, hourForm, fuelRanges, hourRange, fuelJudged, fuelOutcome, hourRead, hourJudged, hourOutcome, outcomeOf, outcomeAt}
+use Rattle.rules.specs.Record.{lastReason, check, fuelForm, hourForm, moistureForm, fuelRanges, hourRange, fuelJudged, fuelOutcome, hourRead, hourJudged, hourOutcome, outcomeOf, outcomeAt}
 use Rattle.rules.specs.Reason.{FuelRecord, MonitorHour, Listed, Applies, Reasons}
 use Rattle.rules.proofs.BookLaws.{accepted-facts}
 use Rattle.rules.proofs.ListedLaws.{if-listed, Once, once-linesOk}
@@ -47,6 +47,7 @@ module _ (l : List ℕ) (units fuels : List (List ℕ)) where
   applies-within k (Applies.wrongKind p q) = (lit≤ tt, lit≤ tt)
   applies-within k (Applies.wrongFuelForm p t) = (lit≤ tt, lit≤ tt)
   applies-within k (Applies.wrongHourForm p t) = (lit≤ tt, lit≤ tt)
+  applies-within k (Applies.wetMoisture u p i t) = (lit≤ tt, lit≤ tt)
   applies-within k (Applies.noUnit n) = (lit≤ tt, lit≤ tt)
   applies-within k (Applies.noFuel p n) = (lit≤ tt, lit≤ tt)
   applies-within k (Applies.fuelOutside f p i t) = (lit≤ tt, lit≤ tt)
@@ -77,7 +78,7 @@ module _ (l : List ℕ) (units fuels : List (List ℕ)) where
     none : (k : ℕ) → Applies l units fuels k → ⊥
     by-fuel : (u f : List ℕ) → FuelRecord l → Listed (unitNumber l) units u → Listed (fuelNumber l) fuels f
         → e ≡ fuelEntry l u f
-    by-hour : (r : Readings) → MonitorHour l → hourOf (percentBits l) (flowBits l) ≡ Usable r → e ≡ hourEntry r
+    by-hour : (r : Readings) → MonitorHour l → hourOf (percentBits l) (flowBits l) ≡ Usable r → e ≡ hourEntry l r
 
   abbrev Decided : Outcome → Type 0
   Decided (SetAside k) = Applies l units fuels k × Clear k
@@ -121,6 +122,7 @@ module _ (l : List ℕ) (units fuels : List (List ℕ)) where
     fuel-not-1 h (Applies.wrongKind q r) = q p
     fuel-not-1 h (Applies.wrongFuelForm q t) = clash h t
     fuel-not-1 h (Applies.wrongHourForm q t) = no-hour q
+    fuel-not-1 h (Applies.wetMoisture v q a t) = no-hour q
 
     -- The unit's line u and the fuel's line f.
     module _ (u f : List ℕ) (i : Listed (unitNumber l) units u) (j : Listed (fuelNumber l) fuels f) where
@@ -177,10 +179,13 @@ module _ (l : List ℕ) (units fuels : List (List ℕ)) where
     no-fuel : FuelRecord l → ⊥
     no-fuel q = absurd (omega arith)
 
-    hour-not-1 : hourForm l ≡ true → Applies l units fuels 1 → ⊥
-    hour-not-1 h (Applies.wrongKind q r) = r p
-    hour-not-1 h (Applies.wrongFuelForm q t) = no-fuel q
-    hour-not-1 h (Applies.wrongHourForm q t) = clash h t
+    -- Where the form is right, reason 1 has no ground but moisture that a line of the unit doesn't permit.
+    hour-not-1 : hourForm l ≡ true → ((u : List ℕ) → Listed (unitNumber l) units u → moistureForm l u ≡ true)
+        → Applies l units fuels 1 → ⊥
+    hour-not-1 h m (Applies.wrongKind q r) = r p
+    hour-not-1 h m (Applies.wrongFuelForm q t) = no-fuel q
+    hour-not-1 h m (Applies.wrongHourForm q t) = clash h t
+    hour-not-1 h m (Applies.wetMoisture v q a t) = clash (m v a) t
 
     hour-not-3 : Applies l units fuels 3 → ⊥
     hour-not-3 (Applies.noFuel q n) = no-fuel q
@@ -202,15 +207,15 @@ module _ (l : List ℕ) (units fuels : List (List ℕ)) where
       hour-not-5 : monitored u ≡ true → Applies l units fuels 5 → ⊥
       hour-not-5 h (Applies.noMonitor v q a t) = clash h (ap monitored (U _ u v i a) ∙ t)
 
-      due-hourEntry : (r : Readings) → hourOf (percentBits l) (flowBits l) ≡ Usable r → Clear 6 → Due (hourEntry r)
+      due-hourEntry : (r : Readings) → hourOf (percentBits l) (flowBits l) ≡ Usable r → Clear 6 → Due (hourEntry l r)
       due-hourEntry r e to-6 = record {
         none = none-clear (clear-next 7 (clear-next 6 to-6 hour-not-6) hour-not-7);
         by-fuel = λ v g q. absurd (no-fuel q);
-        by-hour = λ x q h. let same : Usable r ≡ Usable x = sym e ∙ h in ap hourEntry cc;
+        by-hour = λ x q h. let same : Usable r ≡ Usable x = sym e ∙ h in ap (hourEntry l) cc;
       }
 
       decided-hourRead : (x : Hour) → hourOf (percentBits l) (flowBits l) ≡ x → hourRange l ≡ true → Clear 4
-          → Decided (hourRead u x)
+          → Decided (hourRead l u x)
       unfolding hourRead
       decided-hourRead (Usable r) e inside to-4 =
           let to-5 = clear-next 4 to-4 (hour-not-4 r inside e) in
@@ -218,15 +223,27 @@ module _ (l : List ℕ) (units fuels : List (List ℕ)) where
           due-hourEntry r e (clear-next 5 to-5 (hour-not-5 measured)))
       decided-hourRead (Unusable x) e inside to-4 = (Applies.readingOutside x p e, to-4)
 
+      -- The unit has no other line.
+      moistureForm-once : moistureForm l u ≡ true → (v : List ℕ) → Listed (unitNumber l) units v
+          → moistureForm l v ≡ true
+      moistureForm-once told v a = ap (moistureForm l) (sym (U _ u v i a)) ∙ told
+
+      decided-hourJudged : hourForm l ≡ true → Decided (hourJudged l u)
+      unfolding hourJudged
+      decided-hourJudged formed =
+          decided-check (moistureForm l u) 1 _ (λ t. Applies.wetMoisture u p i t) clear-one (λ told.
+          let to-2 = clear-next 1 clear-one (hour-not-1 formed (moistureForm-once told)) in
+          let to-4 = clear-next 3 (clear-next 2 to-2 (not-2 u i)) hour-not-3 in
+          decided-check (hourRange l) 4 _ (λ t. Applies.hourOutside p t) to-4 (λ inside.
+          decided-hourRead _ refl inside to-4))
+
     decided-hourOutcome : Decided (hourOutcome l units)
-    unfolding hourOutcome hourJudged
+    unfolding hourOutcome
     decided-hourOutcome =
         decided-check (hourForm l) 1 _ (λ t. Applies.wrongHourForm p t) clear-one (λ formed.
-        let to-2 = clear-next 1 clear-one (hour-not-1 formed) in
-        if-listed Decided (unitNumber l) 2 units _ (λ n. (Applies.noUnit n, to-2)) (λ u i.
-        let to-4 = clear-next 3 (clear-next 2 to-2 (not-2 u i)) hour-not-3 in
-        decided-check (hourRange l) 4 _ (λ t. Applies.hourOutside p t) to-4 (λ inside.
-        decided-hourRead u i _ refl inside to-4)))
+        if-listed Decided (unitNumber l) 2 units _
+        (λ n. (Applies.noUnit n, clear-next 1 clear-one (hour-not-1 formed (λ v a. absurd (n v a)))))
+        (λ u i. decided-hourJudged u i formed))
 
   -- ---- any record
   decided-outcomeOf : Once units → Once fuels → Decided (outcomeOf l units fuels)

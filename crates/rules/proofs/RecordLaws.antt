@@ -18,7 +18,7 @@ use Rattle.rules.specs.Fields.{number, monitored, kind, unitNumber, fuel
 use Rattle.rules.specs.Book.{unitOk, fuelOk, linesOk, linesSound, unitLines, fuelLines, opened, accepted}
 use Rattle.rules.specs.Method.{methodOf}
 use Rattle.rules.specs.Entry.{heatInUse}
-use Rattle.rules.specs.Record.{lastReason, check, listed, fuelForm, hourForm, fuelRanges, hourRange, fuelJudged, fuelOutcome, hourRead, hourJudged, hourOutcome, outcomeOf, outcomeAt}
+use Rattle.rules.specs.Record.{lastReason, check, listed, fuelForm, hourForm, moistureForm, fuelRanges, hourRange, fuelJudged, fuelOutcome, hourRead, hourJudged, hourOutcome, outcomeOf, outcomeAt}
 use Rattle.rules.proofs.BookLaws.{accepted-facts}
 use Rattle.rules.proofs.EntryLaws.{Bounded, bounded-fuelEntry, bounded-hourEntry}
 
@@ -62,17 +62,18 @@ within-fuelJudged l u f k =
     within-check (ltb 0 (heatInUse l f .0)) 7 _ (lit≤ tt) (lit≤ tt) (λ heated.
     bounded-fuelEntry l u f ranges k)))
 
-within-hourRead : (u : List ℕ) (p q : ℕ) (x : Hour) → hourOf p q ≡ x → Within (hourRead u x)
+within-hourRead : (l u : List ℕ) (p q : ℕ) (x : Hour) → hourOf p q ≡ x → Within (hourRead l u x)
 unfolding hourRead
-within-hourRead u p q (Usable r) e =
-    within-check (monitored u) 5 _ (lit≤ tt) (lit≤ tt) (λ measured. bounded-hourEntry r (inRange-of-hourOf p q r e))
-within-hourRead u p q (Unusable y) e = (lit≤ tt, lit≤ tt)
+within-hourRead l u p q (Usable r) e =
+    within-check (monitored u) 5 _ (lit≤ tt) (lit≤ tt) (λ measured. bounded-hourEntry l r (inRange-of-hourOf p q r e))
+within-hourRead l u p q (Unusable y) e = (lit≤ tt, lit≤ tt)
 
 within-hourJudged : (l u : List ℕ) → Within (hourJudged l u)
 unfolding hourJudged
 within-hourJudged l u =
+    within-check (moistureForm l u) 1 _ (lit≤ tt) (lit≤ tt) (λ formed.
     within-check (hourRange l) 4 _ (lit≤ tt) (lit≤ tt) (λ in-range.
-    within-hourRead u (percentBits l) (flowBits l) _ refl)
+    within-hourRead l u (percentBits l) (flowBits l) _ refl))
 
 module _ (l units fuels : List ℕ) (U : linesSound unitOk units ≡ true) (F : linesSound fuelOk fuels ≡ true) where
   within-fuelOutcome : Within (fuelOutcome l (linesIn units) (linesIn fuels))

@@ -19,7 +19,7 @@
 --
 -- Laws: proofs/BookLaws.antt, proofs/ApartLaws.antt. Definitions only.
 use Prim.Native.Nat.{ℕ, _+_, _-_, _/_, _%_}
-use mathlib.Core.Bool.{Bool, true}
+use mathlib.Core.Bool.{Bool, true, not}
 use mathlib.Core.List.{List, [], _∷_}
 use mathlib.Core.Path.{_≡_}
 use lib.Dec.{leb, ltb, eqb}
@@ -31,7 +31,7 @@ use Rattle.rules.specs.declared.book.Opened.the-variants.{Wrong, Open}
 use Rattle.rules.specs.declared.book.Fault.{Fault}
 use Rattle.rules.specs.declared.book.Fault.the-variants.{Length, Trailer, Units, Fuels}
 use Rattle.rules.specs.Bytes.{byte, part, linesIn}
-use Rattle.rules.specs.Fields.{signed, version, trailerGap, unitStart, fuelStart, year, yearGap, warmingSetAt, warmingSet, trailerBlank, number, unitFlags, unitGap, rating, unitBlank, fuelKind, fuelClass, defaultHeat, co2Factor, ch4Factor, n2oFactor, fuelBlank}
+use Rattle.rules.specs.Fields.{signed, version, trailerGap, unitStart, fuelStart, year, yearGap, warmingSetAt, warmingSet, trailerBlank, number, unitFlags, monitored, dry, unitGap, rating, unitBlank, fuelKind, fuelClass, defaultHeat, co2Factor, ch4Factor, n2oFactor, fuelBlank}
 
 abbrev pub longestBook : ℕ
 longestBook = 65536
@@ -57,8 +57,14 @@ trailerOk t e =
     also leb (warmingSet t) 1
     also trailerBlank t
 
+-- Without a monitor nothing measures dry gas.
 unfoldable pub unitHeadOk : List ℕ → Bool
-unitHeadOk u = leb (unitFlags u) 1 also unitGap u also leb 1 (rating u) also leb (rating u) 100000
+unitHeadOk u =
+    leb (unitFlags u) 3
+    also (monitored u either not (dry u))
+    also unitGap u
+    also leb 1 (rating u)
+    also leb (rating u) 100000
 
 unfoldable pub unitOk : List ℕ → Bool
 unitOk u = unitHeadOk u also unitBlank u

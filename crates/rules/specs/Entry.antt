@@ -6,7 +6,7 @@
 --     destinationBy m f      the ledger that this CO2 goes to
 --     entryBy m l f          what the record l of the fuel f gives by method m
 --     fuelEntry l u f        what a fuel record gives
---     hourEntry r            what a usable hour gives; it has no method, which is told as 0
+--     hourEntry l r          what the hour l gives by its usable readings r; it has no method, told as 0
 --
 -- Laws: proofs/EntryLaws.antt. Definitions only.
 use Prim.Native.Nat.{ℕ}
@@ -22,7 +22,7 @@ use Rattle.mass.specs.Hour.{hourMass}
 use Rattle.rules.specs.declared.entry.Destination.{Destination}
 use Rattle.rules.specs.declared.entry.Destination.the-variants.{Fossil, Biomass, Nowhere}
 use Rattle.rules.specs.declared.entry.Entry.{Entry}
-use Rattle.rules.specs.Fields.{fuelClass, defaultHeat, co2Factor, ch4Factor, n2oFactor, heatMeasured, heatLow, amount, heat, carbon}
+use Rattle.rules.specs.Fields.{fuelClass, defaultHeat, co2Factor, ch4Factor, n2oFactor, heatMeasured, heatLow, amount, heat, carbon, moisture}
 use Rattle.rules.specs.Method.{methodOf}
 
 unfoldable pub measuredHeat : List ℕ → Heat
@@ -56,11 +56,11 @@ entryBy m l f = record {
 unfoldable pub fuelEntry : List ℕ → List ℕ → List ℕ → Entry
 fuelEntry l u f = entryBy (methodOf l u f) l f
 
-unfoldable pub hourEntry : Readings → Entry
-hourEntry r = record {
+unfoldable pub hourEntry : List ℕ → Readings → Entry
+hourEntry l r = record {
   method = 0;
   destination = Fossil;
-  co2 = hourMass (record { 0 = 0 }) r;
+  co2 = hourMass (record { 0 = moisture l }) r;
   ch4 = record { 0 = 0 };
   n2o = record { 0 = 0 };
 }

@@ -3,12 +3,12 @@
 --
 --     trailer t         signed, version, unitStart, fuelStart, year, warmingSet, which stands at warmingSetAt;
 --                       trailerGap, yearGap, trailerBlank
---     unit line u       number, unitFlags, monitored, rating; unitGap, unitBlank
+--     unit line u       number, unitFlags, monitored, dry, rating; unitGap, unitBlank
 --     fuel line f       number, fuelKind, fuelClass, defaultHeat, co2Factor, ch4Factor, n2oFactor;
 --                       fuelBlank
 --     record l          kind, flags, unitNumber, fuelNumber
 --     fuel record l     heatMeasured, carbonMeasured, heatLow, month, amount, heat, carbon; fuelRecordBlank
---     monitor hour l    hour, percentBits, flowBits; hourBlank
+--     monitor hour l    hour, percentBits, flowBits, moisture; hourBlank
 --
 -- A gap or a blank is made of the bytes that no field names, and says that they are 0.
 -- Definitions only.
@@ -60,6 +60,10 @@ unitFlags u = byte u 2
 
 abbrev pub monitored : List ℕ → Bool
 monitored u = eqb (unitFlags u % 2) 1
+
+-- The monitor measures dry gas.
+abbrev pub dry : List ℕ → Bool
+dry u = eqb (unitFlags u / 2 % 2) 1
 
 abbrev pub unitGap : List ℕ → Bool
 unitGap u = zeros u 3 1
@@ -141,5 +145,9 @@ percentBits l = word l 8 4
 abbrev pub flowBits : List ℕ → ℕ
 flowBits l = word l 12 4
 
+-- It is in tenths of a percent of the stack gas.
+abbrev pub moisture : List ℕ → ℕ
+moisture l = word l 16 2
+
 abbrev pub hourBlank : List ℕ → Bool
-hourBlank l = zeros l 16 16
+hourBlank l = zeros l 18 14

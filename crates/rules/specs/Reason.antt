@@ -26,7 +26,7 @@ use Rattle.rules.specs.declared.record.Outcome.the-variants.{SetAside, C
 use Rattle.rules.specs.Fields.{number, monitored, kind, unitNumber, fuelNumber, percentBits, flowBits}
 use Rattle.rules.specs.Method.{methodOf}
 use Rattle.rules.specs.Entry.{heatInUse, fuelEntry, hourEntry}
-use Rattle.rules.specs.Record.{fuelForm, hourForm, fuelRanges, hourRange}
+use Rattle.rules.specs.Record.{fuelForm, hourForm, moistureForm, fuelRanges, hourRange}
 
 abbrev pub FuelRecord : List ℕ → Type 0
 FuelRecord l = kind l ≡ 1
@@ -46,6 +46,9 @@ pub data Applies (l : List ℕ) (units fuels : List (List ℕ)) : ℕ → Type 0
   wrongKind : (FuelRecord l → ⊥) → (MonitorHour l → ⊥) → Applies l units fuels 1
   wrongFuelForm : FuelRecord l → fuelForm l ≡ false → Applies l units fuels 1
   wrongHourForm : MonitorHour l → hourForm l ≡ false → Applies l units fuels 1
+  -- What moisture an hour may have goes by its unit's line. Where there is none, 2 applies in place of this.
+  wetMoisture : (u : List ℕ) → MonitorHour l → Listed (unitNumber l) units u → moistureForm l u ≡ false
+      → Applies l units fuels 1
   -- 2: unit not listed.
   noUnit : Lacks (unitNumber l) units → Applies l units fuels 2
   -- 3: fuel not listed.
@@ -54,7 +57,7 @@ pub data Applies (l : List ℕ) (units fuels : List (List ℕ)) : ℕ → Type 0
   -- low heat of a fuel that isn't natural gas;
   fuelOutside : (f : List ℕ) → FuelRecord l → Listed (fuelNumber l) fuels f → fuelRanges l f ≡ false
       → Applies l units fuels 4
-  -- hour or reading out of range.
+  -- hour, moisture or reading out of range.
   hourOutside : MonitorHour l → hourRange l ≡ false → Applies l units fuels 4
   readingOutside : (x : Float) → MonitorHour l → hourOf (percentBits l) (flowBits l) ≡ Unusable x
       → Applies l units fuels 4
@@ -77,6 +80,6 @@ pub record Reasons (l : List ℕ) (units fuels : List (List ℕ)) (o : Outcome) 
   -- A fuel record that counts gives what it is worth by the listed lines of its unit and its fuel,
   pub gives-fuel : (e : Entry) (u f : List ℕ) → o ≡ Counted e → FuelRecord l → Listed (unitNumber l) units u
       → Listed (fuelNumber l) fuels f → e ≡ fuelEntry l u f
-  -- and an hour what its readings are worth.
+  -- and an hour what its readings are worth with its moisture.
   pub gives-hour : (e : Entry) (r : Readings) → o ≡ Counted e → MonitorHour l
-      → hourOf (percentBits l) (flowBits l) ≡ Usable r → e ≡ hourEntry r
+      → hourOf (percentBits l) (flowBits l) ≡ Usable r → e ≡ hourEntry l r

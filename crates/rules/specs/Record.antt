@@ -4,13 +4,14 @@
 --     check t k rest               rest if t passes, else the record is set aside with reason k
 --     listed x ls k rest           rest of the first line of ls with number x; set aside with reason k
 --                                  if there is none
---     fuelForm l, hourForm l       reason 1 doesn't apply
+--     fuelForm l, hourForm l       reason 1 doesn't apply, the moisture of an hour aside
+--     moistureForm l u             nor does it by the moisture: only a dry unit's hour has one
 --     heatLimit l, carbonLimit f   the most heat and carbon that the record may give
 --     heatRange l f                the heat is in its range, if it was measured
 --     fuelRanges l f, hourRange l  reason 4 doesn't apply, the readings of an hour aside
 --     fuelJudged l u f             what becomes of a fuel record once unit and fuel are known
 --     fuelOutcome l units fuels    what becomes of a fuel record
---     hourRead u x                 what becomes of an hour with its readings judged
+--     hourRead l u x               what becomes of an hour with its readings judged
 --     hourJudged l u               what becomes of an hour once its unit is known
 --     hourOutcome l units          what becomes of a monitor hour
 --     outcomeOf l units fuels      what becomes of a record
@@ -29,7 +30,7 @@ use Rattle.rules.specs.declared.book.Head.{Head}
 use Rattle.rules.specs.declared.record.Outcome.{Outcome}
 use Rattle.rules.specs.declared.record.Outcome.the-variants.{SetAside, Counted}
 use Rattle.rules.specs.Bytes.{line, linesIn}
-use Rattle.rules.specs.Fields.{number, monitored, fuelKind, fuelClass, kind, flags, unitNumber, fuelNumber, heatMeasured, carbonMeasured, heatLow, month, amount, heat, carbon, fuelRecordBlank, hour, percentBits, flowBits, hourBlank}
+use Rattle.rules.specs.Fields.{number, monitored, dry, fuelKind, fuelClass, kind, flags, unitNumber, fuelNumber, heatMeasured, carbonMeasured, heatLow, month, amount, heat, carbon, fuelRecordBlank, hour, percentBits, flowBits, moisture, hourBlank}
 use Rattle.rules.specs.Book.{unitLines, fuelLines}
 use Rattle.rules.specs.Method.{methodOf}
 use Rattle.rules.specs.Entry.{heatInUse, fuelEntry, hourEntry}
@@ -57,6 +58,9 @@ fuelForm l =
 unfoldable pub hourForm : List ℕ → Bool
 hourForm l = eqb (flags l) 0 also eqb (fuelNumber l) 0 also hourBlank l
 
+unfoldable pub moistureForm : List ℕ → List ℕ → Bool
+moistureForm l u = dry u either eqb (moisture l) 0
+
 -- ---- reason 4: ranges
 unfoldable pub heatLimit : List ℕ → ℕ
 heatLimit l = choose (heatLow l) 180000 200000
@@ -80,7 +84,7 @@ fuelRanges l f =
     also leb (carbon l) (carbonLimit f)
 
 unfoldable pub hourRange : List ℕ → Bool
-hourRange l = leb 1 (hour l) also leb (hour l) 8784
+hourRange l = leb 1 (hour l) also leb (hour l) 8784 also leb (moisture l) 1000
 
 -- ---- fuel records
 unfoldable pub fuelJudged : List ℕ → List ℕ → List ℕ → Outcome
@@ -98,12 +102,15 @@ fuelOutcome l units fuels =
     fuelJudged l u f)))
 
 -- ---- monitor hours
-unfoldable pub hourRead : List ℕ → Hour → Outcome
-hourRead u (Usable r) = check (monitored u) 5 (Counted (hourEntry r))
-hourRead u (Unusable x) = SetAside 4
+unfoldable pub hourRead : List ℕ → List ℕ → Hour → Outcome
+hourRead l u (Usable r) = check (monitored u) 5 (Counted (hourEntry l r))
+hourRead l u (Unusable x) = SetAside 4
 
 unfoldable pub hourJudged : List ℕ → List ℕ → Outcome
-hourJudged l u = check (hourRange l) 4 (hourRead u (hourOf (percentBits l) (flowBits l)))
+hourJudged l u =
+    check (moistureForm l u) 1
+    (check (hourRange l) 4
+    (hourRead l u (hourOf (percentBits l) (flowBits l))))
 
 unfoldable pub hourOutcome : List ℕ → List (List ℕ) → Outcome
 hourOutcome l units =

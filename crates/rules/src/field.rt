@@ -95,6 +95,13 @@ pub(crate) fn is_monitored(l: &[u8]) -> bool
     l[2] % 2 == 1
 }
 
+pub(crate) fn is_dry(l: &[u8]) -> bool
+    requires whole { ⌜ 32 ≤ length (now l) ⌝ }
+    ensures field { λ r. ⌜ r ≡ fields.dry (now (l .entry)) ⌝ }
+{
+    l[2] / 2 % 2 == 1
+}
+
 pub(crate) fn is_unit_gap(l: &[u8]) -> bool
     requires whole { ⌜ 32 ≤ length (now l) ⌝ }
     ensures field { λ r. ⌜ r ≡ fields.unitGap (now (l .entry)) ⌝ }
@@ -260,9 +267,16 @@ pub(crate) fn flow_bits(l: &[u8]) -> u32
     bytes::read_word(l, 12, 4) as u32
 }
 
+pub(crate) fn moisture(l: &[u8]) -> u16
+    requires whole { ⌜ 32 ≤ length (now l) ⌝ }
+    ensures field { λ r. ⌜ r ≡ fields.moisture (now (l .entry)) ⌝ }
+{
+    bytes::read_word(l, 16, 2) as u16
+}
+
 pub(crate) fn is_hour_blank(l: &[u8]) -> bool
     requires whole { ⌜ 32 ≤ length (now l) ⌝ }
     ensures field { λ r. ⌜ r ≡ fields.hourBlank (now (l .entry)) ⌝ }
 {
-    bytes::are_zero(l, 16, 32)
+    bytes::are_zero(l, 18, 32)
 }

@@ -77,9 +77,10 @@ fn is_unit_head_right(u: &[u8]) -> bool
     ensures head { λ r. ⌜ r ≡ unitHeadOk (now (u .entry)) ⌝ }
 {
     let flags = field::unit_flags(u);
+    let dry_monitored = field::is_monitored(u) | !field::is_dry(u);
     let gap = field::is_unit_gap(u);
     let rating = field::rating(u);
-    (flags <= 1) & gap & (1 <= rating) & (rating <= 100000)
+    (flags <= 3) & dry_monitored & gap & (1 <= rating) & (rating <= 100000)
 }
 
 fn is_fuel_head_right(f: &[u8]) -> bool
