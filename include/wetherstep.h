@@ -84,17 +84,18 @@ static inline uint32_t wetherstep_count(uint64_t reply) { return (uint32_t)(repl
  * REASONS why a record is set aside. It adds to no total until it is corrected in the book. Others
  * may follow: a report names the first, and wetherstep_record tells of each.
  */
-#define WETHERSTEP_REASON_FORM 1     /* kind, flags or a byte that must be 0: write it anew */
+#define WETHERSTEP_REASON_FORM 1     /* kind, flags or a byte that must be 0: write it anew; moisture
+                                        is for a unit whose monitor measures dry gas */
 #define WETHERSTEP_REASON_UNIT 2     /* the unit isn't listed: list it, or correct its number */
 #define WETHERSTEP_REASON_FUEL 3     /* the fuel isn't listed: list it, or correct its number */
-#define WETHERSTEP_REASON_RANGE 4    /* month, hour, amount, heat, carbon or reading: correct it; a
-                                        low heat value is for natural gas alone */
+#define WETHERSTEP_REASON_RANGE 4    /* month, hour, amount, heat, carbon, moisture or reading: correct
+                                        it; a low heat value is for natural gas alone */
 #define WETHERSTEP_REASON_MONITOR 5  /* an hour of a unit without a monitor: correct unit or flag */
 #define WETHERSTEP_REASON_METHOD 6   /* no permitted method: give the carbon, or check the rating */
 #define WETHERSTEP_REASON_HEAT 7     /* no heat in use: give it, or give the fuel a default */
 
 /* METHODS by which a record counts. */
-#define WETHERSTEP_METHOD_HOUR 0           /* none: a monitor hour, by its readings */
+#define WETHERSTEP_METHOD_HOUR 0           /* none: a monitor hour, by its readings and moisture */
 #define WETHERSTEP_METHOD_DEFAULT_HEAT 1   /* fuel, by its default heat */
 #define WETHERSTEP_METHOD_MEASURED_HEAT 2  /* fuel, by the heat measured, as a low value or not */
 #define WETHERSTEP_METHOD_CARBON 3         /* fuel, by the carbon measured */
