@@ -4,6 +4,7 @@
 mod book;
 mod bytes;
 mod explain;
+mod fuel;
 mod line;
 mod method;
 mod parse;

@@ -1,6 +1,7 @@
 //! The 32 bytes of one line, by the offsets of docs/FORMAT.md.
 
-use crate::book::{Class, Fuel, Heat, Kind, Record, Unit, Warming, LINE};
+use crate::book::{Heat, Record, Unit, Warming, LINE};
+use crate::fuel::{Class, Fuel, Kind};
 
 pub type Line = [u8; LINE];
 

@@ -1,6 +1,7 @@
 //! Why no method is permitted for a delivery: docs/RULES.md, "Method".
 
-use crate::book::{in_tenths, Class, Fuel, Heat, Unit};
+use crate::book::{in_tenths, Heat, Unit};
+use crate::fuel::{Class, Fuel};
 use crate::reasons::Account;
 
 /// In tenths of MMBtu/h. Above, a default heat doesn't do, and a measured one not for every class.

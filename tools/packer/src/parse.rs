@@ -1,6 +1,7 @@
 //! A text for people, read into a book. The grammar stands in README.md beside this folder.
 
-use crate::book::{Book, Class, Fuel, Heat, Kind, Record, Unit, Warming};
+use crate::book::{Book, Heat, Record, Unit, Warming};
+use crate::fuel::{Class, Fuel, Kind};
 use crate::words::Words;
 
 /// What is wrong with a text, and at which of its lines, counting from 1.

@@ -3,7 +3,8 @@
 use std::fmt::Display;
 use std::ops::RangeInclusive;
 
-use crate::book::{Class, Fuel, Heat, Kind, Record};
+use crate::book::{Heat, Record};
+use crate::fuel::{Class, Fuel, Kind};
 use crate::single;
 
 const MONTHS: RangeInclusive<u32> = 1..=12;

@@ -1,7 +1,8 @@
 //! The reasons of docs/RULES.md in words: why a record is set aside, and what to do. The number is
 //! given; beside its general words only that is said which the record and its book bear out.
 
-use crate::book::{Book, Fuel, Record, Unit};
+use crate::book::{Book, Record, Unit};
+use crate::fuel::Fuel;
 use crate::line::form_fault;
 use crate::method::no_method;
 use crate::ranges::{beyond, low_of_other_class};

@@ -1,6 +1,7 @@
 //! The canonical text of a book: the year, the units, the fuels, the records, a line each.
 
-use crate::book::{in_tenths, Book, Fuel, Heat, Record, Unit, Warming};
+use crate::book::{in_tenths, Book, Heat, Record, Unit, Warming};
+use crate::fuel::Fuel;
 use crate::single;
 
 pub fn text(book: &Book) -> String {
