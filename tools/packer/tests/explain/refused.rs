@@ -4,61 +4,62 @@ use packer::explain;
 
 use crate::{book_of, explained, named, TEXT};
 
+const NO_BOOK: &str = "copy it anew, or pack it anew from its text; it may be no book at all";
+const UNITS: &str = "copy it anew, or correct the units in its text and pack it anew";
+const FUELS: &str = "copy it anew, or correct the fuels in its text and pack it anew";
+
+/// The text's book with another byte. Its units start at 160, its fuel at 224, its trailer at 256.
+fn changed(place: usize, value: u8) -> Vec<u8> {
+    let mut bytes = book_of(TEXT).content;
+    bytes[place] = value;
+    bytes
+}
+
+fn assert_told_without_asking(bytes: Vec<u8>, refusal: &str, remedy: &str) {
+    let book = named("BOOK", bytes);
+    let explanation = explain(&book, None, |_| panic!("{refusal}")).unwrap();
+    let wanted = format!("BOOK: {refusal}\n  to do: {remedy}\n");
+    assert_eq!(explanation.words, wanted);
+    assert!(!explanation.is_clean);
+}
+
 #[test]
 fn a_refused_book_is_told_without_asking() {
-    let sound = book_of(TEXT).content;
-    let at = sound.len();
-    let changed = |place: usize, value: u8| {
-        let mut bytes = sound.clone();
-        bytes[place] = value;
-        bytes
-    };
     let cases = [
         (
-            sound[1..].to_vec(),
+            book_of(TEXT).content[1..].to_vec(),
             "refused 20: 287 bytes are no book; that is a multiple of 32, 32 to 65536",
-            "copy it anew, or pack it anew from its text; it may be no book at all",
+            NO_BOOK,
         ),
         (
-            changed(at - 32, 0),
+            changed(256, 0),
             "refused 21: the trailer at byte 256: it doesn't start with STCB",
-            "copy it anew, or pack it anew from its text; it may be no book at all",
+            NO_BOOK,
         ),
         (
-            changed(5 * 32 + 32, 1),
+            changed(192, 1),
             "refused 22: unit line 2 at byte 192: unit 1 comes after unit 1; unit numbers rise",
-            "copy it anew, or correct the units in its text and pack it anew",
+            UNITS,
         ),
         (
-            changed(at - 64, 0),
+            changed(224, 0),
             "refused 23: fuel line 1 at byte 224: fuel 0 can't be; fuel numbers start at 1",
-            "copy it anew, or correct the fuels in its text and pack it anew",
+            FUELS,
         ),
     ];
     for (bytes, refusal, remedy) in cases {
-        let book = named("BOOK", bytes);
-        let explanation = explain(&book, None, |_| panic!("{refusal}")).unwrap();
-        assert_eq!(
-            explanation.words,
-            format!("BOOK: {refusal}\n  to do: {remedy}\n")
-        );
-        assert!(!explanation.is_clean);
+        assert_told_without_asking(bytes, refusal, remedy);
     }
 }
 
 #[test]
 fn warming_values_of_no_set_are_told_without_asking() {
     for value in [2, 255] {
-        let mut book = book_of(TEXT);
-        book.content[256 + 20] = value;
-        let explanation = explain(&book, None, |_| panic!("{value}")).unwrap();
-        let wanted = format!(
-            "BOOK: refused 21: the trailer at byte 256: byte 20 of the line is {value}, \
-             neither 0, warming first, nor 1, warming second\n  \
-             to do: copy it anew, or pack it anew from its text; it may be no book at all\n"
+        let refusal = format!(
+            "refused 21: the trailer at byte 256: byte 20 of the line is {value}, neither 0, \
+             warming first, nor 1, warming second"
         );
-        assert_eq!(explanation.words, wanted);
-        assert!(!explanation.is_clean);
+        assert_told_without_asking(changed(256 + 20, value), &refusal, NO_BOOK);
     }
 }
 
