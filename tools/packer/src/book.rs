@@ -36,7 +36,15 @@ pub struct Unit {
     pub number: u16,
     /// In tenths of MMBtu/h.
     pub rating: u32,
-    pub monitor: bool,
+    pub monitor: Option<Monitor>,
+}
+
+/// A stack monitor, by the gas that its analyser measures. Dried gas shows a higher percent of CO2
+/// than the stack gas has, so an hour of a dry unit counts less, by its moisture.
+#[derive(Clone, Copy)]
+pub enum Monitor {
+    Wet,
+    Dry,
 }
 
 /// A measured heat in kJ per unit of fuel, as the supplier quotes it.
@@ -62,6 +70,8 @@ pub enum Record {
         /// The readings are kept as bits: a NaN that travels as a float may lose its payload.
         percent: u32,
         flow: u32,
+        /// Of the stack gas, in tenths of a percent. On a unit that isn't dry it must be 0.
+        moisture: u16,
     },
     /// A record that the words of the other two can't say.
     Raw([u8; LINE]),
@@ -207,7 +217,7 @@ fn check_count(what: &str, count: usize, most: usize) -> Result<(), String> {
     Err(format!("a book has at most {most} {what} lines"))
 }
 
-/// Spells a rating, which is kept in tenths, with its one decimal.
-pub fn in_tenths(rating: u32) -> String {
-    format!("{}.{}", rating / 10, rating % 10)
+/// Spells a rating or a moisture, which are kept in tenths, with its one decimal.
+pub fn in_tenths(tenths: u32) -> String {
+    format!("{}.{}", tenths / 10, tenths % 10)
 }

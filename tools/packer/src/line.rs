@@ -1,12 +1,14 @@
 //! The 32 bytes of one line, by the offsets of docs/FORMAT.md.
 
-use crate::book::{Heat, Record, Unit, Warming, LINE};
+use crate::book::{Heat, Monitor, Record, Unit, Warming, LINE};
 use crate::fuel::{Class, Fuel, Kind};
 
 pub type Line = [u8; LINE];
 
 const SIGNATURE: [u8; 4] = *b"STCB";
 const VERSION: u16 = 1;
+const HAS_MONITOR: u8 = 1;
+const MEASURES_DRY: u8 = 2;
 const DELIVERY: u8 = 1;
 const HOUR: u8 = 2;
 const HEAT_MEASURED: u8 = 1;
@@ -58,7 +60,11 @@ impl Trailer {
 pub fn encode_unit(unit: &Unit) -> Line {
     let mut line = [0; LINE];
     put16(&mut line, 0, unit.number);
-    line[2] = u8::from(unit.monitor);
+    line[2] = match unit.monitor {
+        None => 0,
+        Some(Monitor::Wet) => HAS_MONITOR,
+        Some(Monitor::Dry) => HAS_MONITOR | MEASURES_DRY,
+    };
     put32(&mut line, 4, unit.rating);
     line
 }
@@ -67,12 +73,21 @@ pub fn decode_unit(line: &Line) -> Result<Unit, String> {
     let unit = Unit {
         number: get16(line, 0),
         rating: get32(line, 4),
-        monitor: line[2] & 1 == 1,
+        monitor: decode_monitor(line[2]),
     };
     match first_difference(line, &encode_unit(&unit)) {
         None => Ok(unit),
+        Some(2) if line[2] == MEASURES_DRY => {
+            Err("it has the flag of dry gas without that of a monitor".to_string())
+        }
         Some(at) => Err(must_be_zero(at)),
     }
+}
+
+fn decode_monitor(flags: u8) -> Option<Monitor> {
+    let is_dry = flags & MEASURES_DRY != 0;
+    let monitor = if is_dry { Monitor::Dry } else { Monitor::Wet };
+    (flags & HAS_MONITOR != 0).then_some(monitor)
 }
 
 pub fn encode_fuel(fuel: &Fuel) -> Line {
@@ -131,12 +146,14 @@ pub fn encode_record(record: &Record) -> Line {
             hour,
             percent,
             flow,
+            moisture,
         } => {
             line[0] = HOUR;
             put16(&mut line, 2, unit);
             put16(&mut line, 6, hour);
             put32(&mut line, 8, percent);
             put32(&mut line, 12, flow);
+            put16(&mut line, 16, moisture);
         }
         Record::Raw(bytes) => line = bytes,
     }
@@ -210,6 +227,7 @@ fn decode_hour(line: &Line) -> Record {
         hour: get16(line, 6),
         percent: get32(line, 8),
         flow: get32(line, 12),
+        moisture: get16(line, 16),
     }
 }
 

@@ -14,7 +14,7 @@ pub fn no_method(
     heat: Option<Heat>,
     carbon: Option<u32>,
 ) -> Option<Account> {
-    if unit.monitor || carbon.is_some() {
+    if unit.monitor.is_some() || carbon.is_some() {
         return None;
     }
     let is_large = unit.rating > HIGHEST_FOR_DEFAULT;

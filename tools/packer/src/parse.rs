@@ -1,6 +1,6 @@
 //! A text for people, read into a book. The grammar stands in README.md beside this folder.
 
-use crate::book::{Book, Heat, Record, Unit, Warming};
+use crate::book::{Book, Heat, Monitor, Record, Unit, Warming};
 use crate::fuel::{Class, Fuel, Kind};
 use crate::words::Words;
 
@@ -81,14 +81,26 @@ fn add_line(first: &str, words: &mut Words, book: &mut Book) -> Result<(), Strin
 fn parse_unit(words: &mut Words) -> Result<Unit, String> {
     let number = words.number16("unit")?;
     words.expect("rating")?;
-    let rating = words.tenths("rating")?;
-    let monitor = words.takes("monitor");
+    let rating = words.tenths32("rating")?;
+    let monitor = monitor_if_said(words)?;
     words.end()?;
     Ok(Unit {
         number,
         rating,
         monitor,
     })
+}
+
+fn monitor_if_said(words: &mut Words) -> Result<Option<Monitor>, String> {
+    match (words.takes("monitor"), words.takes("dry")) {
+        (false, false) => Ok(None),
+        (true, false) => Ok(Some(Monitor::Wet)),
+        (true, true) => Ok(Some(Monitor::Dry)),
+        (false, true) => Err(
+            "`dry` has no `monitor` before it; an analyser of dry gas is said by `monitor dry`"
+                .to_string(),
+        ),
+    }
 }
 
 fn parse_fuel(words: &mut Words) -> Result<Fuel, String> {
@@ -143,12 +155,18 @@ fn parse_hour(words: &mut Words) -> Result<Record, String> {
     let percent = words.single("percent")?;
     words.expect("flow")?;
     let flow = words.single("flow")?;
+    let moisture = if words.takes("moisture") {
+        words.tenths16("moisture")?
+    } else {
+        0
+    };
     words.end()?;
     Ok(Record::Hour {
         unit,
         hour,
         percent,
         flow,
+        moisture,
     })
 }
 

@@ -3,7 +3,7 @@
 use std::fmt::Display;
 use std::ops::RangeInclusive;
 
-use crate::book::{Heat, Record};
+use crate::book::{in_tenths, Heat, Record};
 use crate::fuel::{Class, Fuel, Kind};
 use crate::single;
 
@@ -16,6 +16,8 @@ const GAS_CARBONS: RangeInclusive<u32> = 0..=4_000_000;
 const HOURS: RangeInclusive<u32> = 1..=8_784;
 const MOST_PERCENT: u32 = 100;
 const MOST_FLOW: u32 = 1_000_000_000;
+/// In tenths of a percent.
+const MOISTURES: RangeInclusive<u32> = 0..=1_000;
 
 /// A value of a record that is out of its range.
 pub struct Beyond {
@@ -46,11 +48,13 @@ pub fn beyond(record: &Record, fuel: Option<&Fuel>) -> Vec<Beyond> {
             hour,
             percent,
             flow,
+            moisture,
             ..
         } => vec![
             number("hour", hour.into(), HOURS),
             reading("percent", percent, MOST_PERCENT),
             reading("flow", flow, MOST_FLOW),
+            tenths("moisture", moisture.into(), MOISTURES),
         ],
         Record::Raw(_) => Vec::new(),
     };
@@ -81,9 +85,22 @@ fn measured(heat: Heat) -> Option<Beyond> {
 }
 
 fn number(field: &'static str, value: u32, range: RangeInclusive<u32>) -> Option<Beyond> {
+    outside(field, value, range, |number| number.to_string())
+}
+
+fn tenths(field: &'static str, value: u32, range: RangeInclusive<u32>) -> Option<Beyond> {
+    outside(field, value, range, in_tenths)
+}
+
+fn outside(
+    field: &'static str,
+    value: u32,
+    range: RangeInclusive<u32>,
+    spell: fn(u32) -> String,
+) -> Option<Beyond> {
     let out = !range.contains(&value);
     let (least, most) = range.into_inner();
-    out.then(|| isnt_from(field, value, least, most))
+    out.then(|| isnt_from(field, spell(value), spell(least), spell(most)))
 }
 
 fn reading(field: &'static str, bits: u32, most: u32) -> Option<Beyond> {
@@ -99,7 +116,7 @@ fn reading(field: &'static str, bits: u32, most: u32) -> Option<Beyond> {
     (!in_range).then(|| isnt_from(field, spelling, 0, most))
 }
 
-fn isnt_from(field: &'static str, value: impl Display, least: u32, most: u32) -> Beyond {
+fn isnt_from<T: Display>(field: &'static str, value: String, least: T, most: T) -> Beyond {
     let words = format!("{field} {value} isn't from {least} to {most}");
     Beyond { field, words }
 }

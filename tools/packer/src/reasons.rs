@@ -1,7 +1,7 @@
 //! The reasons of docs/RULES.md in words: why a record is set aside, and what to do. The number is
 //! given; beside its general words only that is said which the record and its book bear out.
 
-use crate::book::{Book, Record, Unit};
+use crate::book::{in_tenths, Book, Monitor, Record, Unit};
 use crate::fuel::Fuel;
 use crate::line::form_fault;
 use crate::method::no_method;
@@ -36,7 +36,7 @@ fn general(reason: u8) -> (&'static str, &'static str) {
         3 => ("its fuel isn't listed", "list it, or correct its number"),
         4 => (
             "a value is out of range",
-            "correct its month, hour, amount, heat, carbon or reading",
+            "correct its month, hour, amount, heat, carbon, reading or moisture",
         ),
         5 => (
             "an hour of a unit without a monitor",
@@ -62,7 +62,8 @@ fn particular(reason: u8, record: &Record, book: &Book) -> Option<Account> {
     let unit = record.unit().and_then(|number| book.unit(number));
     let fuel = record.fuel().and_then(|number| book.fuel(number));
     match reason {
-        1 => form(record),
+        // Moisture is tested once the unit is known, so a fault of the line alone comes first.
+        1 => form(record).or_else(|| moisture(record, unit?)),
         2 => {
             let listed = book.units().iter().map(|unit| unit.number);
             unlisted("unit", record.unit()?, listed.collect())
@@ -86,6 +87,36 @@ fn form(record: &Record) -> Option<Account> {
     form_fault(line).map(|why| Account {
         why,
         remedy: general(1).1.to_string(),
+    })
+}
+
+fn moisture(record: &Record, unit: &Unit) -> Option<Account> {
+    let Record::Hour {
+        moisture: tenths @ 1..,
+        ..
+    } = *record
+    else {
+        return None;
+    };
+    let number = unit.number;
+    let (why, remedy) = match unit.monitor {
+        Some(Monitor::Dry) => return None,
+        Some(Monitor::Wet) => (
+            format!("unit {number} isn't dry"),
+            format!(
+                "add `dry` to the `monitor` of unit {number} if its analyser dries the sample, or \
+                 take the moisture out"
+            ),
+        ),
+        None => (
+            format!("unit {number} has no monitor"),
+            format!("correct the hour's unit, or add `monitor dry` to unit {number}"),
+        ),
+    };
+    let moisture = in_tenths(tenths.into());
+    Some(Account {
+        why: format!("it has moisture {moisture}, and {why}"),
+        remedy,
     })
 }
 
@@ -127,7 +158,7 @@ fn range(record: &Record, fuel: Option<&Fuel>) -> Option<Account> {
 fn monitor(record: &Record, unit: &Unit) -> Option<Account> {
     let is_hour = matches!(record, Record::Hour { .. });
     let number = unit.number;
-    (is_hour && !unit.monitor).then(|| Account {
+    (is_hour && unit.monitor.is_none()).then(|| Account {
         why: format!("unit {number} has none"),
         remedy: format!("correct the hour's unit, or add `monitor` to unit {number}"),
     })

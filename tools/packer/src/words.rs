@@ -1,8 +1,9 @@
 //! The words of one line of a text, taken one after the other.
 
+use std::fmt::Display;
 use std::str::SplitWhitespace;
 
-use crate::book::LINE;
+use crate::book::{in_tenths, LINE};
 use crate::single;
 
 pub struct Words<'a> {
@@ -64,7 +65,7 @@ impl<'a> Words<'a> {
         let digits = self.digits(name)?;
         digits
             .parse()
-            .map_err(|_| too_large(name, digits, u16::MAX.into()))
+            .map_err(|_| too_large(name, digits, u16::MAX))
     }
 
     pub fn number32(&mut self, name: &str) -> Result<u32, String> {
@@ -75,7 +76,23 @@ impl<'a> Words<'a> {
     }
 
     /// Reads a number with one decimal or none, and gives it in tenths.
-    pub fn tenths(&mut self, name: &str) -> Result<u32, String> {
+    pub fn tenths16(&mut self, name: &str) -> Result<u16, String> {
+        let (word, tenths) = self.tenths(name)?;
+        tenths
+            .parse()
+            .map_err(|_| too_large(name, word, in_tenths(u16::MAX.into())))
+    }
+
+    /// Reads a number with one decimal or none, and gives it in tenths.
+    pub fn tenths32(&mut self, name: &str) -> Result<u32, String> {
+        let (word, tenths) = self.tenths(name)?;
+        tenths
+            .parse()
+            .map_err(|_| too_large(name, word, in_tenths(u32::MAX)))
+    }
+
+    /// Gives the word, and the digits of its tenths.
+    fn tenths(&mut self, name: &str) -> Result<(&'a str, String), String> {
         let word = self.value(name)?;
         let (whole, tenth) = word.split_once('.').unwrap_or((word, "0"));
         if !all_digits(whole) || !all_digits(tenth) || tenth.len() != 1 {
@@ -83,10 +100,7 @@ impl<'a> Words<'a> {
                 "`{name}` is followed by a number with one decimal or none, not by `{word}`"
             ));
         }
-        let tenths = format!("{whole}{tenth}");
-        tenths
-            .parse()
-            .map_err(|_| too_large(name, word, u32::MAX / 10))
+        Ok((word, format!("{whole}{tenth}")))
     }
 
     /// Reads a single, and gives its bits.
@@ -128,6 +142,6 @@ fn all_digits(word: &str) -> bool {
     !word.is_empty() && word.chars().all(|c| c.is_ascii_digit())
 }
 
-fn too_large(name: &str, number: &str, most: u32) -> String {
+fn too_large(name: &str, number: &str, most: impl Display) -> String {
     format!("{name} {number} is too large to write down; the most is {most}")
 }

@@ -1,6 +1,6 @@
 //! The canonical text of a book: the year, the units, the fuels, the records, a line each.
 
-use crate::book::{in_tenths, Book, Heat, Record, Unit, Warming};
+use crate::book::{in_tenths, Book, Heat, Monitor, Record, Unit, Warming};
 use crate::fuel::Fuel;
 use crate::single;
 
@@ -22,7 +22,11 @@ fn year_line(book: &Book) -> String {
 }
 
 fn unit_line(unit: &Unit) -> String {
-    let monitor = if unit.monitor { " monitor" } else { "" };
+    let monitor = match unit.monitor {
+        None => "",
+        Some(Monitor::Wet) => " monitor",
+        Some(Monitor::Dry) => " monitor dry",
+    };
     format!(
         "unit {} rating {}{monitor}",
         unit.number,
@@ -47,7 +51,7 @@ fn fuel_line(fuel: &Fuel) -> String {
 }
 
 pub fn record_line(record: &Record) -> String {
-    match record {
+    match *record {
         Record::Delivery {
             unit,
             fuel,
@@ -56,11 +60,7 @@ pub fn record_line(record: &Record) -> String {
             heat,
             carbon,
         } => {
-            let heat = match heat {
-                None => String::new(),
-                Some(Heat::High(value)) => format!(" heat {value}"),
-                Some(Heat::Low(value)) => format!(" low-heat {value}"),
-            };
+            let heat = heat.map_or(String::new(), heat_words);
             let carbon = carbon.map_or(String::new(), |carbon| format!(" carbon {carbon}"));
             format!("delivery unit {unit} fuel {fuel} month {month} amount {amount}{heat}{carbon}")
         }
@@ -69,13 +69,25 @@ pub fn record_line(record: &Record) -> String {
             hour,
             percent,
             flow,
+            moisture,
         } => {
-            let (percent, flow) = (single::spell(*percent), single::spell(*flow));
-            format!("hour unit {unit} hour {hour} percent {percent} flow {flow}")
+            let (percent, flow) = (single::spell(percent), single::spell(flow));
+            let moisture = match moisture {
+                0 => String::new(),
+                tenths => format!(" moisture {}", in_tenths(tenths.into())),
+            };
+            format!("hour unit {unit} hour {hour} percent {percent} flow {flow}{moisture}")
         }
         Record::Raw(bytes) => {
             let digits: String = bytes.iter().map(|byte| format!("{byte:02X}")).collect();
             format!("raw {digits}")
         }
+    }
+}
+
+fn heat_words(heat: Heat) -> String {
+    match heat {
+        Heat::High(value) => format!(" heat {value}"),
+        Heat::Low(value) => format!(" low-heat {value}"),
     }
 }

@@ -116,6 +116,27 @@ fn random_books_are_of_every_sort() {
 }
 
 #[test]
+fn random_units_and_hours_are_of_every_sort() {
+    let (mut monitors, mut moistures) = ([0; 3], [0; 3]);
+    each_random_book(|sample, _| {
+        for (count, flags) in monitors.iter_mut().zip([0, 1, 3]) {
+            let units = sample.units.iter();
+            *count += units.filter(|said| said.line[2] == flags).count();
+        }
+        for said in sample.records {
+            let tenths = u16::from_le_bytes([said.line[16], said.line[17]]);
+            let sort = usize::from(tenths > 0) + usize::from(tenths > 1_000);
+            moistures[sort] += u32::from(said.words.starts_with("hour "));
+        }
+    });
+    assert!(monitors.iter().all(|&count| count >= 1000), "{monitors:?}");
+    assert!(
+        moistures.iter().all(|&count| count >= 1000),
+        "{moistures:?}"
+    );
+}
+
+#[test]
 fn the_book_of_the_format_page_is_its_text() {
     assert_eq!(unpack(&BYTES), Ok(TEXT.to_string()));
     assert_eq!(pack(TEXT.as_bytes()), Ok(BYTES.to_vec()));
@@ -132,6 +153,41 @@ fn the_line_of_the_year_names_the_warming_values() {
         let with = |words: &str| TEXT.replace("year 2010", words);
         let mut bytes = BYTES.to_vec();
         bytes[3 * LINE + 20] = byte;
+        assert_eq!(unpack(&bytes), Ok(with(unpacked)));
+        assert_eq!(pack(with(said).as_bytes()), Ok(bytes), "{said}");
+    }
+}
+
+#[test]
+fn the_line_of_a_unit_says_whether_its_monitor_is_dry() {
+    for (end, flags) in [("", 0), (" monitor", 1), (" monitor dry", 3)] {
+        let text = TEXT.replace("rating 250.0", &format!("rating 250.0{end}"));
+        let mut bytes = BYTES.to_vec();
+        bytes[LINE + 2] = flags;
+        assert_eq!(unpack(&bytes), Ok(text.clone()));
+        assert_eq!(pack(text.as_bytes()), Ok(bytes), "{end}");
+    }
+}
+
+/// In tenths, whether or not the library lets it count.
+#[test]
+fn the_moisture_of_an_hour_is_its_bytes_16_and_17() {
+    let with = |end| format!("year 2010\nhour unit 1 hour 7 percent 12.5 flow 2000000{end}\n");
+    let bare = pack(with("").as_bytes()).unwrap();
+    for (said, unpacked, tenths) in [
+        ("", "", 0),
+        (" moisture 0", "", 0),
+        (" moisture 0.0", "", 0),
+        (" moisture 0.1", " moisture 0.1", 1_u16),
+        (" moisture 12", " moisture 12.0", 120),
+        (" moisture 012.5", " moisture 12.5", 125),
+        (" moisture 25.6", " moisture 25.6", 256),
+        (" moisture 100", " moisture 100.0", 1_000),
+        (" moisture 100.1", " moisture 100.1", 1_001),
+        (" moisture 6553.5", " moisture 6553.5", 65_535),
+    ] {
+        let mut bytes = bare.clone();
+        bytes[16..18].copy_from_slice(&tenths.to_le_bytes());
         assert_eq!(unpack(&bytes), Ok(with(unpacked)));
         assert_eq!(pack(with(said).as_bytes()), Ok(bytes), "{said}");
     }

@@ -2,13 +2,14 @@
 
 use crate::unsupported::UNSUPPORTED;
 
-/// Unit 1 is at the limit of default heats, 2 is past it, and 3 has a monitor. Fuels 1 and 2 are of
-/// classes whose measured heat does for every unit; 4 to 6 have no default heat.
+/// Unit 1 is at the limit of default heats, 2 is past it, 3 has a monitor, and 4 a dry one. Fuels 1
+/// and 2 are of classes whose measured heat does for every unit; 4 to 6 have no default heat.
 pub const LISTS: &str = "\
 year 2010
 unit 1 rating 250
 unit 2 rating 250.1
 unit 3 rating 410.5 monitor
+unit 4 rating 410.5 monitor dry
 fuel 1 gas natural-gas heat 38000 co2 50000 ch4 900 n2o 90
 fuel 2 liquid distillate-oil heat 38000 co2 70000 ch4 2800 n2o 570
 fuel 3 gas other heat 38000 co2 50000 ch4 900 n2o 90
@@ -57,17 +58,26 @@ const FORMS: &str = "
 1 raw 0200010000000600E80300000000000000000000000000000000000000000001
   its form is wrong: byte 31 of the line has a bit that must be 0
   FORM
+1 hour unit 3 hour 1 percent 1 flow 1 moisture 0.1
+  its form is wrong: it has moisture 0.1, and unit 3 isn't dry
+  DRY
+1 hour unit 3 hour 8784 percent 100 flow 1000000000 moisture 100.0
+  its form is wrong: it has moisture 100.0, and unit 3 isn't dry
+  DRY
+1 hour unit 2 hour 1 percent 1 flow 1 moisture 12.5
+  its form is wrong: it has moisture 12.5, and unit 2 has no monitor
+  correct the hour's unit, or add `monitor dry` to unit 2
 ";
 
 const LISTED: &str = "
-2 delivery unit 4 fuel 1 month 1 amount 1
-  its unit isn't listed: unit 4 is none of 1, 2, 3
-  list unit 4, or correct the record's unit
+2 delivery unit 5 fuel 1 month 1 amount 1
+  its unit isn't listed: unit 5 is none of 1, 2, 3, 4
+  list unit 5, or correct the record's unit
 2 delivery unit 0 fuel 9 month 13 amount 1
-  its unit isn't listed: unit 0 is none of 1, 2, 3
+  its unit isn't listed: unit 0 is none of 1, 2, 3, 4
   correct the record's unit; unit numbers start at 1
 2 hour unit 65535 hour 1 percent 1 flow 1
-  its unit isn't listed: unit 65535 is none of 1, 2, 3
+  its unit isn't listed: unit 65535 is none of 1, 2, 3, 4
   list unit 65535, or correct the record's unit
 3 delivery unit 1 fuel 7 month 1 amount 1
   its fuel isn't listed: fuel 7 is none of 1, 2, 3, 4, 5, 6
@@ -150,6 +160,48 @@ const VALUES: &str = "
   RANGE: percent bits FF800000, infinite, isn't from 0 to 100; flow bits FF800001, no number, \
     isn't from 0 to 1000000000
   correct the percent, flow
+4 hour unit 4 hour 1 percent 1 flow 1 moisture 100.1
+  RANGE: moisture 100.1 isn't from 0.0 to 100.0
+  correct the moisture
+4 hour unit 4 hour 1 percent 1 flow 1 moisture 6553.5
+  RANGE: moisture 6553.5 isn't from 0.0 to 100.0
+  correct the moisture
+4 hour unit 4 hour 8785 percent 1 flow 1 moisture 100.0
+  RANGE: hour 8785 isn't from 1 to 8784
+  correct the hour
+";
+
+/// Hours with several faults: the one told is the first in the order of the reasons, which has the
+/// moisture of a unit that isn't dry behind the unlisted units and before the ranges.
+const HOURS: &str = "
+1 raw 0201010000000000FFFFFFFFFFFFFFFF7D000000000000000000000000000000
+  its form is wrong: byte 1 of the line has a bit that must be 0
+  FORM
+1 raw 0200030001000000FFFFFFFFFFFFFFFF7D000000000000000000000000000000
+  its form is wrong: byte 4 of the line has a bit that must be 0
+  FORM
+1 raw 0200030000000000FFFFFFFFFFFFFFFFFFFF0100000000000000000000000000
+  its form is wrong: byte 18 of the line has a bit that must be 0
+  FORM
+1 raw 0200090000000000FFFFFFFFFFFFFFFF7D000000000000000000000000000001
+  its form is wrong: byte 31 of the line has a bit that must be 0
+  FORM
+2 hour unit 9 hour 0 percent -1 flow -1 moisture 6553.5
+  its unit isn't listed: unit 9 is none of 1, 2, 3, 4
+  list unit 9, or correct the record's unit
+1 hour unit 3 hour 0 percent -1 flow -1 moisture 6553.5
+  its form is wrong: it has moisture 6553.5, and unit 3 isn't dry
+  DRY
+1 hour unit 1 hour 0 percent -1 flow -1 moisture 100.1
+  its form is wrong: it has moisture 100.1, and unit 1 has no monitor
+  correct the hour's unit, or add `monitor dry` to unit 1
+4 hour unit 4 hour 0 percent -1 flow -2 moisture 100.1
+  RANGE: hour 0 isn't from 1 to 8784; percent -1 isn't from 0 to 100; flow -2 isn't from 0 to \
+    1000000000; moisture 100.1 isn't from 0.0 to 100.0
+  correct the hour, percent, flow, moisture
+4 hour unit 1 hour 0 percent 1 flow 1
+  RANGE: hour 0 isn't from 1 to 8784
+  correct the hour
 ";
 
 const CHOICES: &str = "
@@ -187,12 +239,17 @@ const CHOICES: &str = "
 ";
 
 /// What stands for words that many rows share.
-const SHORT: [(&str, &str); 4] = [
+const SHORT: [(&str, &str); 5] = [
     ("FORM", "say it as a `delivery` or an `hour`"),
+    (
+        "DRY",
+        "add `dry` to the `monitor` of unit 3 if its analyser dries the sample, or take the \
+         moisture out",
+    ),
     ("RANGE", "a value is out of range"),
     (
         "ANY",
-        "correct its month, hour, amount, heat, carbon or reading",
+        "correct its month, hour, amount, heat, carbon, reading or moisture",
     ),
     ("NONE", "no method is permitted"),
 ];
@@ -205,7 +262,7 @@ pub struct Row {
 }
 
 pub fn rows() -> Vec<Row> {
-    let tables = [FORMS, LISTED, VALUES, CHOICES, UNSUPPORTED];
+    let tables = [FORMS, LISTED, VALUES, HOURS, CHOICES, UNSUPPORTED];
     let lines = tables.iter().flat_map(|table| table.lines());
     let lines: Vec<&str> = lines.filter(|line| !line.is_empty()).collect();
     lines.chunks(3).map(row).collect()

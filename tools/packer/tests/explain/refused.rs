@@ -63,6 +63,17 @@ fn warming_values_of_no_set_are_told_without_asking() {
     }
 }
 
+#[test]
+fn dry_gas_without_a_monitor_is_told_without_asking() {
+    for (at, line) in [(160, 1), (192, 2)] {
+        let refusal = format!(
+            "refused 22: unit line {line} at byte {at}: it has the flag of dry gas without that \
+             of a monitor"
+        );
+        assert_told_without_asking(changed(at + 2, 2), &refusal, UNITS);
+    }
+}
+
 /// `lines` decides, also where this crate would let the book pass.
 #[test]
 fn a_refusal_by_lines_is_told() {

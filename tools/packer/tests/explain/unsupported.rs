@@ -5,6 +5,15 @@ pub const UNSUPPORTED: &str = "
 1 delivery unit 1 fuel 1 month 1 amount 1
   its form is wrong
   FORM
+1 hour unit 3 hour 1 percent 1 flow 1
+  its form is wrong
+  FORM
+1 hour unit 4 hour 1 percent 1 flow 1 moisture 6553.5
+  its form is wrong
+  FORM
+1 hour unit 9 hour 1 percent 1 flow 1 moisture 12.5
+  its form is wrong
+  FORM
 2 delivery unit 1 fuel 1 month 1 amount 1
   its unit isn't listed
   list it, or correct its number
@@ -38,6 +47,12 @@ pub const UNSUPPORTED: &str = "
 4 hour unit 3 hour 8784 percent 100 flow 1000000000
   RANGE
   ANY
+4 hour unit 4 hour 1 percent 0 flow 0 moisture 0.1
+  RANGE
+  ANY
+4 hour unit 4 hour 8784 percent 100 flow 1000000000 moisture 100.0
+  RANGE
+  ANY
 4 hour unit 3 hour 1 percent bits 80000000 flow bits 80000000
   RANGE
   ANY
@@ -45,6 +60,9 @@ pub const UNSUPPORTED: &str = "
   RANGE
   ANY
 5 hour unit 3 hour 1 percent 1 flow 1
+  an hour of a unit without a monitor
+  correct the hour's unit, or the unit's line
+5 hour unit 4 hour 1 percent 1 flow 1 moisture 12.5
   an hour of a unit without a monitor
   correct the hour's unit, or the unit's line
 5 delivery unit 1 fuel 1 month 1 amount 1
@@ -66,6 +84,9 @@ pub const UNSUPPORTED: &str = "
   NONE
   give the measured carbon, or correct the unit's rating
 6 delivery unit 3 fuel 3 month 1 amount 1
+  NONE
+  give the measured carbon, or correct the unit's rating
+6 delivery unit 4 fuel 3 month 1 amount 1
   NONE
   give the measured carbon, or correct the unit's rating
 6 hour unit 1 hour 1 percent 1 flow 1

@@ -47,7 +47,13 @@ const CHANGES: &str = "
 112 3408 21 year 2100 isn't from 2000 to 2099
 
 32 00 22 unit line 1 at byte 32: unit 0 can't be
-34 02 22 unit line 1 at byte 32: byte 2 of the line has a bit that must be 0
+34 02 22 unit line 1 at byte 32: it has the flag of dry gas without that of a monitor
+34 0201 22 it has the flag of dry gas without that of a monitor
+34 0301 22 byte 3 of the line has a bit that must be 0
+34 04 22 unit line 1 at byte 32: byte 2 of the line has a bit that must be 0
+34 06 22 byte 2 of the line has a bit that must be 0
+34 07 22 byte 2 of the line has a bit that must be 0
+34 81 22 byte 2 of the line has a bit that must be 0
 35 01 22 byte 3 of the line has a bit that must be 0
 40 01 22 byte 8 of the line has a bit that must be 0
 36 0000 22 unit 1 has rating 0.0; a rating is from 0.1 to 10000.0
@@ -66,7 +72,7 @@ const CHANGES: &str = "
 84 01 23 byte 20 of the line has a bit that must be 0
 
 104 00 22 unit line 1 at byte 0: byte 8 of the line has a bit that must be 0
-108 60 22 unit line 2 at byte 64: byte 2 of the line has a bit that must be 0
+108 60 22 unit line 2 at byte 64: byte 3 of the line has a bit that must be 0
 108 20 23 fuel line 1 at byte 32: kind 0 isn't from 1 to 3
 ";
 

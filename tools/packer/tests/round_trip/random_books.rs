@@ -23,7 +23,7 @@ impl Sample {
         let room = MOST_LINES - units.len() - fuels.len();
         let records = match dice.below(100) {
             0..=9 => 0,
-            10 => room,
+            10..=11 => room,
             _ => dice.below(40) as usize,
         };
         Sample {

@@ -51,22 +51,27 @@ const READINGS: [(u32, &str); 19] = [
 
 pub fn unit(number: u16, dice: &mut Dice) -> Said {
     let rating = dice.within(1, 100_000);
-    let monitor = dice.one_in(2);
+    let (flags, end) = dice.pick(&[(0, ""), (1, " monitor"), (3, " monitor dry")]);
     let mut line = [0; LINE];
     put(&mut line, 0, 2, number.into());
-    put(&mut line, 2, 1, monitor.into());
+    put(&mut line, 2, 1, flags);
     put(&mut line, 4, 4, rating);
-    let (whole, tenth) = (rating / 10, rating % 10);
-    let shortest = match tenth {
+    let (rating, loosely) = spellings(rating);
+    Said {
+        line,
+        words: format!("unit {number} rating {rating}{end}"),
+        loosely: format!("unit 0{number} rating {loosely}{end}"),
+    }
+}
+
+/// Gives the spelling of tenths with one decimal, and another.
+fn spellings(tenths: u64) -> (String, String) {
+    let (whole, tenth) = (tenths / 10, tenths % 10);
+    let loosely = match tenth {
         0 => format!("{whole}"),
         _ => format!("0{whole}.{tenth}"),
     };
-    let end = if monitor { " monitor" } else { "" };
-    Said {
-        line,
-        words: format!("unit {number} rating {whole}.{tenth}{end}"),
-        loosely: format!("unit 0{number} rating {shortest}{end}"),
-    }
+    (format!("{whole}.{tenth}"), loosely)
 }
 
 pub fn fuel(number: u16, dice: &mut Dice) -> Said {
@@ -137,8 +142,27 @@ fn hour(dice: &mut Dice) -> Said {
     put(&mut line, 6, 2, hour);
     put(&mut line, 8, 4, percent.into());
     put(&mut line, 12, 4, flow.into());
-    let words = format!("hour unit {unit} hour {hour} percent {percent_words} flow {flow_words}");
-    said(line, words)
+    let moisture = moisture(dice);
+    put(&mut line, 16, 2, moisture);
+    let bare = format!("hour unit {unit} hour {hour} percent {percent_words} flow {flow_words}");
+    let (spelling, loosely) = spellings(moisture);
+    let words = match moisture {
+        0 => bare.clone(),
+        _ => format!("{bare} moisture {spelling}"),
+    };
+    let loosely = format!("{bare} moisture {loosely}");
+    Said {
+        line,
+        words,
+        loosely: dice.pick(&[&loosely, &raw(line).loosely]).clone(),
+    }
+}
+
+/// Gives none, some that a dry unit may have, too much, or what is in the high byte alone.
+fn moisture(dice: &mut Dice) -> u64 {
+    let sound = dice.within(1, 1_000);
+    let too_much = dice.within(1_001, 65_535);
+    dice.pick(&[0, sound, too_much, 256])
 }
 
 /// Quarters below 2^14 and whole numbers below 2^23 lie so far from their neighbours' decimals that
@@ -202,7 +226,7 @@ fn delivery_with_tail(dice: &mut Dice) -> Said {
 
 fn hour_with_stray_byte(dice: &mut Dice) -> Said {
     let mut line = hour(dice).line;
-    let tail = 16 + dice.below(16) as usize;
+    let tail = 18 + dice.below(14) as usize;
     line[dice.pick(&[1, 4, 5, tail])] = 1 + dice.below(255) as u8;
     raw(line)
 }
