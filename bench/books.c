@@ -38,7 +38,7 @@ static uint32_t number_of(size_t i)
    big one. */
 static bool is_monitored(enum mix mix, size_t i)
 {
-    return mix == ALL_HOURS || (mix != ALL_FUEL && i % 4 == 0);
+    return mix == ALL_HOURS || mix == DRY_HOURS || (mix != ALL_FUEL && i % 4 == 0);
 }
 
 static bool is_big(size_t i)
@@ -49,7 +49,7 @@ static bool is_big(size_t i)
 static void write_unit(uint8_t *l, enum mix mix, size_t i)
 {
     write(l, number_of(i), 2);
-    write(l + 2, is_monitored(mix, i), 1);
+    write(l + 2, mix == DRY_HOURS ? 3 : is_monitored(mix, i), 1);
     write(l + 4, is_big(i) ? 9000 : 2500, 4);
 }
 
@@ -98,11 +98,19 @@ static void write_hour(uint8_t *l, size_t unit, uint64_t *row)
     write_single(l + 12, (float)draw(row, 1000000001));
 }
 
+static void write_dry(uint8_t *l, size_t unit, uint64_t *row)
+{
+    write_hour(l, unit, row);
+    write(l + 16, draw(row, 1001), 2);
+}
+
 static void write_record(uint8_t *l, const struct recipe *recipe, size_t unit, uint64_t *row)
 {
     enum mix mix = recipe->mix;
     if (mix == ALL_HOURS || (mix == MIXED && is_monitored(mix, unit) && draw(row, 2)))
         write_hour(l, unit, row);
+    else if (mix == DRY_HOURS)
+        write_dry(l, unit, row);
     else if (mix == LOW_HEATS)
         write_low(l, unit, draw(row, (uint32_t)recipe->fuels), row);
     else

@@ -8,7 +8,8 @@
 enum { LONGEST_BOOK = 65536, BOOK_LINE = 32, WARMING_SETS = 2 };
 enum { YEAR_AT = 16, SET_AT = 20 }; /* bytes of the trailer */
 
-enum mix { MIXED, ALL_FUEL, LOW_HEATS, ALL_HOURS }; /* LOW_HEATS: natural gas by its low value */
+/* LOW_HEATS: natural gas by its low value. DRY_HOURS: of units that measure dry gas. */
+enum mix { MIXED, ALL_FUEL, LOW_HEATS, ALL_HOURS, DRY_HOURS };
 
 struct recipe {
     const char *name;

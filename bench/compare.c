@@ -5,10 +5,11 @@
 
 #include <string.h>
 
-enum { FUZZED = 30000, DRAWN = 20000 };
+enum { FUZZED = 37500, DRAWN = 20000 };
 
 static const struct recipe small = {"small", MIXED, 10, 4, 4};
 static const struct recipe low = {"small, low", LOW_HEATS, 10, 4, 4};
+static const struct recipe dry = {"small, dry", DRY_HOURS, 10, 4, 4};
 
 /* Every record, and two that aren't there. */
 static void compare_records(const struct bytes *b, const char *name)
@@ -177,6 +178,7 @@ static void compare_too_many(struct bytes *b)
 /* Each reason, and a byte or two damaged, in small books of this set. */
 static void compare_faults(struct bytes *b, unsigned set)
 {
+    static const struct recipe *const kinds[5] = {&low, &dry, &small, &small, &small};
     uint64_t row = 5;
     for (unsigned reason = 1; reason <= 7; reason++) {
         make_under(b, &small, set);
@@ -184,7 +186,7 @@ static void compare_faults(struct bytes *b, unsigned set)
         compare_book(b, "spoiled");
     }
     for (int i = 0; i < FUZZED; i++) {
-        make_under(b, i % 4 == 0 ? &low : &small, set);
+        make_under(b, kinds[i % 5], set);
         for (uint32_t more = 1 + draw(&row, 2); more != 0; more--)
             damage(b->book, b->length, &row);
         compare_book(b, "damaged");

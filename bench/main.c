@@ -138,6 +138,7 @@ static const struct recipe books[] = {
     {"full, all fuel, 8 units, 8 fuels", ALL_FUEL, 0, 8, 8},
     {"full, low heats, 8 units, 8 fuels", LOW_HEATS, 0, 8, 8},
     {"full, all hours, 8 units", ALL_HOURS, 0, 8, 0},
+    {"full, dry hours, 8 units", DRY_HOURS, 0, 8, 0},
     {"full, mixed, 64 units, 64 fuels", MIXED, 0, 64, 64},
     {"small, mixed, 4 units, 4 fuels", MIXED, 1, 4, 4},
     {"small, mixed, 4 units, 4 fuels", MIXED, 10, 4, 4},

@@ -14,6 +14,7 @@ enum { LINE = BOOK_LINE, SETS = WARMING_SETS, MOST_LINES = 64, SMALL_RATING = 25
 
 struct unit {
     bool monitored, small;
+    bool dry; /* the monitor's analyser measures dry gas */
 };
 
 struct fuel {
@@ -64,10 +65,11 @@ static bool decode_units(struct book *k, const uint8_t *l)
     for (uint32_t i = 0; i < k->units; i++, l += LINE) {
         uint32_t number = read16(l), flags = read16(l + 2), rating = read32(l + 4);
         uint64_t blank = read64(l + 8) | read64(l + 16) | read64(l + 24);
-        if (number <= before || flags > 1 || !in_range(rating, 1, 100000) || blank != 0)
+        if (number <= before || flags > 3 || flags == 2 || !in_range(rating, 1, 100000) ||
+            blank != 0)
             return false;
         k->unit_number[i] = (uint16_t)number;
-        k->unit[i] = (struct unit){flags == 1, rating <= SMALL_RATING};
+        k->unit[i] = (struct unit){flags != 0, rating <= SMALL_RATING, flags == 3};
         before = number;
     }
     return true;
