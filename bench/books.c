@@ -157,6 +157,23 @@ void write_heat(struct bytes *b, size_t i, size_t unit, size_t fuel, uint32_t fl
     write(l + 16, flags & 2 ? draw(&row, 1000001) : 0, 4);
 }
 
+void write_flags(struct bytes *b, size_t unit, uint32_t flags)
+{
+    write(line(b, b->records + unit) + 2, flags, 1);
+}
+
+void write_readings(struct bytes *b, size_t i, const struct hour *hour)
+{
+    uint8_t *l = line(b, i);
+    memset(l, 0, BOOK_LINE);
+    write(l, 2, 1);
+    write(l + 2, number_of(hour->unit), 2);
+    write(l + 6, hour->number, 2);
+    write(l + 8, hour->percent_bits, 4);
+    write(l + 12, hour->flow_bits, 4);
+    write(l + 16, hour->moisture, 2);
+}
+
 /* No unit has number 1. */
 void spoil(struct bytes *b, size_t i, unsigned reason)
 {

@@ -36,6 +36,19 @@ size_t in_trailer(const struct bytes *b, size_t at);
    right or not. */
 void write_heat(struct bytes *b, size_t i, size_t unit, size_t fuel, uint32_t flags, uint32_t heat);
 
+/* A unit gets these flags, right or not. */
+void write_flags(struct bytes *b, size_t unit, uint32_t flags);
+
+/* What an hour holds, right or not: readings by their patterns, moisture in tenths of a percent. A
+   unit past the last isn't listed. */
+struct hour {
+    size_t unit;
+    uint32_t number, percent_bits, flow_bits, moisture;
+};
+
+/* Record i becomes this hour. */
+void write_readings(struct bytes *b, size_t i, const struct hour *hour);
+
 /* Makes record i of a mixed book one with this reason, 1 to 7. For 7 the last fuel line loses its
    default heat. */
 void spoil(struct bytes *b, size_t i, unsigned reason);

@@ -2,6 +2,7 @@
 #include "compare.h"
 
 #include "compare_calls.h"
+#include "compare_dry.h"
 
 #include <string.h>
 
@@ -119,6 +120,19 @@ static void compare_heats(struct bytes *b)
                 compare_heats_of(b, unit, fuel, flags);
 }
 
+/* Every pattern of a unit's flags, with records of fuel and hours, and with moisture. */
+static void compare_flags(struct bytes *b)
+{
+    static const struct recipe *const kinds[2] = {&small, &dry};
+    for (uint32_t flags = 0; flags < 256; flags++)
+        for (size_t unit = 0; unit < 4; unit++)
+            for (int i = 0; i < 2; i++) {
+                make_under(b, kinds[i], 0);
+                write_flags(b, unit, flags);
+                compare_book(b, "flags");
+            }
+}
+
 /* Whole tonnes about the limits of the decision, in a checkpoint that no wake made. It is reported
    under both sets. */
 static void compare_decisions(struct bytes *b)
@@ -203,7 +217,10 @@ void compare_damaged(void)
     compare_trailers(&b);
     compare_other_set(&b);
     compare_heats(&b);
+    compare_flags(&b);
+    compare_dry(&b);
     compare_decisions(&b);
     compare_too_many(&b);
     tell_compared();
+    tell_dry();
 }

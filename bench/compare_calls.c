@@ -8,7 +8,6 @@
 #include "wetherstep.h"
 
 #include <inttypes.h>
-#include <stdbool.h>
 #include <stdio.h>
 #include <stdlib.h>
 #include <string.h>
@@ -24,8 +23,8 @@ static unsigned long compared, counts[CALLS][FIELDS][256];
 /* Reports by the book's set of warming values and by the decision, 1 if the site must report. */
 static unsigned long reports[WARMING_SETS][2];
 
-/* Records that count with a low value, by their method. */
-static unsigned long lows[5];
+/* Records that count with a low value, by their method; hours that count with moisture. */
+static unsigned long lows[5], moist;
 
 static struct out filled(void)
 {
@@ -100,21 +99,25 @@ void compare_left(const struct bytes *b, const char *name, const struct out *fro
     same(name, LEFT, library, plain, "", "", 0);
 }
 
-static bool has_low(const struct bytes *b, uint32_t index)
+/* A record that counts, by what it has. */
+static void count_record(const uint8_t *l, uint64_t reply)
 {
-    const uint8_t *l = b->book + BOOK_LINE * index;
-    return l[0] == 1 && (l[1] & 4) != 0;
+    if (l[0] == 1 && (l[1] & 4) != 0)
+        lows[wetherstep_method(reply)]++;
+    if (l[0] == 2 && (l[16] | l[17]) != 0)
+        moist++;
 }
 
-void compare_record(const struct bytes *b, const char *name, uint32_t index)
+uint64_t compare_record(const struct bytes *b, const char *name, uint32_t index)
 {
     uint64_t one[5] = {9, 9, 9, 9, 9}, two[5] = {9, 9, 9, 9, 9};
     uint64_t library = wetherstep_record(b->book, b->length, index, one);
     uint64_t plain = plain_record(b->book, b->length, index, two);
     same(name, RECORD, library, plain, one, two, sizeof one);
     if (wetherstep_number(plain) == 0 && wetherstep_reason(plain) == 0 &&
-        wetherstep_method(plain) != WETHERSTEP_NO_RECORD && has_low(b, index))
-        lows[wetherstep_method(plain)]++;
+        wetherstep_method(plain) != WETHERSTEP_NO_RECORD)
+        count_record(b->book + BOOK_LINE * index, plain);
+    return plain;
 }
 
 /* What each call has to have answered. */
@@ -161,14 +164,23 @@ static void see_lows(void)
         }
 }
 
+static void see_moist(void)
+{
+    if (moist == 0) {
+        printf("no hour with moisture counted\n");
+        exit(1);
+    }
+}
+
 void tell_compared(void)
 {
     see_all();
     see_reports();
     see_lows();
+    see_moist();
     printf("compared: %lu calls, every number, reason, method and ledger among them; all alike\n"
            "reports with figures: %lu under the first warming values, %lu under the second\n"
-           "records that count with a low value: %lu\n",
+           "records that count with a low value: %lu; hours that count with moisture: %lu\n",
            compared, reports[0][0] + reports[0][1], reports[1][0] + reports[1][1],
-           lows[2] + lows[3] + lows[4]);
+           lows[2] + lows[3] + lows[4], moist);
 }

@@ -24,11 +24,13 @@ uint32_t compare_wake(const struct bytes *b, const char *name, struct out *from,
 void compare_report(const struct bytes *b, const char *name, const struct out *from,
                     size_t from_len);
 void compare_left(const struct bytes *b, const char *name, const struct out *from, size_t from_len);
-void compare_record(const struct bytes *b, const char *name, uint32_t index);
+
+/* Gives back the reply. */
+uint64_t compare_record(const struct bytes *b, const char *name, uint32_t index);
 
 /* Says how many calls were compared, and stops unless each call gave every number, reason, method
-   and ledger that it can, reports each decision under each set of warming values, and records with
-   a low value each method that they can have. */
+   and ledger that it can, reports each decision under each set of warming values, records with a
+   low value each method that they can have, and some hour counted with moisture. */
 void tell_compared(void);
 
 #endif
