@@ -25,12 +25,13 @@ def fuel_record(amount=1000, unit=1, fuel=1, month=6, heat=None, carbon=None, lo
                            heat or low_heat or 0, carbon or 0))
 
 
-def hour_record(percent, flow, unit=1, hour=1):
-    return pad(struct.pack("<BxHxxHff", 2, unit, hour, percent, flow))
+def hour_record(percent, flow, unit=1, hour=1, moisture=0):
+    """The moisture is in tenths of a percent."""
+    return pad(struct.pack("<BxHxxHffH", 2, unit, hour, percent, flow, moisture))
 
 
-def unit_line(number=1, rating=2500, monitor=False):
-    return pad(struct.pack("<HBxI", number, monitor, rating))
+def unit_line(number=1, rating=2500, monitor=False, dry=False):
+    return pad(struct.pack("<HBxI", number, monitor + 2 * dry, rating))
 
 
 def fuel_line(number=1, kind=3, fuel_class=1, heat=38000, co2=50000, ch4=900, n2o=90):

@@ -6,8 +6,9 @@ from program_books import book, fuel_line, fuel_record, hour_record, masses_of, 
 from program_books import trailer, unit_line
 from program_runs import PLANT, ROOT, expect, expect_told
 
-# Unit 1 is at the limit of default heats, 2 is past it, and 3 has a monitor.
-UNITS = [unit_line(1), unit_line(2, 2501), unit_line(3, 2501, monitor=True)]
+# Unit 1 is at the limit of default heats, 2 is past it, 3 has a monitor, and 5 one of dry gas.
+UNITS = [unit_line(1), unit_line(2, 2501), unit_line(3, 2501, monitor=True),
+         unit_line(5, 2501, monitor=True, dry=True)]
 # Fuel 1 is the requirements' gas, 2 the same of class 0, 3 wood, 4 has no default heat, 6 is oil.
 FUELS = [fuel_line(1), fuel_line(2, fuel_class=0), fuel_line(3, 1, 3, 17500, 95000, 30000, 4000),
          fuel_line(4, heat=0), fuel_line(6, 2, 2)]
@@ -54,6 +55,10 @@ def try_forms(programs, cases, forms):
         with cases.case(f"lines: {name}"):
             of = book([record], UNITS, FUELS)
             expect_told(programs.run("lines", data=of), f"record 0 {wanted}\n".encode())
+    try_together(programs, cases, forms)
+
+
+def try_together(programs, cases, forms):
     with cases.case(f"lines: {forms[0][0]} to {forms[-1][0]} in one book"):
         of = book([record for _, record, _ in forms], UNITS, FUELS)
         lines = [f"record {i} {wanted}\n" for i, (_, _, wanted) in enumerate(forms)]

@@ -7,6 +7,7 @@ import pathlib
 import shlex
 
 from program_annual import try_reports, try_set_aside
+from program_dry import try_dry_book
 from program_hours import try_hour_lines
 from program_jobs import plan_plant
 from program_kept import try_kept_answers
@@ -49,6 +50,16 @@ WRONG = [
      "spoil sed 's/co2-ug 1945300000000 /co2-ug 1945275000000 /'", try_low_lines),
     ("lines", "every fuel may have a low value", "spoil sed 's/reason 4$/method 2 fossil co2-ug "
      "1942500000000 ch4-ng 34965000000 n2o-ng 3496500000/'", try_low_lines),
+    ("lines", "moisture is passed over",
+     "spoil sed 's/co2-ug 12937050000000 /co2-ug 12950000000000 /'", try_dry_book),
+    ("lines", "moisture is taken off an R that is rounded",
+     "spoil sed 's/co2-ug 58016 /co2-ug 58534 /'", try_dry_book),
+    ("lines", "tenths of a percent are taken for percents",
+     "spoil sed 's/co2-ug 12302500000000 /co2-ug 6475000000000 /'", try_dry_book),
+    ("lines", "a wet unit may have moisture", "spoil sed 's/reason 1$/hour fossil co2-ug "
+     "12937050000000 ch4-ng 0 n2o-ng 0/'", try_dry_book),
+    ("lines", "moisture is judged before the unit is found", "spoil sed 's/reason 2$/reason 1/'",
+     try_dry_book),
     ("replay", "it says nothing", "spoil true", try_answers),
     ("replay", "a wrong head is no failure", 'real "$@"; exit 0', try_heads),
     ("replay", "a wrong head isn't told", 'real "$@" 2>/dev/null', try_heads),
