@@ -148,8 +148,8 @@ fn random_bits(rng: &mut Random) -> [u32; 2] {
 #[cfg(test)]
 mod tests {
     use super::*;
-    use second::hour::thousandfold;
-    use second::single::{decode, Single, Size, Thousandfold};
+    use second::hour::product;
+    use second::single::{decode, Product, Single, Size};
 
     #[test]
     fn halves_are_halves() {
@@ -172,7 +172,7 @@ mod tests {
         let mut rng = Random::new(1);
         for _ in 0..1_000 {
             let [percent, flow] = below_half_of_one(&mut rng);
-            let r = |flow| thousandfold(&hour(1, 1, percent, flow)).map(Thousandfold::nearest);
+            let r = |flow| product(&hour(1, 1, percent, flow)).map(Product::nearest);
             assert_eq!([r(flow), r(flow + 1)], [Some(0), Some(1)]);
         }
     }

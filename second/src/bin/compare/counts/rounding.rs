@@ -2,8 +2,8 @@
 
 use std::cmp::Ordering;
 
-use second::hour::thousandfold;
-use second::single::Thousandfold;
+use second::hour::product;
+use second::single::Product;
 
 use super::Rows;
 
@@ -40,7 +40,7 @@ pub struct RoundingCounts {
 impl RoundingCounts {
     /// Counts an hour whose readings are usable.
     pub fn count(&mut self, line: &[u8]) {
-        let product = thousandfold(line).expect("the hour counts");
+        let product = product(line).expect("the hour counts");
         self.by_way[way(product) as usize] += 1;
     }
 
@@ -50,8 +50,8 @@ impl RoundingCounts {
     }
 }
 
-fn way(product: Thousandfold) -> Way {
-    let Thousandfold { whole, rest, one } = product;
+fn way(product: Product) -> Way {
+    let Product { whole, rest, one } = product;
     match (whole, (2 * rest).cmp(&one)) {
         (0, _) if rest == 0 => Way::ProductIs0,
         (_, _) if rest == 0 => Way::NothingToRound,
@@ -86,7 +86,7 @@ mod tests {
         ];
         for (percent, flow, expected) in hours {
             let line = hour(1, 1, percent.to_bits(), flow.to_bits());
-            let told = thousandfold(&line).map(way);
+            let told = product(&line).map(way);
             assert_eq!(told, Some(expected), "{percent} x {flow}");
         }
     }
