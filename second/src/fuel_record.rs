@@ -2,7 +2,7 @@
 
 use crate::book::Book;
 use crate::bytes::{all_zero, u16_at, u32_at};
-use crate::lines::{Fuel, Unit, DISTILLATE_OIL, GAS, NATURAL_GAS, PURE_BIOMASS};
+use crate::lines::{Fuel, Monitor, Unit, DISTILLATE_OIL, GAS, NATURAL_GAS, PURE_BIOMASS};
 use crate::measured_heat::MeasuredHeat;
 use crate::record::{Addition, Co2Ledger, Reason};
 
@@ -76,7 +76,7 @@ impl FuelRecord {
     fn method(&self, unit: &Unit, fuel: &Fuel) -> Option<u8> {
         let small = unit.rating <= LARGE_UNIT_ABOVE;
         let exempt = [NATURAL_GAS, DISTILLATE_OIL].contains(&fuel.class);
-        if unit.monitored {
+        if unit.monitor != Monitor::None {
             return Some(4);
         }
         if self.measured_carbon.is_some() {

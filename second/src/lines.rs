@@ -9,9 +9,18 @@ const MOST_LINES: usize = 64;
 #[derive(Clone, Copy, Debug)]
 pub struct Unit {
     pub number: u16,
-    pub monitored: bool,
+    pub monitor: Monitor,
     /// In tenths of MMBtu/h.
     pub rating: u32,
+}
+
+/// A unit's stack monitor: none, one that takes the gas as it comes, or one whose
+/// analyser dries the sample first.
+#[derive(Clone, Copy, Debug, PartialEq, Eq)]
+pub enum Monitor {
+    None,
+    Wet,
+    Dry,
 }
 
 #[derive(Clone, Copy, Debug)]
@@ -64,11 +73,10 @@ impl Numbered for Unit {
     fn from_line(line: &[u8]) -> Option<Unit> {
         let unit = Unit {
             number: u16_at(line, 0),
-            monitored: line[2] & 1 == 1,
+            monitor: monitor(line[2])?,
             rating: u32_at(line, 4),
         };
         let sound = unit.number != 0
-            && line[2] <= 1
             && line[3] == 0
             && (1..=100_000).contains(&unit.rating)
             && all_zero(&line[8..]);
@@ -77,6 +85,17 @@ impl Numbered for Unit {
 
     fn number(&self) -> u16 {
         self.number
+    }
+}
+
+/// What the flags of a unit tell of: bit 0 a monitor, and bit 1, which is wrong
+/// without bit 0, that it measures dry gas.
+fn monitor(flags: u8) -> Option<Monitor> {
+    match flags {
+        0b00 => Some(Monitor::None),
+        0b01 => Some(Monitor::Wet),
+        0b11 => Some(Monitor::Dry),
+        _ => None,
     }
 }
 
@@ -115,5 +134,26 @@ impl Fuel {
             && (1..=MOST).contains(&self.co2)
             && self.ch4 <= MOST
             && self.n2o <= MOST
+    }
+}
+
+#[cfg(test)]
+mod tests {
+    use super::*;
+
+    #[test]
+    fn only_a_monitor_measures_dry_gas() {
+        for flags in 0..=u8::MAX {
+            let mut line = [0; LINE];
+            (line[0], line[2], line[4]) = (1, flags, 1);
+            let told = units(&line).map(|units| units[0].monitor);
+            let expected = match flags {
+                0 => Some(Monitor::None),
+                1 => Some(Monitor::Wet),
+                3 => Some(Monitor::Dry),
+                _ => None,
+            };
+            assert_eq!(told, expected, "{flags}");
+        }
     }
 }

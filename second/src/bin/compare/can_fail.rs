@@ -80,7 +80,7 @@ caught! {
     never_rounds_r_up_to_1 by ["books"];
     holds_the_rest_of_r_against_half_of_1_000 by ["worked", "books", "damage", "histories"];
     // The histories meet such an hour by chance, under some seeds and not others.
-    takes_a_thousandfold_in_double_precision by ["books", "histories"];
+    takes_the_multiple_in_double_precision by ["books", "histories"];
     takes_minus_zero_for_less_than_zero by ["books", "histories"];
     turns_carbon_into_co2_by_44_over_12 by ALL;
     subtracts_all_biomass_always by ALL;

@@ -2,7 +2,7 @@
 
 use second::answer::{Answer, Frame};
 use second::bytes::u32_at;
-use second::hour::product;
+use second::hour::{moisture, product};
 use second::record::{judge, Addition};
 use second::single::Product;
 
@@ -22,24 +22,25 @@ fn with_r(frame: &Frame, wrong: impl Fn(&[u8]) -> u64) -> Answer {
     })
 }
 
-/// R reckoned in floating point from percent and flow.
-fn floating(frame: &Frame, wrong: impl Fn(f32, f32) -> f64) -> Answer {
+/// R reckoned in floating point from the multiple, percent and flow.
+fn floating(frame: &Frame, wrong: impl Fn(f64, f32, f32) -> f64) -> Answer {
     with_r(frame, |line| {
+        let multiple = f64::from(1_000 - moisture(line));
         let single = |place: usize| f32::from_bits(u32_at(line, place));
-        wrong(single(8), single(12)) as u64
+        wrong(multiple, single(8), single(12)).round_ties_even() as u64
     })
 }
 
 pub fn multiplies_in_single_precision(frame: &Frame) -> Answer {
-    floating(frame, |percent, flow| {
-        (1_000.0 * f64::from(percent * flow)).round_ties_even()
+    floating(frame, |multiple, percent, flow| {
+        multiple * f64::from(percent * flow)
     })
 }
 
-/// The product of the readings is exact in a double, a thousand times it not.
-pub fn takes_a_thousandfold_in_double_precision(frame: &Frame) -> Answer {
-    floating(frame, |percent, flow| {
-        (1_000.0 * (f64::from(percent) * f64::from(flow))).round_ties_even()
+/// The product of the readings is exact in a double, a multiple of it not.
+pub fn takes_the_multiple_in_double_precision(frame: &Frame) -> Answer {
+    floating(frame, |multiple, percent, flow| {
+        multiple * (f64::from(percent) * f64::from(flow))
     })
 }
 
@@ -56,8 +57,9 @@ pub fn rounds_halves_of_r_upward(frame: &Frame) -> Answer {
     rounding(frame, |product| 2 * product.rest >= product.one)
 }
 
-/// So does a program that asks whether the rest is even and not the whole: a
-/// thousandfold is divided, so at a half the rest is a multiple of 8.
+/// So does a program that asks whether the rest is even and not the whole: the
+/// exponents of two readings add up to -11 at most, so at a half the rest is a
+/// multiple of 1,024.
 pub fn rounds_halves_of_r_downward(frame: &Frame) -> Answer {
     rounding(frame, |product| 2 * product.rest > product.one)
 }
