@@ -22,6 +22,14 @@ pub const HEAT_MEASURED: u8 = 1;
 pub const CARBON_MEASURED: u8 = 2;
 pub const HEAT_IS_LOW: u8 = 4;
 
+/// Flag bits of a unit line.
+pub const MONITORED: u8 = 1;
+pub const DRY: u8 = 2;
+
+/// Where an hour has its moisture, in tenths of a percent, and the greatest.
+pub const MOISTURE_PLACE: usize = 16;
+pub const MOST_MOISTURE: u16 = 1_000;
+
 pub type Line = [u8; LINE];
 
 /// The parts of a book; `bytes` puts them together with the trailer.
@@ -95,8 +103,15 @@ impl Draft {
 pub fn unit(number: u16, monitored: bool, rating: u32) -> Line {
     let mut line = [0; LINE];
     put(&mut line, 0, &number.to_le_bytes());
-    line[2] = u8::from(monitored);
+    line[2] = if monitored { MONITORED } else { 0 };
     put(&mut line, 4, &rating.to_le_bytes());
+    line
+}
+
+/// A unit whose monitor measures dry gas.
+pub fn dry_unit(number: u16, rating: u32) -> Line {
+    let mut line = unit(number, true, rating);
+    line[2] |= DRY;
     line
 }
 
@@ -146,6 +161,13 @@ pub fn hour(unit: u16, hour: u16, percent: u32, flow: u32) -> Line {
     put(&mut line, 6, &hour.to_le_bytes());
     put(&mut line, 8, &percent.to_le_bytes());
     put(&mut line, 12, &flow.to_le_bytes());
+    line
+}
+
+/// The hour with so many tenths of a percent of moisture.
+pub fn with_moisture(hour: Line, moisture: u16) -> Line {
+    let mut line = hour;
+    put(&mut line, MOISTURE_PLACE, &moisture.to_le_bytes());
     line
 }
 

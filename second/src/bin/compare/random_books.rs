@@ -5,7 +5,8 @@ use second::bytes::u16_at;
 use second::record::judge;
 
 use crate::draft::{
-    hour, unit, Burnt, Draft, FuelLine, Line, LINE, MOST_LOW_HEAT, NATURAL_GAS, SETS,
+    dry_unit, hour, unit, with_moisture, Burnt, Draft, FuelLine, Line, DRY, LINE, MONITORED,
+    MOST_LOW_HEAT, MOST_MOISTURE, NATURAL_GAS, SETS,
 };
 use crate::exchange::{Exchange, Outcome};
 use crate::job;
@@ -66,10 +67,8 @@ pub fn listing(rng: &mut Random) -> Draft {
         year: 2000 + set_and_year / 2,
         warming_set: SETS[usize::from(set_and_year % 2)],
     };
-    let ratings = [1, 2_499, 2_500, 2_501, 99_999, 100_000];
     for number in rising(rng) {
-        let rating = rng.pick(&ratings);
-        draft.units.push(unit(number, rng.one_in(3), rating));
+        draft.units.push(any_unit(rng, number));
     }
     for number in rising(rng) {
         draft.fuels.push(fuel(rng, number).line());
@@ -81,6 +80,15 @@ fn rising(rng: &mut Random) -> Vec<u16> {
     let step = rng.pick(&[1, 2, 256, 8_000]);
     let count = 1 + rng.below(8) as u16;
     (1..=count).map(|place| place * step).collect()
+}
+
+fn any_unit(rng: &mut Random, number: u16) -> Line {
+    let rating = rng.pick(&[1, 2_499, 2_500, 2_501, 99_999, 100_000]);
+    match rng.below(5) {
+        0 => unit(number, true, rating),
+        1 => dry_unit(number, rating),
+        _ => unit(number, false, rating),
+    }
 }
 
 fn fuel(rng: &mut Random, number: u16) -> FuelLine {
@@ -105,12 +113,10 @@ fn fuel(rng: &mut Random, number: u16) -> FuelLine {
 /// still have no permitted method or no heat.
 pub fn good_record(rng: &mut Random, draft: &Draft) -> Line {
     let units = draft.units.iter().copied();
-    let monitored: Vec<Line> = units.filter(|unit| unit[2] == 1).collect();
+    let monitored: Vec<Line> = units.filter(|unit| unit[2] & MONITORED != 0).collect();
     if !monitored.is_empty() && rng.one_in(3) {
-        let unit = u16_at(&rng.pick(&monitored), 0);
-        let percent = PERCENT_LIMIT - rng.below(0x0800_0000) as u32;
-        let flow = FLOW_LIMIT - rng.below(0x0C00_0000) as u32;
-        return hour(unit, 1 + rng.below(8_784) as u16, percent, flow);
+        let unit = rng.pick(&monitored);
+        return good_hour(rng, unit);
     }
     let fuel = rng.pick(&draft.fuels);
     let heat_is_low = fuel[3] == NATURAL_GAS && rng.one_in(2);
@@ -130,6 +136,26 @@ pub fn good_record(rng: &mut Random, draft: &Draft) -> Line {
     record.line()
 }
 
+/// An hour that counts, of the monitored unit of this line.
+fn good_hour(rng: &mut Random, unit: Line) -> Line {
+    let percent = PERCENT_LIMIT - rng.below(0x0800_0000) as u32;
+    let flow = FLOW_LIMIT - rng.below(0x0C00_0000) as u32;
+    let number = 1 + rng.below(8_784) as u16;
+    let wet = hour(u16_at(&unit, 0), number, percent, flow);
+    match unit[2] & DRY {
+        0 => wet,
+        _ => with_moisture(wet, moisture(rng)),
+    }
+}
+
+/// Moisture in range, often at an end of the range or in its middle.
+fn moisture(rng: &mut Random) -> u16 {
+    match rng.one_in(3) {
+        true => rng.pick(&[0, 1, 500, MOST_MOISTURE - 1, MOST_MOISTURE]),
+        false => rng.below(u64::from(MOST_MOISTURE) + 1) as u16,
+    }
+}
+
 /// A low heat value in range, often one that ends in 50, whose 1.11-fold is a
 /// half, or next to it.
 fn low_heat(rng: &mut Random) -> u32 {
@@ -144,9 +170,7 @@ fn low_heat(rng: &mut Random) -> u32 {
 pub fn wild_record(rng: &mut Random, draft: &Draft) -> Line {
     let unit = u16_at(&rng.pick(&draft.units), 0) + u16::from(rng.one_in(10));
     let mut line = if rng.one_in(2) {
-        let percent = rng.pick(&singles(PERCENT_LIMIT));
-        let flow = rng.pick(&singles(FLOW_LIMIT));
-        hour(unit, rng.edgy(8_784) as u16, percent, flow)
+        wild_hour(rng, unit)
     } else {
         let record = Burnt {
             unit,
@@ -169,4 +193,16 @@ pub fn wild_record(rng: &mut Random, draft: &Draft) -> Line {
         line[rng.index(LINE)] = rng.byte();
     }
     line
+}
+
+/// Half of them without moisture, which on most units is reason 1 and leaves no
+/// other to be seen.
+fn wild_hour(rng: &mut Random, unit: u16) -> Line {
+    let percent = rng.pick(&singles(PERCENT_LIMIT));
+    let flow = rng.pick(&singles(FLOW_LIMIT));
+    let line = hour(unit, rng.edgy(8_784) as u16, percent, flow);
+    match rng.one_in(2) {
+        true => with_moisture(line, rng.edgy(u32::from(MOST_MOISTURE)) as u16),
+        false => line,
+    }
 }
