@@ -46,7 +46,9 @@ pub fn run(exchange: &mut Exchange, rng: &mut Random) -> Outcome<()> {
     let with_low_heat = sound(exchange, small_book_with_low_heat())?;
     exchange.case("every value of every byte of a fuel record with a low heat value");
     single_bytes_of_line(exchange, rng, &with_low_heat, 0)?;
-    for line in 0..whole.book.len() / LINE {
+    // Fuel records last, since damage of one has just been seen.
+    let fuel_records = 3;
+    for line in (fuel_records..whole.book.len() / LINE).chain(0..fuel_records) {
         exchange.case(format!(
             "every value of every byte of line {line} of the book"
         ));

@@ -1,6 +1,6 @@
 //! A small sound book that has every kind of line.
 
-use crate::draft::{hour, unit, Burnt, Draft, FuelLine, FIRST_SET};
+use crate::draft::{dry_unit, hour, unit, with_moisture, Burnt, Draft, FuelLine, FIRST_SET};
 
 const UNMEASURED: Burnt = Burnt {
     unit: 1,
@@ -13,8 +13,8 @@ const UNMEASURED: Burnt = Burnt {
 };
 
 /// Fuel records of a gas and of a solid with everything measured, one with
-/// nothing measured, and an hour; a plain and a monitored unit; fuels of every
-/// kind and class but "other".
+/// nothing measured, an hour, and one with moisture, whose R is rounded; a plain,
+/// a wet and a dry unit; fuels of every kind and class but "other".
 pub fn small_book() -> Draft {
     let fuel = |number, kind, class| FuelLine {
         number,
@@ -32,14 +32,22 @@ pub fn small_book() -> Draft {
         ..UNMEASURED
     };
     let fuels = [fuel(1, 3, 1), fuel(2, 1, 3), fuel(3, 2, 2)];
+    // 12.5 percent x 100,000.1875 scf/h x 485 is 606,251,136.71875, and neither
+    // byte of the moisture is 0.
+    let moist = with_moisture(hour(3, 4_001, 0x4148_0000, 0x47C3_5018), 515);
     Draft {
         records: vec![
             burnt(1, Some(39_000), Some(520_000)).line(),
             burnt(2, Some(20_000), Some(500_000)).line(),
             burnt(3, None, None).line(),
             hour(2, 4_000, 0x4148_0000, 0x49F4_2400),
+            moist,
         ],
-        units: vec![unit(1, false, 2_500), unit(2, true, 2_501)],
+        units: vec![
+            unit(1, false, 2_500),
+            unit(2, true, 2_501),
+            dry_unit(3, 2_501),
+        ],
         fuels: fuels.map(|fuel| fuel.line()).to_vec(),
         year: 2010,
         warming_set: FIRST_SET,

@@ -5,6 +5,7 @@ use crate::exchange::{Exchange, Outcome};
 use crate::job;
 use crate::random::Random;
 use crate::sample::{small_book, small_book_with_low_heat};
+use crate::specials::{FLOW_LIMIT, PERCENT_LIMIT};
 
 /// A field: where it lies, how many bytes it has, and the ends of its range.
 struct Field {
@@ -21,7 +22,7 @@ const fn start(line: usize) -> u32 {
     (LINE * line) as u32
 }
 
-/// Starts about those of the sample: four records, two units, three fuels.
+/// Starts about those of the sample: five records, three units, three fuels.
 const TRAILER: [Field; 7] = [
     field(0, 4, &[0x4243_5453]),
     field(4, 2, &[1]),
@@ -29,16 +30,16 @@ const TRAILER: [Field; 7] = [
     field(
         8,
         4,
-        &[start(4), start(5), start(6), start(9), LONGEST_BOOK as u32],
+        &[start(5), start(6), start(8), start(11), LONGEST_BOOK as u32],
     ),
-    field(12, 4, &[start(3), start(4), start(6), start(9), start(10)]),
+    field(12, 4, &[start(4), start(5), start(8), start(11), start(12)]),
     field(16, 2, &[2000, 2099]),
     field(20, 1, &[0, 1]),
 ];
 
 const UNIT: [Field; 4] = [
-    field(0, 2, &[0, 1, 2, 3, 65_535]),
-    field(2, 1, &[0, 1, 255]),
+    field(0, 2, &[0, 1, 2, 3, 4, 65_535]),
+    field(2, 1, &[0, 1, 3, 255]),
     field(3, 1, &[0]),
     field(4, 4, &[1, 2_500, 100_000, u32::MAX]),
 ];
@@ -64,12 +65,17 @@ const FUEL_RECORD: [Field; 8] = [
     field(16, 4, &[0, 1_000_000, 4_000_000, u32::MAX]),
 ];
 
-const HOUR: [Field; 5] = [
+const HOUR: [Field; 10] = [
     field(0, 1, &[2]),
     field(1, 1, &[0]),
-    field(2, 2, &[0, 1, 2, 3]),
+    field(2, 2, &[0, 1, 2, 3, 4]),
     field(4, 2, &[0]),
     field(6, 2, &[1, 8_784, 65_535]),
+    field(8, 4, &[0, PERCENT_LIMIT]),
+    field(12, 4, &[0, FLOW_LIMIT]),
+    field(16, 2, &[0, 1_000, 65_535]),
+    field(18, 2, &[0]),
+    field(28, 4, &[0]),
 ];
 
 impl Field {
@@ -91,7 +97,7 @@ pub fn run(exchange: &mut Exchange, rng: &mut Random) -> Outcome<()> {
     let trailer = fuels + base.fuels.len();
     let places: [(&str, &[Field], std::ops::Range<usize>); 5] = [
         ("limits in fuel records", &FUEL_RECORD, 0..3),
-        ("limits in monitor hours", &HOUR, 3..4),
+        ("limits in monitor hours", &HOUR, 3..units),
         ("limits in unit lines", &UNIT, units..fuels),
         ("limits in fuel lines", &FUEL, fuels..trailer),
         ("limits in the trailer", &TRAILER, trailer..trailer + 1),
@@ -103,12 +109,16 @@ pub fn run(exchange: &mut Exchange, rng: &mut Random) -> Outcome<()> {
         }
     }
     exchange.case("every pair of limits in one fuel record");
-    pairs(exchange, &base)?;
+    pairs(exchange, &base, &FUEL_RECORD, 0)?;
+    exchange.case("every pair of limits in an hour of a wet unit");
+    pairs(exchange, &base, &HOUR, 3)?;
+    exchange.case("every pair of limits in an hour of a dry unit");
+    pairs(exchange, &base, &HOUR, 4)?;
     let with_low_heat = small_book_with_low_heat();
     exchange.case("limits in a fuel record with a low heat value");
     vary(exchange, rng, &with_low_heat, &FUEL_RECORD, 0)?;
     exchange.case("every pair of limits in a fuel record with a low heat value");
-    pairs(exchange, &with_low_heat)
+    pairs(exchange, &with_low_heat, &FUEL_RECORD, 0)
 }
 
 fn vary(
@@ -128,11 +138,11 @@ fn vary(
     Ok(())
 }
 
-/// Two fields wrong at once show which reason comes first.
-fn pairs(exchange: &mut Exchange, base: &Draft) -> Outcome<()> {
-    for (first, one) in FUEL_RECORD.iter().enumerate() {
-        for other in &FUEL_RECORD[first + 1..] {
-            let records = pair_records(base.records[0], one, other);
+/// Two fields of a record wrong at once show which reason comes first.
+fn pairs(exchange: &mut Exchange, base: &Draft, fields: &[Field], record: usize) -> Outcome<()> {
+    for (first, one) in fields.iter().enumerate() {
+        for other in &fields[first + 1..] {
+            let records = pair_records(base.records[record], one, other);
             let draft = Draft {
                 records,
                 ..base.clone()
