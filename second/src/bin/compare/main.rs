@@ -3,6 +3,7 @@
 //! of call 5, and compares every answer with second's. Frames that fail are
 //! kept in FOLDER.
 
+mod bits;
 mod books;
 #[cfg(test)]
 mod can_fail;
@@ -15,6 +16,7 @@ mod expectation;
 mod histories;
 mod job;
 mod link;
+mod near_halves;
 mod public_figures;
 mod random;
 mod random_books;
