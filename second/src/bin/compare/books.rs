@@ -1,6 +1,7 @@
 //! Group 2: books at every edge that the requirements draw, and random ones.
 
 mod decisions;
+mod every_call;
 mod limits;
 mod low_heat;
 mod methods;

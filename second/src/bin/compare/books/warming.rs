@@ -1,13 +1,11 @@
 //! The set of warming values that a trailer names: totals at the thresholds
 //! under each set, and every value of byte 20 and of the bytes about it.
 
-use second::answer::{Call, Frame};
-
-use crate::draft::{FIRST_SET, LINE, SETS};
+use super::every_call::Checkpoints;
+use crate::draft::{LINE, SETS};
 use crate::exact;
 use crate::exchange::{Exchange, Outcome};
-use crate::expectation::Field;
-use crate::job::{self, CHECKPOINT};
+use crate::job;
 use crate::random::Random;
 use crate::sample::small_book;
 use crate::warming::EDGES;
@@ -50,50 +48,4 @@ pub fn run(exchange: &mut Exchange, rng: &mut Random) -> Outcome<()> {
         }
     }
     Ok(())
-}
-
-/// Of a job under the first set; a book of either goes on from them.
-struct Checkpoints {
-    start: Vec<u8>,
-    end: Vec<u8>,
-}
-
-impl Checkpoints {
-    fn of_small_book(exchange: &mut Exchange, rng: &mut Random) -> Outcome<Checkpoints> {
-        let book = small_book().under(FIRST_SET);
-        let junk = rng.junk(CHECKPOINT);
-        let start = job::fresh(exchange, &book, &junk)?;
-        let end = job::wake(exchange, &book, &start.output, u32::MAX, &junk)?;
-        Ok(Checkpoints {
-            start: start.output.clone(),
-            end: end.output.clone(),
-        })
-    }
-
-    /// Each call with this book, whose number must be `number`.
-    fn every_call(
-        &self,
-        exchange: &mut Exchange,
-        rng: &mut Random,
-        book: &[u8],
-        number: u64,
-    ) -> Outcome<()> {
-        let calls: [(Call, u32, &[u8]); 4] = [
-            (Call::Fresh, 0, &[]),
-            (Call::Wake, 1, &self.start),
-            (Call::Report, 0, &self.end),
-            (Call::Record, 1, &[]),
-        ];
-        for (call, argument, checkpoint) in calls {
-            let frame = Frame {
-                call,
-                argument,
-                book,
-                checkpoint,
-                output: &rng.junk(CHECKPOINT),
-            };
-            exchange.hold(&frame, vec![Field::Number.is(number)])?;
-        }
-        Ok(())
-    }
 }
