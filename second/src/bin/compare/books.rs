@@ -5,6 +5,7 @@ mod every_call;
 mod limits;
 mod low_heat;
 mod methods;
+mod moisture;
 mod readings;
 mod sizes;
 mod warming;
@@ -17,6 +18,7 @@ pub fn run(exchange: &mut Exchange, rng: &mut Random) -> Outcome<()> {
     limits::run(exchange, rng)?;
     methods::run(exchange, rng)?;
     low_heat::run(exchange, rng)?;
+    moisture::run(exchange, rng)?;
     decisions::run(exchange, rng)?;
     warming::run(exchange, rng)?;
     readings::run(exchange, rng)?;
