@@ -1,6 +1,6 @@
 //! Every choice that "Choosing the method" tells apart, in one book.
 
-use crate::draft::{unit, Burnt, Draft, FuelLine, FIRST_SET};
+use crate::draft::{dry_unit, unit, Burnt, Draft, FuelLine, FIRST_SET};
 use crate::exchange::{Exchange, Outcome};
 use crate::job;
 use crate::random::Random;
@@ -11,8 +11,9 @@ pub fn run(exchange: &mut Exchange, rng: &mut Random) -> Outcome<()> {
     job::everything(exchange, rng, &book.bytes(), book.records.len())
 }
 
-/// Monitored or not, rating at and above 250.0 MMBtu/h, each class, default
-/// heat or none, heat measured or not, carbon measured or not.
+/// Without a monitor, with a wet or a dry one, rating at and above 250.0
+/// MMBtu/h, each class, default heat or none, heat measured or not, carbon
+/// measured or not.
 fn choices() -> Draft {
     let kinds_and_classes = [(1, 0), (3, 1), (2, 2), (1, 3)];
     let mut fuels = Vec::new();
@@ -31,13 +32,14 @@ fn choices() -> Draft {
             fuels.push(fuel.line());
         }
     }
-    let ratings = [
-        (1, false, 2_500),
-        (2, false, 2_501),
-        (3, true, 2_500),
-        (4, true, 2_501),
+    let units = [
+        unit(1, false, 2_500),
+        unit(2, false, 2_501),
+        unit(3, true, 2_500),
+        unit(4, true, 2_501),
+        dry_unit(5, 2_500),
+        dry_unit(6, 2_501),
     ];
-    let units = ratings.map(|(number, monitored, rating)| unit(number, monitored, rating));
     let mut records = Vec::new();
     for unit in 1..=units.len() as u16 {
         for fuel in 1..=fuels.len() as u16 {

@@ -1,8 +1,9 @@
-//! Hours of dry units: moisture at every value, the order of the reasons, and the
-//! flags that say dry.
+//! Hours of dry units: moisture at every value, the order of the reasons, the
+//! flags that say dry, and dry units beside wet ones.
 
 mod reasons;
 mod unit_flags;
+mod units;
 mod values;
 
 use crate::draft::{dry_unit, unit, Draft, Line, FIRST_SET};
@@ -22,7 +23,8 @@ const HOURS_PER_BOOK: usize = 64;
 pub fn run(exchange: &mut Exchange, rng: &mut Random) -> Outcome<()> {
     values::run(exchange, rng)?;
     reasons::run(exchange, rng)?;
-    unit_flags::run(exchange, rng)
+    unit_flags::run(exchange, rng)?;
+    units::run(exchange, rng)
 }
 
 /// A book of the three sorts of unit and these records.
