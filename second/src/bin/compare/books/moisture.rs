@@ -1,7 +1,9 @@
-//! Hours of dry units: moisture at every value, the order of the reasons, the
-//! flags that say dry, and dry units beside wet ones.
+//! Hours of dry units: moisture at every value, R rounded from every multiple,
+//! special readings, the order of the reasons, and the flags that say dry.
 
+mod readings;
 mod reasons;
+mod rounding;
 mod unit_flags;
 mod units;
 mod values;
@@ -24,7 +26,9 @@ pub fn run(exchange: &mut Exchange, rng: &mut Random) -> Outcome<()> {
     values::run(exchange, rng)?;
     reasons::run(exchange, rng)?;
     unit_flags::run(exchange, rng)?;
-    units::run(exchange, rng)
+    units::run(exchange, rng)?;
+    rounding::run(exchange, rng)?;
+    readings::run(exchange, rng)
 }
 
 /// A book of the three sorts of unit and these records.
