@@ -77,7 +77,7 @@ caught! {
     rounds_halves_of_r_downward by ["worked", "books", "damage", "histories"];
     rounds_halves_of_r_to_the_odd_number by ["worked", "books", "damage", "histories"];
     never_rounds_r_up by ["worked", "books", "damage", "histories"];
-    never_rounds_r_up_to_1 by ["books", "damage", "histories"];
+    never_rounds_r_up_to_1 by ["worked", "books", "damage", "histories"];
     holds_the_rest_of_r_against_half_of_1_000 by ["worked", "books", "damage", "histories"];
     // The histories meet such an hour by chance, under some seeds and not others.
     takes_the_multiple_in_double_precision by ["books", "histories"];

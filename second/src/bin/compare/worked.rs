@@ -2,6 +2,7 @@
 //! with the result that the document prints, and others worked from its rules.
 
 mod low_heat;
+mod moisture;
 mod reports;
 mod rounding;
 
@@ -146,7 +147,7 @@ fn hour_sums() -> Vec<Sum> {
 fn sums() -> impl Iterator<Item = Sum> {
     let of_the_document = fuel_sums().into_iter().chain(hour_sums());
     let others = low_heat::sums().chain(rounding::sums());
-    of_the_document.chain(others)
+    of_the_document.chain(others).chain(moisture::sums())
 }
 
 /// P10 to P12: T and biomass in tonnes, and whether the site must report. They
