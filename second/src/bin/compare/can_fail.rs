@@ -79,7 +79,6 @@ caught! {
     never_rounds_r_up by ["worked", "books", "damage", "histories"];
     never_rounds_r_up_to_1 by ["worked", "books", "damage", "histories"];
     holds_the_rest_of_r_against_half_of_1_000 by ["worked", "books", "damage", "histories"];
-    // The histories meet such an hour by chance, under some seeds and not others.
     takes_the_multiple_in_double_precision by ["books", "histories"];
     takes_minus_zero_for_less_than_zero by ["books", "histories"];
     turns_carbon_into_co2_by_44_over_12 by ALL;

@@ -2,6 +2,7 @@
 
 mod breakages;
 mod changed_set;
+mod dry_units;
 mod made_up;
 mod smallest;
 
@@ -17,6 +18,7 @@ const BOOKS: usize = 1_500;
 const WAKES: usize = 24;
 
 pub fn run(exchange: &mut Exchange, rng: &mut Random) -> Outcome<()> {
+    dry_units::run(exchange, rng)?;
     exchange.case("wakes of random budgets from older checkpoints");
     for _ in 0..BOOKS * exchange.run.settings.times {
         let book = random_books::book(rng).bytes();
@@ -51,8 +53,8 @@ fn budget(rng: &mut Random) -> u32 {
     }
 }
 
-/// Wakes under books that take turns; but for the set of warming values they
-/// are one book. Also the requirements' third demand, within second: the
+/// Wakes under books that take turns; but for what no mass depends on they are
+/// one book. Also the requirements' third demand, within second: the
 /// checkpoint at a place is the same bytes whatever the history.
 fn older(exchange: &mut Exchange, rng: &mut Random, books: &[Vec<u8>]) -> Outcome<()> {
     let start = job::fresh(exchange, &books[0], &rng.junk(CHECKPOINT))?;
@@ -115,18 +117,22 @@ fn record_by_record(exchange: &mut Exchange, rng: &mut Random, draft: &Draft) ->
     Ok(())
 }
 
-/// A checkpoint of one book brought to another, as it is and with the other's
-/// length or year, or both, written into it.
+/// Two random books, or one in two years.
 fn foreign(exchange: &mut Exchange, rng: &mut Random) -> Outcome<()> {
     let one = random_books::book(rng);
     let mut other = random_books::book(rng);
     if rng.one_in(2) {
-        // The same book in another year.
         other = Draft {
             year: other.year,
             ..one.clone()
         };
     }
+    brought(exchange, rng, &one, &other)
+}
+
+/// A checkpoint of one book brought to another, as it is and with the other's
+/// length or year, or both, written into it.
+fn brought(exchange: &mut Exchange, rng: &mut Random, one: &Draft, other: &Draft) -> Outcome<()> {
     let (home, abroad) = (one.bytes(), other.bytes());
     let start = job::fresh(exchange, &home, &rng.junk(CHECKPOINT))?;
     let budget = budget(rng);

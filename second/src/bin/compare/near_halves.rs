@@ -5,6 +5,11 @@ use crate::bits::single;
 use crate::random::Random;
 use crate::specials::{FLOW_LIMIT, PERCENT_LIMIT};
 
+/// From 3 to 999, since with 1 a half of one is met.
+pub fn odd_multiple(rng: &mut Random) -> u16 {
+    3 + 2 * rng.below(499) as u16
+}
+
 /// A pair of readings at a half of R, or one single away from it.
 pub fn near_half(rng: &mut Random, multiple: u16) -> [u32; 2] {
     let [percent, flow] = half(rng, multiple);

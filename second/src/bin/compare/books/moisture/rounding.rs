@@ -7,7 +7,7 @@ use crate::draft::{hour, with_moisture, Line};
 use crate::exchange::{Exchange, Outcome};
 use crate::expectation::Expectation;
 use crate::job;
-use crate::near_halves::{large_near_half, near_half, near_half_of_one};
+use crate::near_halves::{large_near_half, near_half, near_half_of_one, odd_multiple};
 use crate::random::Random;
 
 const PERCENT_HALF: u32 = 0x3F00_0000;
@@ -56,11 +56,6 @@ pub fn run(exchange: &mut Exchange, rng: &mut Random) -> Outcome<()> {
         }
     }
     Ok(())
-}
-
-/// From 3 on, since a half of one is met by the multiple 1.
-fn odd_multiple(rng: &mut Random) -> u16 {
-    3 + 2 * rng.below(499) as u16
 }
 
 fn dry_hour(multiple: u16, [percent, flow]: [u32; 2]) -> Line {
