@@ -5,8 +5,11 @@
 //! in 2d, and in a product such parts add up. This holds for what a source
 //! prints and for the whole numbers of a book alike.
 
+mod dry_gas;
+mod factors_002;
 mod low_heat_000;
 mod ratio;
+mod reading;
 mod source_000;
 mod source_004;
 mod table_004;
@@ -35,6 +38,7 @@ pub fn run(exchange: &mut Exchange, rng: &mut Random) -> Outcome<()> {
         source_004::figures(),
         source_000::figures(),
         low_heat_000::figures(),
+        dry_gas::figures(),
     ];
     for figure in groups.into_iter().flatten() {
         exchange.case(figure.source);

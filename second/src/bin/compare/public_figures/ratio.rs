@@ -49,6 +49,12 @@ impl Ratio {
         self.times(Ratio::new(other.under, other.over))
     }
 
+    /// Less `other`, which is not more.
+    pub fn minus(self, other: Ratio) -> Ratio {
+        let under = self.under * other.under;
+        Ratio::new(self.over * other.under - other.over * self.under, under)
+    }
+
     pub fn nearest(self) -> u128 {
         (2 * self.over + self.under) / (2 * self.under)
     }
@@ -74,5 +80,6 @@ mod tests {
         let product = printed("0.25").value.times(printed("10").value);
         assert_eq!(product.nearest(), 3);
         assert_eq!(product.per(Ratio::whole(5)), Ratio::new(1, 2));
+        assert_eq!(product.minus(Ratio::new(1, 3)), Ratio::new(13, 6));
     }
 }
