@@ -1,6 +1,7 @@
 //! What was compared and found equal, counted by what the requirements tell apart.
 
 mod low_heat;
+mod moisture;
 mod rounding;
 mod warming;
 
@@ -12,6 +13,7 @@ use crate::draft::LINE;
 use crate::run::Run;
 use crate::specials::{class, is_usable, CLASSES, FLOW_LIMIT, PERCENT_LIMIT};
 use low_heat::LowHeatCounts;
+use moisture::MoistureCounts;
 use rounding::RoundingCounts;
 use warming::WarmingCounts;
 
@@ -21,6 +23,7 @@ const NUMBERS_OF_LEFT: [u8; 7] = [0, 20, 21, 22, 23, 30, 31];
 const METHODS: [u8; 6] = [0, 1, 2, 3, 4, NO_SUCH_RECORD];
 const FUEL_RECORD: u8 = 1;
 const HOUR: u8 = 2;
+const UNIT_LINES_WRONG: u8 = 22;
 const SET_ASIDE: u8 = 41;
 
 /// Names and their counts.
@@ -38,6 +41,7 @@ pub struct Counts {
     percents: [u64; CLASSES.len()],
     flows: [u64; CLASSES.len()],
     low_heat: LowHeatCounts,
+    moisture: MoistureCounts,
     rounding: RoundingCounts,
     warming: WarmingCounts,
 }
@@ -57,6 +61,8 @@ impl Counts {
             self.count_record(frame, answer);
         } else if number == SET_ASIDE {
             self.reasons_of_refusals[usize::from(reason) - 1] += 1;
+        } else if number == UNIT_LINES_WRONG {
+            self.moisture.count_unit_lines(book_of(frame));
         }
     }
 
@@ -74,22 +80,26 @@ impl Counts {
         if reason == 0 {
             self.ledgers[usize::from(ledger)] += 1;
         }
-        let book = &frame[FRAME_HEAD..][..u32_at(frame, 8) as usize];
+        let book = book_of(frame);
         let line = &book[LINE * index..][..LINE];
         if line[0] == FUEL_RECORD {
             self.low_heat.count(book, line, answer);
         }
-        if line[0] == HOUR && [0, 4, 5].contains(&reason) {
-            self.count_readings(line);
-        }
-        if line[0] == HOUR && reason == 0 {
-            self.rounding.count(line);
+        if line[0] == HOUR {
+            self.moisture.count_hour(book, line, answer);
+            self.count_readings(line, reason);
         }
     }
 
-    /// The flow is counted where it decides: "the percent is judged before
-    /// the flow".
-    fn count_readings(&mut self, line: &[u8]) {
+    /// Where the readings were judged. The flow is counted where it decides: "the
+    /// percent is judged before the flow".
+    fn count_readings(&mut self, line: &[u8], reason: u8) {
+        if reason == 0 {
+            self.rounding.count(line);
+        }
+        if ![0, 4, 5].contains(&reason) {
+            return;
+        }
         let percent = class(u32_at(line, 8), PERCENT_LIMIT);
         self.percents[percent] += 1;
         if is_usable(percent) {
@@ -123,8 +133,9 @@ impl Counts {
             ("percent", named(&CLASSES, &self.percents)),
             ("flow", named(&CLASSES, &self.flows)),
             ("low value", self.low_heat.rows()),
-            ("R,", self.rounding.rows()),
         ];
+        table.extend(self.rounding.table());
+        table.extend(self.moisture.table());
         table.extend(self.warming.table());
         if asks_left {
             let numbers = NUMBERS_OF_LEFT.iter().map(u8::to_string);
@@ -133,6 +144,11 @@ impl Counts {
         }
         table
     }
+}
+
+/// The book of a frame.
+fn book_of(frame: &[u8]) -> &[u8] {
+    &frame[FRAME_HEAD..][..u32_at(frame, 8) as usize]
 }
 
 fn add_at(counts: &mut [u64], keys: &[u8], key: u8) {
@@ -147,7 +163,7 @@ pub fn tell(run: &mut Run) {
     for (subject, rows) in run.counts.table(run.settings.asks_left) {
         for (name, count) in rows {
             let row = format!("{subject} {name}");
-            run.tell("counts", &format!("{row:<44}{count:>9}"), count > 0, "");
+            run.tell("counts", &format!("{row:<60}{count:>9}"), count > 0, "");
         }
     }
 }
