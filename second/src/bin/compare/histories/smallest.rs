@@ -4,7 +4,7 @@
 use second::answer::{Call, Frame};
 use second::replay::LONGEST_PART;
 
-use crate::draft::{unit, Draft, LINE, SET_PLACE};
+use crate::draft::{unit, Draft, DRY, LINE, SET_PLACE};
 use crate::exchange::{Exchange, Outcome};
 use crate::expectation::Field;
 use crate::job::{self, CHECKPOINT};
@@ -61,6 +61,10 @@ fn books(draft: &Draft) -> Vec<Numbered> {
         book[trailer + SET_PLACE] = 2;
         book
     };
+    let dry_without_monitor = |mut book: Vec<u8>| {
+        book[units + 2] = DRY;
+        book
+    };
     vec![
         (sound.clone(), 0),
         (short.clone(), 20),
@@ -72,6 +76,9 @@ fn books(draft: &Draft) -> Vec<Numbered> {
         (third_set(short), 20),
         (spoilt(&[units]), 22),
         (spoilt(&[units, fuels]), 22),
+        (dry_without_monitor(sound.clone()), 22),
+        (dry_without_monitor(spoilt(&[fuels])), 22),
+        (dry_without_monitor(spoilt(&[trailer])), 21),
         (spoilt(&[fuels]), 23),
         (spoilt(&[0, fuels]), 23),
     ]
