@@ -5,8 +5,8 @@ use second::bytes::u16_at;
 use second::record::judge;
 
 use crate::draft::{
-    dry_unit, hour, unit, with_moisture, Burnt, Draft, FuelLine, Line, DRY, LINE, MONITORED,
-    MOST_LOW_HEAT, MOST_MOISTURE, NATURAL_GAS, SETS,
+    dry_unit, hour, unit, with_moisture, Burnt, Draft, FuelLine, Line, DRY, LINE, MOISTURE_PLACE,
+    MONITORED, MOST_LOW_HEAT, MOST_MOISTURE, NATURAL_GAS, SETS,
 };
 use crate::exchange::{Exchange, Outcome};
 use crate::job;
@@ -196,13 +196,14 @@ pub fn wild_record(rng: &mut Random, draft: &Draft) -> Line {
 }
 
 /// Half of them without moisture, which on most units is reason 1 and leaves no
-/// other to be seen.
+/// other to be seen, and a few with something in the byte after it.
 fn wild_hour(rng: &mut Random, unit: u16) -> Line {
     let percent = rng.pick(&singles(PERCENT_LIMIT));
     let flow = rng.pick(&singles(FLOW_LIMIT));
-    let line = hour(unit, rng.edgy(8_784) as u16, percent, flow);
-    match rng.one_in(2) {
-        true => with_moisture(line, rng.edgy(u32::from(MOST_MOISTURE)) as u16),
-        false => line,
+    let mut line = hour(unit, rng.edgy(8_784) as u16, percent, flow);
+    if rng.one_in(2) {
+        line = with_moisture(line, rng.edgy(u32::from(MOST_MOISTURE)) as u16);
     }
+    line[MOISTURE_PLACE + 2] = u8::from(rng.one_in(12));
+    line
 }
