@@ -120,6 +120,35 @@ caught! {
     overlooks_a_low_flag_without_heat by ["worked", "books", "damage", "histories"];
     takes_a_low_flag_for_measured_heat by ["worked", "books", "damage", "histories"];
     takes_a_low_flag_without_heat_for_out_of_range by ["worked", "books", "damage", "histories"];
+    overlooks_moisture_on_a_dry_unit by ALL;
+    takes_tenths_of_a_percent_for_percents by ALL;
+    multiplies_by_the_moisture by ALL;
+    divides_by_what_is_dry by ALL;
+    rounds_r_before_the_moisture by ALL;
+    corrects_the_percent_in_single_precision by ALL;
+    rounds_halves_of_an_odd_multiple_upward by ["worked", "books", "damage", "histories"];
+    rounds_halves_of_an_odd_multiple_downward by ["worked", "books", "damage", "histories"];
+    never_rounds_r_of_an_odd_multiple_up by ALL;
+    reads_moisture_from_one_byte by ALL;
+    reads_moisture_upper_byte_first by ALL;
+    reads_moisture_from_four_bytes by ["books", "damage", "histories"];
+    takes_moisture_past_1_000_for_1_000 by ["worked", "books", "damage", "histories"];
+    lets_the_multiple_wrap_around by ["worked", "books", "damage", "histories"];
+    lets_moisture_reach_1_001 by ["worked", "books", "histories"];
+    lets_moisture_reach_only_999 by ["worked", "books", "histories"];
+    looks_for_the_dry_flag_in_bit_0 by ["worked", "books", "damage", "histories"];
+    takes_a_unit_without_a_monitor_for_dry by ["worked", "books", "damage", "histories"];
+    overlooks_moisture_on_a_wet_unit by ["worked", "books", "damage", "histories"];
+    asks_for_moisture_before_the_unit by ["worked", "books", "damage", "histories"];
+    asks_for_the_range_of_moisture_before_the_flag by ["worked", "books", "damage", "histories"];
+    asks_for_moisture_on_a_wet_unit_last by ["worked", "books", "damage", "histories"];
+    takes_moisture_on_a_wet_unit_for_out_of_range by ["worked", "books", "damage", "histories"];
+    takes_a_dry_flag_alone_for_no_monitor by ["worked", "books", "damage", "histories"];
+    takes_a_dry_flag_alone_for_a_monitor by ["worked", "books", "damage", "histories"];
+    overlooks_flags_above_bit_1 by ["books", "damage"];
+    refuses_the_dry_flag by ALL;
+    minds_fuel_lines_before_the_dry_flag by ["books", "damage", "histories"];
+    chooses_a_method_for_fuel_records_of_a_dry_unit by ["worked", "books", "damage", "histories"];
 }
 
 #[test]

@@ -2,12 +2,16 @@
 
 mod calls;
 mod low_heat;
+mod moisture;
 mod records;
 mod rounding;
+mod unit_flags;
 mod warming;
 
 pub use calls::*;
 pub use low_heat::*;
+pub use moisture::*;
 pub use records::*;
 pub use rounding::*;
+pub use unit_flags::*;
 pub use warming::*;
