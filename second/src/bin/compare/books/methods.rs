@@ -1,6 +1,6 @@
 //! Every choice that "Choosing the method" tells apart, in one book.
 
-use crate::draft::{dry_unit, unit, Burnt, Draft, FuelLine, FIRST_SET};
+use crate::draft::{dry_unit, unit, Burnt, Draft, FuelLine, Line, FIRST_SET};
 use crate::exchange::{Exchange, Outcome};
 use crate::job;
 use crate::random::Random;
@@ -32,14 +32,7 @@ fn choices() -> Draft {
             fuels.push(fuel.line());
         }
     }
-    let units = [
-        unit(1, false, 2_500),
-        unit(2, false, 2_501),
-        unit(3, true, 2_500),
-        unit(4, true, 2_501),
-        dry_unit(5, 2_500),
-        dry_unit(6, 2_501),
-    ];
+    let units = units();
     let mut records = Vec::new();
     for unit in 1..=units.len() as u16 {
         for fuel in 1..=fuels.len() as u16 {
@@ -53,6 +46,17 @@ fn choices() -> Draft {
         year: 2011,
         warming_set: FIRST_SET,
     }
+}
+
+fn units() -> [Line; 6] {
+    [
+        unit(1, false, 2_500),
+        unit(2, false, 2_501),
+        unit(3, true, 2_500),
+        unit(4, true, 2_501),
+        dry_unit(5, 2_500),
+        dry_unit(6, 2_501),
+    ]
 }
 
 fn flagged(unit: u16, fuel: u16) -> [Burnt; 4] {
