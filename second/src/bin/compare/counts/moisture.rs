@@ -1,12 +1,11 @@
 //! What was compared of moisture: hours that count with it, those that it alone
 //! sets aside, and unit lines that nothing but a flag makes wrong.
 
-use std::ops::RangeInclusive;
+use std::ops::{Range, RangeInclusive};
 
 use second::answer::Answer;
 use second::book::Book;
 use second::bytes::{u16_at, u32_at};
-use second::lines::Monitor;
 use second::record::judge;
 
 use super::Rows;
@@ -15,30 +14,30 @@ use crate::draft::{put, DRY, LINE, MOISTURE_PLACE, MONITORED};
 /// Hours that are told apart.
 struct Class {
     name: &'static str,
-    /// Of a unit that is listed.
-    monitor: Option<Monitor>,
+    /// Those of its unit, if it is listed.
+    flags: Option<u8>,
     moisture: RangeInclusive<u16>,
     reason: u8,
 }
 
 const fn class(
     name: &'static str,
-    monitor: Option<Monitor>,
+    flags: Option<u8>,
     moisture: RangeInclusive<u16>,
     reason: u8,
 ) -> Class {
     Class {
         name,
-        monitor,
+        flags,
         moisture,
         reason,
     }
 }
 
-const UNLISTED: Option<Monitor> = None;
-const PLAIN: Option<Monitor> = Some(Monitor::None);
-const WET: Option<Monitor> = Some(Monitor::Wet);
-const DRY_ONE: Option<Monitor> = Some(Monitor::Dry);
+const UNLISTED: Option<u8> = None;
+const PLAIN: Option<u8> = Some(0);
+const WET: Option<u8> = Some(MONITORED);
+const DRY_ONE: Option<u8> = Some(MONITORED | DRY);
 
 const CLASSES: [Class; 17] = [
     class("0 on a dry unit", DRY_ONE, 0..=0, 0),
@@ -104,7 +103,7 @@ impl MoistureCounts {
     /// Counts a book whose unit lines are wrong.
     pub fn count_unit_lines(&mut self, book: &[u8]) {
         for (count, (_, mending)) in self.flags.iter_mut().zip(FLAGS) {
-            *count += u64::from(Book::read(&mended_units(book, mending)).is_ok());
+            *count += u64::from(is_mended(book, mending));
         }
     }
 
@@ -121,33 +120,49 @@ impl MoistureCounts {
 /// The place in `CLASSES` of an hour. Where moisture sets it aside, nothing else
 /// may do so for the same reason.
 fn class_of(book: &[u8], line: &[u8], reason: u8) -> Option<usize> {
-    let book = Book::read(book).expect("the record was judged");
-    let monitor = book.unit(u16_at(line, 2)).map(|unit| unit.monitor);
+    let flags = flags_of(book, u16_at(line, 2));
     let moisture = u16_at(line, MOISTURE_PLACE);
     let is_of = |class: &Class| {
-        class.monitor == monitor && class.moisture.contains(&moisture) && class.reason == reason
+        class.reason == reason && class.flags == flags && class.moisture.contains(&moisture)
     };
     let place = CLASSES.iter().position(is_of)?;
-    let by_moisture = [1, 4].contains(&reason) && has_it_still(&book, line, reason);
-    (!by_moisture).then_some(place)
+    let is_not_alone = [1, 4].contains(&reason) && has_it_still(book, line, reason);
+    (!is_not_alone).then_some(place)
 }
 
 /// Whether an hour has this reason without its moisture too.
-fn has_it_still(book: &Book, line: &[u8], reason: u8) -> bool {
+fn has_it_still(book: &[u8], line: &[u8], reason: u8) -> bool {
+    let book = Book::read(book).expect("the record was judged");
     let mut without = line.to_vec();
     put(&mut without, MOISTURE_PLACE, &[0, 0]);
-    judge(book, &without).is_err_and(|found| found as u8 == reason)
+    judge(&book, &without).is_err_and(|found| found as u8 == reason)
 }
 
-/// A book whose trailer is right, with the flags of every unit mended.
-fn mended_units(book: &[u8], mending: Mending) -> Vec<u8> {
+/// Where the unit lines of a book are whose trailer is right.
+fn unit_lines(book: &[u8]) -> Range<usize> {
     let trailer = &book[book.len() - LINE..];
     let [start, end] = [8, 12].map(|place| u32_at(trailer, place) as usize);
+    start..end
+}
+
+fn flags_of(book: &[u8], number: u16) -> Option<u8> {
+    let mut units = book[unit_lines(book)].chunks(LINE);
+    let unit = units.find(|unit| u16_at(unit, 0) == number);
+    unit.map(|unit| unit[2])
+}
+
+/// Whether unit lines that are wrong are right once their flags are mended.
+fn is_mended(book: &[u8], mending: Mending) -> bool {
+    let changes = |unit: &[u8]| mending(unit[2]) != unit[2];
+    // Most have no such flag, and nothing to be read anew.
+    if !book[unit_lines(book)].chunks(LINE).any(changes) {
+        return false;
+    }
     let mut mended = book.to_vec();
-    for unit in mended[start..end].chunks_mut(LINE) {
+    for unit in mended[unit_lines(book)].chunks_mut(LINE) {
         unit[2] = mending(unit[2]);
     }
-    mended
+    Book::read(&mended).is_ok()
 }
 
 #[cfg(test)]

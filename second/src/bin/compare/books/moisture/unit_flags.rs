@@ -10,8 +10,7 @@ use crate::sample::small_book;
 
 const SOUND: [u8; 3] = [0, MONITORED, MONITORED | DRY];
 
-/// What else is wrong, where in the last byte of the book's lines it stands,
-/// and its number: nothing, a fuel line, the trailer, or both.
+/// The lines that are wrong too, in their last byte, and the number for them.
 const BESIDE: [(&[Place], u64); 4] = [
     (&[], 0),
     (&[Place::FuelLine], 23),
