@@ -134,8 +134,8 @@ caught! {
     reads_moisture_from_four_bytes by ["books", "damage", "histories"];
     takes_moisture_past_1_000_for_1_000 by ["worked", "books", "damage", "histories"];
     lets_the_multiple_wrap_around by ["worked", "books", "damage", "histories"];
-    lets_moisture_reach_1_001 by ["worked", "books", "histories"];
-    lets_moisture_reach_only_999 by ["worked", "books", "histories"];
+    lets_moisture_reach_1_001 by ["worked", "books", "damage", "histories"];
+    lets_moisture_reach_only_999 by ["worked", "books", "damage", "histories"];
     looks_for_the_dry_flag_in_bit_0 by ["worked", "books", "damage", "histories"];
     takes_a_unit_without_a_monitor_for_dry by ["worked", "books", "damage", "histories"];
     overlooks_moisture_on_a_wet_unit by ["worked", "books", "damage", "histories"];
@@ -145,7 +145,7 @@ caught! {
     takes_moisture_on_a_wet_unit_for_out_of_range by ["worked", "books", "damage", "histories"];
     takes_a_dry_flag_alone_for_no_monitor by ["worked", "books", "damage", "histories"];
     takes_a_dry_flag_alone_for_a_monitor by ["worked", "books", "damage", "histories"];
-    overlooks_flags_above_bit_1 by ["books", "damage"];
+    overlooks_flags_above_bit_1 by ["books", "damage", "histories"];
     refuses_the_dry_flag by ALL;
     minds_fuel_lines_before_the_dry_flag by ["books", "damage", "histories"];
     chooses_a_method_for_fuel_records_of_a_dry_unit by ["worked", "books", "damage", "histories"];

@@ -12,6 +12,9 @@ use edits::Edit;
 
 const RANDOM_TIMES: usize = 12_000;
 
+/// In the small book.
+const HOUR_WITH_MOISTURE: usize = 4;
+
 /// The small book, and checkpoints within and after its run.
 struct Sound {
     draft: Draft,
@@ -44,11 +47,12 @@ pub fn run(exchange: &mut Exchange, rng: &mut Random) -> Outcome<()> {
     draft.records[1][6] = 13;
     let with_one_set_aside = sound(exchange, draft)?;
     let with_low_heat = sound(exchange, small_book_with_low_heat())?;
+    exchange.case("every value of every byte of an hour with moisture");
+    single_bytes_of_line(exchange, rng, &whole, HOUR_WITH_MOISTURE)?;
     exchange.case("every value of every byte of a fuel record with a low heat value");
     single_bytes_of_line(exchange, rng, &with_low_heat, 0)?;
-    // Fuel records last, since damage of one has just been seen.
-    let fuel_records = 3;
-    for line in (fuel_records..whole.book.len() / LINE).chain(0..fuel_records) {
+    let lines = 0..whole.book.len() / LINE;
+    for line in lines.filter(|&line| line != HOUR_WITH_MOISTURE) {
         exchange.case(format!(
             "every value of every byte of line {line} of the book"
         ));

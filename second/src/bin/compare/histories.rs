@@ -18,6 +18,7 @@ const BOOKS: usize = 1_500;
 const WAKES: usize = 24;
 
 pub fn run(exchange: &mut Exchange, rng: &mut Random) -> Outcome<()> {
+    smallest::run(exchange, rng)?;
     dry_units::run(exchange, rng)?;
     exchange.case("wakes of random budgets from older checkpoints");
     for _ in 0..BOOKS * exchange.run.settings.times {
@@ -39,7 +40,6 @@ pub fn run(exchange: &mut Exchange, rng: &mut Random) -> Outcome<()> {
         foreign(exchange, rng)?;
     }
     made_up::run(exchange, rng)?;
-    smallest::run(exchange, rng)?;
     changed_set::run(exchange, rng)
 }
 

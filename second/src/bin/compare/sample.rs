@@ -32,9 +32,9 @@ pub fn small_book() -> Draft {
         ..UNMEASURED
     };
     let fuels = [fuel(1, 3, 1), fuel(2, 1, 3), fuel(3, 2, 2)];
-    // 12.5 percent x 100,000.1875 scf/h x 485 is 606,251,136.71875, and neither
-    // byte of the moisture is 0.
-    let moist = with_moisture(hour(3, 4_001, 0x4148_0000, 0x47C3_5018), 515);
+    // 12.5 percent x 200,000.1875 scf/h x 229 is 572,500,536.71875. 771 is 3 x 256
+    // + 3, so another lower byte alone makes the moisture 1,000 or 1,001.
+    let moist = with_moisture(hour(3, 4_001, 0x4148_0000, 0x4843_500C), 771);
     Draft {
         records: vec![
             burnt(1, Some(39_000), Some(520_000)).line(),

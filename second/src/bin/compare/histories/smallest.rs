@@ -61,8 +61,8 @@ fn books(draft: &Draft) -> Vec<Numbered> {
         book[trailer + SET_PLACE] = 2;
         book
     };
-    let dry_without_monitor = |mut book: Vec<u8>| {
-        book[units + 2] = DRY;
+    let flagged = |flags: u8, mut book: Vec<u8>| {
+        book[units + 2] = flags;
         book
     };
     vec![
@@ -76,9 +76,10 @@ fn books(draft: &Draft) -> Vec<Numbered> {
         (third_set(short), 20),
         (spoilt(&[units]), 22),
         (spoilt(&[units, fuels]), 22),
-        (dry_without_monitor(sound.clone()), 22),
-        (dry_without_monitor(spoilt(&[fuels])), 22),
-        (dry_without_monitor(spoilt(&[trailer])), 21),
+        (flagged(DRY, sound.clone()), 22),
+        (flagged(DRY, spoilt(&[fuels])), 22),
+        (flagged(DRY, spoilt(&[trailer])), 21),
+        (flagged(4, sound.clone()), 22),
         (spoilt(&[fuels]), 23),
         (spoilt(&[0, fuels]), 23),
     ]
