@@ -6,11 +6,11 @@ import struct
 
 from program_books import LINE, book, fuel_record, hour_record, patch, report
 from program_jobs import wakes_by_replay
+from program_judge import are_units_right, judge_hour
 from program_lines import FUELS, UNITS, try_forms, try_together
 from program_runs import expect, expect_told
 
 SORTS = UNMONITORED, WET, UNLISTED, DRY = 1, 3, 4, 5  # by UNITS
-FLAGS = dict(struct.unpack_from("<HB", line) for line in UNITS)
 
 
 def hour_of(co2):
@@ -68,47 +68,20 @@ FLOWS = (0, 0x80000000, 1, 0x7FFFFF, 0x3F800000, 0x40400000, 0x47C35010, 0x49F42
          BILLION + 1, INFINITE, NAN, 0x80000001)
 
 
-def reading(pattern):
-    """What a single stands for, or None if that is no number."""
-    sign, exponent, digits = pattern >> 31, pattern >> 23 & 255, pattern & 2**23 - 1
-    if exponent == 255:
-        return None
-    units = digits if exponent == 0 else (2**23 + digits) << exponent - 1
-    return fractions.Fraction((-1)**sign * units, 2**149)
-
-
-def is_usable(value, limit):
-    return value is not None and 0 <= value <= limit
-
-
 def wanted_of(record):
-    """What stands behind the index of an hour, by its bytes."""
-    _, flags, unit, fuel, hour, *readings, moisture = struct.unpack_from("<BBHHHIIH", record)
-    percent, flow = map(reading, readings)
-    if flags or fuel or any(record[18:]):
-        return "reason 1"
-    if unit not in FLAGS:
-        return "reason 2"
-    has_monitor, is_dry = FLAGS[unit] & 1, FLAGS[unit] & 2
-    if moisture and not is_dry:
-        return "reason 1"
-    if (not 1 <= hour <= 8_784 or not is_usable(percent, 100) or not is_usable(flow, 10**9)
-            or moisture > 1_000):
-        return "reason 4"
-    if not has_monitor:
-        return "reason 5"
-    # Python takes a half of a fraction to the even number.
-    return hour_of(518 * round(percent * flow * (1_000 - moisture)))
+    """What stands behind the index of an hour, by the judge."""
+    told, number = judge_hour(record, b"".join(UNITS))
+    return f"reason {number}" if told == "reason" else hour_of(number)
 
 
-def expect_modelled(programs, records):
-    """`lines` prints what the model has of each of these hours."""
+def expect_judged(programs, records):
+    """`lines` prints what the judge says of each of these hours."""
     lines = [f"record {i} {wanted_of(record)}\n" for i, record in enumerate(records)]
     expect_told(programs.run("lines", data=book(records, UNITS, FUELS)), "".join(lines).encode())
 
 
 def try_own_dry(cases):
-    with cases.case("the model has what is worked by hand of every hour"):
+    with cases.case("the judge says what is worked by hand of every hour"):
         for name, record, wanted in DRY_HOURS:
             if record[0] == 2:
                 expect(wanted_of(record), wanted, name)
@@ -121,7 +94,7 @@ def try_edges(programs, cases):
         records = [patch(p7(unit, hour=hour, moisture=moisture), 8, struct.pack("<II", *readings))
                    for hour, (*readings, unit) in enumerate(edges, 1)]
         with cases.case(f"lines: moisture {moisture} on every unit, with every pair of readings"):
-            expect_modelled(programs, records)
+            expect_judged(programs, records)
 
 
 def faults_of(hour):
@@ -137,7 +110,7 @@ def try_order(programs, cases):
     records = [faulty for hour, (unit, moisture) in hours
                for faulty in faults_of(p7(unit, hour=hour, moisture=moisture))]
     with cases.case("lines: every fault beside every moisture, on every unit"):
-        expect_modelled(programs, records)
+        expect_judged(programs, records)
 
 
 def try_every_moisture(programs, cases):
@@ -150,7 +123,7 @@ def try_every_moisture(programs, cases):
     with cases.case("halves of R have the even number below as often as above"):
         expect([sum(half % 4 == way for half in halves) for way in (1, 3)], [500, 500], "the list")
     with cases.case("lines: every moisture, with halves of R"):
-        expect_modelled(programs, records)
+        expect_judged(programs, records)
     with cases.case("annual: every moisture, with halves of R"):
         of = book(records, UNITS, [])
         rounded = sum(round(fractions.Fraction(half, 2)) for half in halves)
@@ -168,10 +141,14 @@ def try_aside(programs, cases):
 
 def try_flags(programs, cases):
     """A monitor alone, or with dry gas, or neither; no other pattern of the flags is right."""
+    patterns = [patch(UNITS[0], 2, bytes([flags])) for flags in range(256)]
+    wanted = [0, 0, 22, 0] + 252 * [22]
+    with cases.case("the judge says which patterns of a unit's flags are right"):
+        expect([0 if are_units_right(line) else 22 for line in patterns], wanted, "the list")
     with cases.case("replay: every pattern of a unit's flags"):
-        books = [patch(book([p7()], UNITS, []), LINE + 2, bytes([flags])) for flags in range(256)]
+        books = [book([p7()], [line, *UNITS[1:]], []) for line in patterns]
         numbers = [number for number, _ in wakes_by_replay(programs, [(of, 1) for of in books])]
-        expect(numbers, [0, 0, 22, 0] + 252 * [22], "the list of numbers")
+        expect(numbers, wanted, "the list of numbers")
 
 
 def try_dry_book(programs, cases):
