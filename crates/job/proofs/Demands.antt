@@ -18,7 +18,7 @@ use Rattle.choice.specs.Tests.{choose}
 use Rattle.mass.specs.Figures.{kgOf, mustReport}
 use Rattle.rules.specs.declared.book.Head.{Head}
 use Rattle.rules.specs.declared.record.Outcome.the-variants.{SetAside}
-use Rattle.rules.specs.Bytes.{line, linesIn}
+use Rattle.rules.specs.Bytes.{line, lines, linesIn}
 use Rattle.rules.specs.Fields.{warmingSet}
 use Rattle.rules.specs.Book.{lengthOk, trailerOk, unitOk, fuelOk, linesSound, trailer, headOf, unitLines, fuelLines, refused, accepted, opened, SetApart}
 use Rattle.rules.specs.Record.{outcomeAt}
@@ -168,7 +168,7 @@ demand1 k c b out = record {
 pub record Demand2 (k : List ℕ) (h : Head) (c : List ℕ) : Type 0 where
   -- A record is set aside for the first reason that applies; if none does it gives, by its method, the masses of
   -- its amount, heat and carbon, or of its readings. `look` shows what becomes of it.
-  pub records : (i : ℕ) → Reasons (line i k) (linesIn (unitLines h k)) (linesIn (fuelLines h k)) (outcomeAt h k i)
+  pub records : (i : ℕ) → Reasons (lines i k) (line i k) (linesIn (unitLines h k)) (linesIn (fuelLines h k)) (outcomeAt h k i)
   pub looks : (i : ℕ) → i < h .n → sightAt k i ≡ shown (outcomeAt h k i)
   -- The ledgers are exact sums, in ng, of what each record gives by itself, and those set aside are counted.
   pub fossil : decode c .fossil ≡ sumTo (λ i. fossilOf (outcomeAt h k i)) (doneIn c)

@@ -1,7 +1,7 @@
 -- What one record does to a pile, whether its masses are summed or carried. Assumes nothing.
 use Prim.Native.Nat.{ℕ, _+_, _-_, _*_, _/_, _<_, _≤_}
 use mathlib.Core.List.{List}
-use mathlib.Core.Path.{_≡_, sym, ap, _∙_, subst}
+use mathlib.Core.Path.{_≡_, sym, ap, ap₂, _∙_, subst}
 use native.Mathlib.Nat.{add-zero}
 use native.Mathlib.Numerals.{add-one}
 use native.Mathlib.Omega.{arith}
@@ -20,6 +20,7 @@ use Rattle.job.specs.State.{State, after, run, ledgersOf}
 use Rattle.job.specs.Bounds.{FitFor, BoundedOutcome}
 use Rattle.job.specs.Tally.{tallyOf, stateOf}
 use Rattle.job.specs.Pile.{stateWith, stepped, Fit, Low, Share}
+use Rattle.job.proofs.StateLaws.{run-run, fitFor-run}
 use Rattle.job.proofs.TallyLaws.{stateOf-tallyOf, sound-ledgersOf, ledgersOf-after-aside}
 
 -- ---- what is added to a ledger
@@ -162,16 +163,22 @@ sound-begun h k t o e f p =
 pub place-lt : (h : Head) (k : List ℕ) (m : ℕ) → opened k ≡ accepted h → m ≤ h .n → m < 4294967296
 place-lt h k m o l = let known = accepted-facts k h o in omega arith
 
--- ---- the records of a run from place a on, of which d - a are gone through
+-- ---- the records of a run from place a on to u, of which d - a are gone through
 -- Over plain numbers, since at a need `omega` stops at the bounds of the ledgers.
-pub gone-none : (a n : ℕ) → (0 ≡ a - a) × (a ≤ a + n)
-gone-none a n = (omega arith, omega arith)
+pub gone-first : (a : ℕ) → 0 ≡ a - a
+gone-first a = omega arith
 
-pub gone-lt : (a d n : ℕ) → a ≤ d → d < a + n → d - a < n
-gone-lt a d n h l = omega arith
+pub gone-all : (a n : ℕ) → a + n - a ≡ n
+gone-all a n = omega arith
 
-pub gone-all : (a d n : ℕ) → d ≤ a + n → a + n ≤ d → d - a ≡ n
-gone-all a d n h l = omega arith
+pub gone-of : (a d u : ℕ) → a ≤ d → d < u → d - a < u - a
+gone-of a d u h l = omega arith
+
+pub gone-none : (a u n : ℕ) → a ≤ u → u ≤ n → a + (u - a) ≤ n
+gone-none a u n h l = omega arith
+
+pub gone-end : (d u n : ℕ) → d < u → u ≤ n → d < n
+gone-end d u n h l = omega arith
 
 -- A turn leads from d records done to e, in a run that ends at u.
 pub record Turn (a d e u : ℕ) : Type 0 where
@@ -179,16 +186,44 @@ pub record Turn (a d e u : ℕ) : Type 0 where
   pub on : e ≤ u
   pub less : u - e < u - d
   pub next : d - a + 1 ≡ e - a
+  pub one-more : e ≡ d + 1
 
 pub turn : (a d u : ℕ) {y : State} (x : State) (o : Outcome) → a ≤ d → d < u → d ≡ x .done → y ≡ after x o
     → Turn a d (y .done) u
 unfolding after
 turn a d u {y} x o h l p q =
     let one : y .done ≡ d + 1 = ap (λ (s : State). s .done) q ∙ ap (λ (n : ℕ). n + 1) (sym p) in
-    record { from = omega arith; on = omega arith; less = omega arith; next = omega arith }
+    record { from = omega arith; on = omega arith; less = omega arith; next = omega arith; one-more = one }
 
 pub run-suc : {x y : State} (h : Head) (k : List ℕ) (s : State) (i : ℕ) → x ≡ run h k s i
     → y ≡ after x (outcomeAt h k (x .done)) → y ≡ run h k s (i + 1)
 unfolding run
 run-suc h k s i e q =
     rw add-one (q ∙ ap (λ (z : State). after z (outcomeAt h k (z .done))) e)
+
+-- ---- a run in two legs: from place a to d, and from there on to u
+pub run-legs : {x y : State} (h : Head) (k : List ℕ) (s : State) (a d u : ℕ) → a ≤ d → d ≤ u → x ≡ run h k s (d - a)
+    → y ≡ run h k x (u - d) → y ≡ run h k s (u - a)
+run-legs h k s a d u l m e q =
+    let whole : d - a + (u - d) ≡ u - a = omega arith in
+    q
+    ∙ ap (λ (z : State). run h k z (u - d)) e
+    ∙ run-run h k s (d - a) (u - d)
+    ∙ ap (run h k s) whole
+
+-- What a pile stands for is done as far as its tally.
+pub fitFor-on : {x : State} (h : Head) (k : List ℕ) (s : State) (a d u : ℕ) → opened k ≡ accepted h → FitFor h s
+    → s .done ≡ a → a ≤ d → d ≤ u → u ≤ h .n → x ≡ run h k s (d - a) → FitFor h x
+fitFor-on h k s a d u o f e l m n q = subst (FitFor h) (sym q) (fitFor-run h k s (d - a) o (omega arith) f)
+
+-- ---- a pile that begins with the tally t, n records before the end
+pub on-begun : {q : Tally} (h : Head) (t : Tally) (n : ℕ) → q ≡ t → (n ≡ 0 → ⊥) → t .done + n ≤ h .n
+    → (q .done < t .done + n) × (t .done + n ≤ h .n)
+on-begun {q} h t n e some l = let same : q .done ≡ t .done = ap (λ (x : Tally). x .done) e in (omega arith, l)
+
+pub run-begun : {q : Tally} {x y : State} (h : Head) (k : List ℕ) (t : Tally) (n : ℕ) → q ≡ t → x ≡ stateOf t
+    → y ≡ run h k x (t .done + n - q .done) → y ≡ run h k (stateOf t) n
+run-begun {q} h k t n e f g =
+    let all : t .done + n - q .done ≡ n =
+    ap (λ (x : Tally). t .done + n - x .done) e ∙ gone-all (t .done) n in
+    g ∙ ap₂ (run h k) f all

@@ -5,5 +5,6 @@ pub mod checkpoint;
 mod put;
 pub mod reply;
 pub mod report;
+mod run;
 mod tally;
 pub mod wake;

@@ -3,20 +3,15 @@ use mass::Ng;
 use mass::Ug;
 use mass::ledger;
 use mass::ledger::Ledgers;
-use rules::book::Head;
 use rules::entry::Destination;
 use rules::entry::Entry;
-use rules::hints;
-use rules::record;
 use rules::record::Outcome;
 ghost use mathlib.Core.Bool.{true};
 ghost use mathlib.Core.Path.{_≡_};
-ghost use Prim.Native.Nat.{_+_, _*_, _<_, _≤_};
+ghost use Prim.Native.Nat.{_*_, _<_};
 ghost use Rattle.mass.specs.Figures.{AllSound};
-ghost use Rattle.rules.specs.Book.{opened, accepted};
-ghost use Rattle.rules.specs.Record.{outcomeAt};
-ghost use Rattle.job.specs.State.{toFossil, toBiomass, after, run, ledgersOf};
-ghost use Rattle.job.specs.Bounds.{FitFor, BoundedOutcome};
+ghost use Rattle.job.specs.State.{toFossil, toBiomass, after, ledgersOf};
+ghost use Rattle.job.specs.Bounds.{BoundedOutcome};
 ghost use Rattle.job.specs.Tally.{tallyOf, stateOf, ledgersAfter};
 ghost use Rattle.job.specs.Pile.{stateWith, stateIn, stepped, Fit, Low, Share};
 
@@ -47,44 +42,7 @@ pub struct Pile {
 // Below this are the masses of any record, and two such numbers fit 64 bits together.
 const HALF: u64 = 0x8000_0000_0000_0000;
 
-// The tally after the next n records.
-pub(crate) fn go_through(book: &[u8], h: Head, t: Tally, n: u32) -> Tally
-    requires opened { ⌜ opened (now book) ≡ accepted h ⌝ }
-    requires canonical { ⌜ t ≡ tallyOf (stateOf t) ⌝ }
-    requires fit { ⌜ FitFor h (stateOf t) ⌝ }
-    requires left { ⌜ t .done + n ≤ h .n ⌝ }
-    ensures run { λ r. ⌜ r ≡ tallyOf (run h (now (book .entry)) (stateOf t) n) ⌝ }
-{
-    // Hints are worth their table only for a record.
-    if n == 0 {
-        return t;
-    }
-    let units = hints::note_units(book, h);
-    let fuels = hints::note_fuels(book, h);
-    let until = t.done + n;
-    let mut place = t.done;
-    let mut p = begin(t);
-    while place < until {
-        p = take_next(book, h, p, &units, &fuels);
-        place = p.tally.done;
-    }
-    settle(p)
-}
-
-// The pile after the next record, with room for one more.
-fn take_next(book: &[u8], h: Head, p: Pile, units: &[u8], fuels: &[u8]) -> Pile
-    requires opened { ⌜ opened (now book) ≡ accepted h ⌝ }
-    requires fit { ⌜ FitFor h (stateIn p) × (p .tally .done < h .n) ⌝ }
-    requires sound { ⌜ AllSound (p .tally .ledgers) × Low (p .more) ⌝ }
-    ensures after { λ r. ⌜ stateIn r ≡ after (stateIn p) (outcomeAt h (now (book .entry)) (p .tally .done)) ⌝ }
-    ensures sound { λ r. ⌜ AllSound (r .tally .ledgers) × Low (r .more) ⌝ }
-{
-    let place = p.tally.done as usize;
-    let outcome = record::judge_by_hints(book, h, place, units, fuels);
-    make_room(add(p, outcome))
-}
-
-fn begin(t: Tally) -> Pile
+pub(crate) fn begin(t: Tally) -> Pile
     ensures nothing { λ r. ⌜ (r .tally ≡ t) × (stateIn r ≡ stateOf t) × Low (r .more) ⌝ }
 {
     Pile {
@@ -99,7 +57,7 @@ fn begin(t: Tally) -> Pile
 }
 
 // The tally with all that its ledgers are to get.
-fn settle(p: Pile) -> Tally
+pub(crate) fn settle(p: Pile) -> Tally
     requires sound { ⌜ AllSound (p .tally .ledgers) ⌝ }
     ensures settled { λ r. ⌜ r ≡ tallyOf (stateIn p) ⌝ }
 {
@@ -132,7 +90,7 @@ fn give(g: Ledgers, m: Masses) -> Ledgers
 }
 
 // A pile of the same state, with masses to which those of any record can be added.
-fn make_room(p: Pile) -> Pile
+pub(crate) fn make_room(p: Pile) -> Pile
     requires sound { ⌜ AllSound (p .tally .ledgers) × AllSound (ledgersOf (stateIn p)) ⌝ }
     ensures room { λ r. ⌜ (stateIn r ≡ stateIn p) × AllSound (r .tally .ledgers) × Low (r .more) ⌝ }
 {
@@ -161,7 +119,7 @@ fn are_low(m: Masses) -> bool
 }
 
 // The pile after one record more.
-fn add(p: Pile, o: Outcome) -> Pile
+pub(crate) fn add(p: Pile, o: Outcome) -> Pile
     requires sound { ⌜ AllSound (p .tally .ledgers) ⌝ }
     requires room { ⌜ (p .tally .done < 4294967295) × (p .tally .aside < 4294967295) ⌝ }
     requires low { ⌜ Low (p .more) × BoundedOutcome o ⌝ }

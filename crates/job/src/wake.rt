@@ -5,7 +5,7 @@ use crate::checkpoint;
 use crate::reply::Refusal;
 use crate::reply::Started;
 use crate::reply::Woken;
-use crate::tally;
+use crate::run;
 use crate::tally::Tally;
 use mass::Ng;
 use mass::ledger::Ledger;
@@ -105,7 +105,7 @@ fn wake_sound(book: &[u8], h: Head, from: &[u8], budget: u32, out: &mut [u8]) ->
     let t = checkpoint::read(from);
     let left = h.n as u32 - t.done;
     let n = take_lesser(budget, left);
-    checkpoint::write(h, tally::go_through(book, h, t, n), out);
+    checkpoint::write(h, run::go_through(book, h, t, n), out);
     Woken::Moved(n)
 }
 

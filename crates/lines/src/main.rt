@@ -4,6 +4,7 @@ use files::Got;
 use files::ended;
 use files::ended::Ended;
 use rules::reader;
+use rules::table;
 use text::lines;
 
 fn main() {
@@ -23,9 +24,10 @@ fn run() -> Ended {
 
 // Each step sees a record and leads to the next one; a refused book has one step.
 fn print_lines(book: &[u8]) -> Ended {
+    let mut table = [0u64; table::WIDE];
     let mut at = 0;
     loop {
-        let step = reader::take_step(book, at);
+        let step = reader::take_step(book, at, &mut table);
         let seen = step.seen;
         let printed = files::print_page(b"standard output", lines::tell_record(at, seen));
         if step.left == 0 || !ended::is_done(printed) {

@@ -1,9 +1,9 @@
 -- Of two books that differ in the set of warming values alone: if one is accepted and the other names a set, so is the
 -- other, with the same head but for the set, and what is seen of each record is the same in both. Assumes nothing.
-use Prim.Native.Nat.{ℕ, _+_, _-_, _*_, _/_, _%_, _<_, _≤_, min}
+use Prim.Native.Nat.{ℕ, suc, zero, _+_, _-_, _*_, _/_, _%_, _<_, _≤_, min}
 use mathlib.Core.Bool.{true}
-use mathlib.Core.List.{List}
-use mathlib.Core.Path.{_≡_, refl, sym, ap, _∙_}
+use mathlib.Core.List.{List, [], _∷_, _++_}
+use mathlib.Core.Path.{_≡_, refl, sym, ap, ap₂, _∙_}
 use native.Mathlib.Omega.{arith}
 use lib.Dec.{leb, ltb, eqb, lit≤}
 use lib.ListN.{length, drop, length-take, length-drop}
@@ -14,12 +14,12 @@ use Rattle.choice.proofs.TestsLaws.{also-t, also-l, also-r, choose-f}
 use Rattle.choice.proofs.Splitting.{if-lt}
 use Rattle.rules.specs.declared.book.Head.{Head}
 use Rattle.rules.specs.declared.record.Outcome.{Outcome}
-use Rattle.rules.specs.Bytes.{byte, word, part, linesIn}
+use Rattle.rules.specs.Bytes.{byte, word, part, lines, linesIn}
 use Rattle.rules.specs.Fields.{unitStart, fuelStart, year, warmingSetAt, warmingSet}
 use Rattle.rules.specs.Book.{longestBook, lengthOk, startsOk, trailerOk, unitOk, fuelOk, linesSound, trailer, headOf, unitLines, fuelLines, Answer, accepted, opened, SetApart}
-use Rattle.rules.specs.Record.{outcomeOf, outcomeAt}
+use Rattle.rules.specs.Record.{outcomeAfter, outcomeAt}
 use Rattle.rules.specs.Reader.{shown, missing, sightBy, sightAt}
-use Rattle.rules.proofs.BytesLaws.{word-same}
+use Rattle.rules.proofs.BytesLaws.{word-same, lines-suc}
 use Rattle.rules.proofs.NumberLaws.{opened-accepted}
 use Rattle.rules.proofs.BookLaws.{accepted-facts}
 
@@ -43,6 +43,15 @@ module _ {s s′ : List ℕ} (apart : SetApart s s′) where
       (λ i m.
       let within : a + i < e = omega (arith, length-part a e s′) in
       byte-part a e s′ i within ∙ sym (apart .others (a + i) (λ q. omega arith)) ∙ sym (byte-part a e s i within))
+
+  lines-apart : (n : ℕ) → 32 * n ≤ length s - 32 → lines n s′ ≡ lines n s
+  unfolding lines
+  lines-apart zero l = refl
+  lines-apart (suc n) l =
+      lines-suc n s′
+      ∙ ap₂ (λ (ls : List (List ℕ)) (x : List ℕ). ls ++ (x ∷ []))
+      (lines-apart n (omega arith)) (part-apart (32 * n) (32 * n + 32) (omega arith))
+      ∙ sym (lines-suc n s)
 
   -- ---- the trailer
   module _ (long : 32 ≤ length s) where
@@ -126,10 +135,11 @@ module _ {s s′ : List ℕ} (apart : SetApart s s′) where
     unfolding outcomeAt
     outcomeAt-apart w i l =
         let known = accepted-facts s h e in
+        let before = lines-apart i (omega arith) in
         let record-line = part-apart (32 * i) (32 * i + 32) (omega arith) in
         let units = part-apart (h .units) (h .fuels) (omega arith) in
         let fuels = part-apart (h .fuels) (h .length - 32) (omega arith) in
-        λ j. outcomeOf (record-line j) (linesIn (units j)) (linesIn (fuels j))
+        λ j. outcomeAfter (before j) (record-line j) (linesIn (units j)) (linesIn (fuels j))
 
     pub sightAt-apart : set′ ≤ 1 → (i : ℕ) → sightAt s′ i ≡ sightAt s i
     unfolding sightAt sightBy

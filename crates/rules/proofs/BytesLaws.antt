@@ -2,9 +2,10 @@
 -- nothing.
 use Prim.Native.Nat.{ℕ, suc, zero, _+_, _-_, _*_, _/_, _%_, _^_, _<_, _≤_, zero-le}
 use mathlib.Core.Bool.{true, false}
-use mathlib.Core.List.{List, [], _∷_}
+use mathlib.Core.List.{List, [], _∷_, _++_}
 use mathlib.Core.Path.{_≡_, refl, ap, ap₂, sym, _∙_, subst}
 use native.Mathlib.Nat.{sub-zero, zero-add, one-mul, mul-assoc, mul-zero, mul-le-mul-right, div-one, div-div-eq-div-mul, pow-succ', pow-le-pow-right, lt-of-lt-of-le, le-of-suc-le-suc}
+use native.Mathlib.Numerals.{add-one}
 use native.Mathlib.Omega.{arith}
 use lib.Bits.{bitOr, or-add-and, and-le-l, and-le-r}
 use lib.Dec.{eqb, lit<}
@@ -249,3 +250,14 @@ lines-next n i s h =
 pub lines-end : (n i : ℕ) (s : List ℕ) → n ≤ i → lines (n - i) s ≡ []
 unfolding lines
 lines-end n i s h = let none : n - i ≡ 0 = omega arith in rw none
+
+-- One line more.
+pub lines-suc : (n : ℕ) (s : List ℕ) → lines (suc n) s ≡ lines n s ++ (line n s ∷ [])
+unfolding lines
+lines-suc zero s = refl
+lines-suc (suc n) s =
+    ap (λ (ls : List (List ℕ)). take 32 s ∷ ls)
+    (lines-suc n (drop 32 s) ∙ ap (λ (l : List ℕ). lines n (drop 32 s) ++ (l ∷ [])) (sym (line-suc n s)))
+
+pub lines-snoc : (n : ℕ) (s : List ℕ) → lines (n + 1) s ≡ lines n s ++ (line n s ∷ [])
+lines-snoc n s = ap (λ (m : ℕ). lines m s) (add-one n) ∙ lines-suc n s

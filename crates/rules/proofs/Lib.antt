@@ -8,10 +8,17 @@ pub mod ApartLaws
 pub mod RightLaws
 pub mod ListingLaws
 pub mod HintsLaws
+pub mod RepeatLaws
+pub mod KeyLaws
+pub mod BitLaws
+pub mod TableLaws
+pub mod NotedLaws
 pub mod MethodLaws
 pub mod EntryLaws
 pub mod RecordLaws
+pub mod OnceLaws
 pub mod ListedLaws
+pub mod AloneLaws
 pub mod ReasonLaws
 pub mod ReaderLaws
 pub mod WalkLaws

@@ -21,7 +21,8 @@ use Rattle.rules.specs.Bytes.{zeros, line, lines, linesIn}
 use Rattle.rules.specs.Fields.{number}
 use Rattle.rules.specs.Book.{unitOk, fuelOk}
 use Rattle.rules.specs.Record.{listed}
-use Rattle.rules.specs.Listing.{lineOk, headOk, blankFrom, numberAt, place, Rising}
+use Rattle.rules.specs.Place.{place}
+use Rattle.rules.specs.Listing.{lineOk, headOk, blankFrom, numberAt, Rising}
 use Rattle.rules.proofs.BytesLaws.{line-suc}
 
 -- ---- a line by its named bytes and its blank
@@ -203,3 +204,15 @@ module _ (x k : ℕ) (rest : List ℕ → Outcome) where
 pub place-lt : {r : Found} {p : ℕ} (x : ℕ) (s : List ℕ) → r ≡ place x 0 (linesIn s) → r ≡ At p
     → p < length s / 32
 place-lt x s e q = listed-at x 0 (λ u. SetAside 0) s e refl q .0
+
+-- The line that was found has the number.
+pub place-number : {r : Found} {p : ℕ} (x : ℕ) (s : List ℕ) → r ≡ place x 0 (linesIn s) → r ≡ At p
+    → numberAt p s ≡ x
+unfolding linesIn
+place-number {r} {p} x s e q =
+    if-listed x (length s / 32) 0 s
+    (λ a. let never : _≡_ {A = ℕ} 0 1 = cc (a .place-is) in absurd (omega arith))
+    (λ i f.
+    let start : 0 + i ≡ p = cc (f .place-is) in
+    let same : i ≡ p = omega arith in
+    ap (λ (j : ℕ). numberAt j s) (sym same) ∙ f .has)

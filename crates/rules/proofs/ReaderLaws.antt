@@ -1,25 +1,29 @@
 -- The sight of each answer and of each record, that it is of one answer only, and that a way through
--- a book by steps ends. Assumes nothing.
-use Prim.Native.Nat.{ℕ, _-_, _<_, _≤_}
+-- a book by steps ends, with a table that follows it. Assumes nothing.
+use Prim.Native.Nat.{ℕ, _+_, _-_, _<_, _≤_}
 use mathlib.Core.List.{List}
 use mathlib.Core.Path.{_≡_, refl, sym, ap, subst, _∙_}
 use native.Mathlib.Omega.{arith}
 use lib.Dec.{eqb, ltb}
-use lib.ListN.{length}
+use lib.ListN.{length, replicate}
 use borrow.Author.Tests.{lt-ltb, ltb-false}
 use Rattle.choice.specs.Tests.{choose}
-use Rattle.choice.proofs.TestsLaws.{choose-t, if-choose, worked-out}
+use Rattle.choice.proofs.Splitting.{if-test}
+use Rattle.choice.proofs.TestsLaws.{choose-t, choose-f, if-choose, worked-out}
 use Rattle.rules.specs.declared.book.Head.{Head}
 use Rattle.rules.specs.declared.book.Fault.{Fault}
 use Rattle.rules.specs.declared.book.Fault.the-variants.{Length, Trailer, Units, Fuels}
 use Rattle.rules.specs.declared.reader.Seen.{Seen}
 use Rattle.rules.specs.declared.reader.Seen.the-variants.{Refused, Missing, Record}
 use Rattle.rules.specs.declared.record.Outcome.{Outcome}
-use Rattle.rules.specs.Book.{Answer, refused, accepted, opened, faultNumber}
+use Rattle.rules.specs.Bytes.{line, lines}
+use Rattle.rules.specs.Book.{unitLines, Answer, refused, accepted, opened, faultNumber}
 use Rattle.rules.specs.Record.{outcomeAt}
 use Rattle.rules.specs.Reader.{Sight, turnedAway, missing, shown, sightBy, sightAt, sight, leftBy, leftFrom, placeAfter}
+use Rattle.rules.specs.Table.{noting, notingBy, notingAt, Known, KnownAt}
 use Rattle.rules.proofs.BookLaws.{Accepted, accepted-facts}
 use Rattle.rules.proofs.NumberLaws.{opened-number}
+use Rattle.rules.proofs.TableLaws.{known-blank, known-next}
 use Rattle.rules.proofs.RecordLaws.{Within, within-outcomeAt}
 
 -- ---- the sight of each answer
@@ -96,3 +100,28 @@ unfolding leftFrom
 leftFrom-placeAfter-lt s i {j} after left some =
     subst (λ (x : ℕ). 0 < leftFrom s x → leftFrom s x < leftFrom s i) (sym after) (falls s i (opened s) refl)
     (omega (arith, left, some))
+
+-- ---- a table that follows a reader
+pub knownAt-blank : (s : List ℕ) (n : ℕ) → KnownAt s 0 (replicate n 0)
+knownAt-blank s n = record { of-book = λ h e l. known-blank s (unitLines h s) n }
+
+-- Noted at i, it is known at the place after.
+pub knownAt-placeAfter : {j : ℕ} {t′ : List ℕ} (s : List ℕ) (i : ℕ) (t : List ℕ) → j ≡ placeAfter s i
+    → t′ ≡ notingAt s i t → KnownAt s i t → KnownAt s j t′
+unfolding placeAfter notingAt notingBy
+knownAt-placeAfter {j} {t′} s i t after noted so-far = record { of-book = λ h e l. of-book h e l (accepted-facts s h e) }
+  where
+    of-book : (h : Head) → opened s ≡ accepted h → j ≤ h .n → Accepted s h → Known (lines j s) (unitLines h s) t′
+    of-book h e l facts =
+        if-test (ltb i (length s))
+        (λ on.
+        let next : j ≡ i + 1 = after ∙ choose-t _ on refl in
+        let there : i < h .n = omega arith in
+        let told : t′ ≡ noting (line i s) (unitLines h s) t =
+        noted ∙ ap (λ (a : Answer). notingBy a s i t) e ∙ choose-t _ (lt-ltb i (h .n) there) refl in
+        subst (λ (x : List ℕ). Known (lines j s) (unitLines h s) x) (sym told)
+        (subst (λ (x : ℕ). Known (lines x s) (unitLines h s) (noting (line i s) (unitLines h s) t)) (sym next)
+        (known-next s (unitLines h s) t i (so-far .of-book h e (omega arith)))))
+        (λ past.
+        let same : j ≡ i = after ∙ choose-f _ past refl in
+        absurd (omega (arith, same, l, ltb-false i (length s) past, facts .length-is, facts .n-is, facts .units-le, facts .fuels-le)))

@@ -1,6 +1,6 @@
 -- What becomes of a record, test by test, and that it is a reason or a bounded entry. Assumes nothing.
 use Prim.Native.Nat.{ℕ, _≤_}
-use mathlib.Core.Bool.{Bool, true, false}
+use mathlib.Core.Bool.{Bool, true, false, not}
 use mathlib.Core.List.{List, [], _∷_}
 use mathlib.Core.Path.{_≡_, refl}
 use lib.Dec.{eqb, ltb, lit≤}
@@ -18,7 +18,7 @@ use Rattle.rules.specs.Fields.{number, monitored, kind, unitNumber, fuel
 use Rattle.rules.specs.Book.{unitOk, fuelOk, linesOk, linesSound, unitLines, fuelLines, opened, accepted}
 use Rattle.rules.specs.Method.{methodOf}
 use Rattle.rules.specs.Entry.{heatInUse}
-use Rattle.rules.specs.Record.{lastReason, check, listed, fuelForm, hourForm, moistureForm, fuelRanges, hourRange, fuelJudged, fuelOutcome, hourRead, hourJudged, hourOutcome, outcomeOf, outcomeAt}
+use Rattle.rules.specs.Record.{lastReason, check, listed, fuelForm, hourForm, moistureForm, fuelRanges, hourRange, fuelJudged, fuelOutcome, hourRead, hourJudged, hourOutcome, outcomeOf, unlessRepeated, outcomeAfter, outcomeAt}
 use Rattle.rules.proofs.BookLaws.{accepted-facts}
 use Rattle.rules.proofs.EntryLaws.{Bounded, bounded-fuelEntry, bounded-hourEntry}
 
@@ -97,8 +97,14 @@ module _ (l units fuels : List ℕ) (U : linesSound unitOk units ≡ true) (F : 
       chosen _ _ (eqb (kind l) 1) within-fuelOutcome
       (within-check (eqb (kind l) 2) 1 _ (lit≤ tt) (lit≤ tt) (λ measured. within-hourOutcome))
 
+within-unlessRepeated : (b : Bool) (o : Outcome) → Within o → Within (unlessRepeated b o)
+unfolding unlessRepeated
+within-unlessRepeated b (SetAside k) w = w
+within-unlessRepeated b (Counted e) w = within-check (not b) 8 (Counted e) (lit≤ tt) (lit≤ tt) (λ first. w)
+
 pub within-outcomeAt : (h : Head) (s : List ℕ) (i : ℕ) → opened s ≡ accepted h → Within (outcomeAt h s i)
-unfolding outcomeAt
+unfolding outcomeAt outcomeAfter
 within-outcomeAt h s i e =
     let k = accepted-facts s h e in
-    within-outcomeOf (line i s) (unitLines h s) (fuelLines h s) (k .units-sound) (k .fuels-sound)
+    within-unlessRepeated _ _
+    (within-outcomeOf (line i s) (unitLines h s) (fuelLines h s) (k .units-sound) (k .fuels-sound))

@@ -1,16 +1,18 @@
 -- The book that docs/FORMAT.md prints, "One book": it is accepted, and its record is that of P1. A book
 -- of a trailer alone is accepted too, and one that names the second set of warming values. Assumes nothing.
 use Prim.Native.Nat.{ℕ}
+use mathlib.Core.Bool.{false}
 use mathlib.Core.List.{List, [], _∷_}
-use mathlib.Core.Path.{_≡_, refl, sym}
+use mathlib.Core.Path.{_≡_, refl, sym, ap₂, _∙_}
 use lib.Dec.{lit≤}
 use lib.ListN.{set}
 use lib.Seq.{getD-set-other}
-use Rattle.choice.proofs.TestsLaws.{worked-out}
+use Rattle.choice.proofs.TestsLaws.{choose-true, worked-out}
 use Rattle.rules.specs.declared.book.Head.{Head}
-use Rattle.rules.specs.Bytes.{word, bytesOf, lines, linesIn}
+use Rattle.rules.specs.Bytes.{word, bytesOf, line, lines, linesIn}
 use Rattle.rules.specs.Book.{lengthOk, startsOk, trailerOk, unitHeadOk, unitOk, kindClassOk, fuelHeadOk, fuelOk, linesOk, linesSound, headOf, accepted, opened, SetApart}
-use Rattle.rules.specs.Record.{outcomeAt}
+use Rattle.rules.specs.Repeat.{repeated}
+use Rattle.rules.specs.Record.{check, unlessRepeated, outcomeAfter, outcomeAt}
 use Rattle.rules.proofs.ApartLaws.{naming, opened-apart}
 use Rattle.rules.proofs.Cases.{counted, worked-sums}
 
@@ -36,9 +38,14 @@ unfolding
     unitOk unitHeadOk fuelOk fuelHeadOk kindClassOk
 opened-sampleBook = simp worked-out
 
+-- A fuel record repeats nothing.
+first-sampleBook : repeated (line 0 sampleBook) (lines 0 sampleBook) ≡ false
+unfolding sampleBook repeated
+first-sampleBook = simp worked-out
+
 pub outcomeAt-sampleBook : outcomeAt sampleHead sampleBook 0 ≡ counted 1 1900000000000 34200000000 3420000000
-unfolding sampleBook outcomeAt linesIn lines bytesOf
-outcomeAt-sampleBook = worked-sums .p1
+unfolding sampleBook outcomeAt outcomeAfter unlessRepeated check linesIn lines bytesOf
+outcomeAt-sampleBook = ap₂ unlessRepeated first-sampleBook (worked-sums .p1) ∙ choose-true _ _
 
 -- ---- the same, with the second set of warming values in byte 20 of its trailer
 abbrev pub secondBook : List ℕ

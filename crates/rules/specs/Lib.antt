@@ -1,14 +1,19 @@
--- What a reader must believe of a book and its records, in the order of RULES; then the hints, which
--- the contract of their functions needs.
+-- What a reader must believe of a book and its records, in the order of RULES; then the hints and the
+-- table, which the contracts of their functions need.
 pub mod Bytes
 pub mod Fields
 pub mod Book
 pub mod Right
 pub mod Method
 pub mod Entry
+pub mod Repeat
 pub mod Record
 pub mod Reason
 pub mod Reader
 pub mod Hints
+pub mod Place
+pub mod Table
 -- What serves the code alone.
 pub mod Listing
+pub mod Key
+pub mod Marks

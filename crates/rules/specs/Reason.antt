@@ -1,12 +1,12 @@
--- When each reason applies to a record, told by itself: of the record's line l, the unit lines and the
--- fuel lines, whatever else applies. RULES, "Reasons".
+-- When each reason applies to a record, told by itself: of the record's line l, the lines before it, the
+-- unit lines and the fuel lines, whatever else applies. RULES, "Reasons".
 --
---     FuelRecord l, MonitorHour l    the kind of the record
---     Listed x ls a                  a is a line of ls and has the number x
---     Lacks x ls                     no line of ls has it
---     Applies l units fuels k        reason k applies; each case is a ground for it
---     Reasons l units fuels o        o is the outcome that the reasons leave: the first that applies, or what
---                                    the record is worth if none does
+--     FuelRecord l, MonitorHour l      the kind of the record
+--     Listed x ls a                    a is a line of ls and has the number x
+--     Lacks x ls                       no line of ls has it
+--     Applies before l units fuels k   reason k applies; each case is a ground for it
+--     Reasons before l units fuels o   o is the outcome that the reasons leave: the first that applies, or what
+--                                      the record is worth if none does
 --
 -- A ground that asks for the record's unit or fuel goes by its listed line. Numbers of listed lines rise,
 -- so that there is one such line at most.
@@ -23,7 +23,7 @@ use Rattle.mass.specs.Hour.{hourOf}
 use Rattle.rules.specs.declared.entry.Entry.{Entry}
 use Rattle.rules.specs.declared.record.Outcome.{Outcome}
 use Rattle.rules.specs.declared.record.Outcome.the-variants.{SetAside, Counted}
-use Rattle.rules.specs.Fields.{number, monitored, kind, unitNumber, fuelNumber, percentBits, flowBits}
+use Rattle.rules.specs.Fields.{number, monitored, kind, unitNumber, fuelNumber, hour, percentBits, flowBits}
 use Rattle.rules.specs.Method.{methodOf}
 use Rattle.rules.specs.Entry.{heatInUse, fuelEntry, hourEntry}
 use Rattle.rules.specs.Record.{fuelForm, hourForm, moistureForm, fuelRanges, hourRange}
@@ -41,42 +41,45 @@ pub record Listed (x : ℕ) (ls : List (List ℕ)) (a : List ℕ) : Type 0 where
 abbrev pub Lacks : ℕ → List (List ℕ) → Type 0
 Lacks x ls = (a : List ℕ) → Listed x ls a → ⊥
 
-pub data Applies (l : List ℕ) (units fuels : List (List ℕ)) : ℕ → Type 0 where
+pub data Applies (before : List (List ℕ)) (l : List ℕ) (units fuels : List (List ℕ)) : ℕ → Type 0 where
   -- 1: kind, flags or a byte that must be 0.
-  wrongKind : (FuelRecord l → ⊥) → (MonitorHour l → ⊥) → Applies l units fuels 1
-  wrongFuelForm : FuelRecord l → fuelForm l ≡ false → Applies l units fuels 1
-  wrongHourForm : MonitorHour l → hourForm l ≡ false → Applies l units fuels 1
+  wrongKind : (FuelRecord l → ⊥) → (MonitorHour l → ⊥) → Applies before l units fuels 1
+  wrongFuelForm : FuelRecord l → fuelForm l ≡ false → Applies before l units fuels 1
+  wrongHourForm : MonitorHour l → hourForm l ≡ false → Applies before l units fuels 1
   -- What moisture an hour may have goes by its unit's line. Where there is none, 2 applies in place of this.
   wetMoisture : (u : List ℕ) → MonitorHour l → Listed (unitNumber l) units u → moistureForm l u ≡ false
-      → Applies l units fuels 1
+      → Applies before l units fuels 1
   -- 2: unit not listed.
-  noUnit : Lacks (unitNumber l) units → Applies l units fuels 2
+  noUnit : Lacks (unitNumber l) units → Applies before l units fuels 2
   -- 3: fuel not listed.
-  noFuel : FuelRecord l → Lacks (fuelNumber l) fuels → Applies l units fuels 3
+  noFuel : FuelRecord l → Lacks (fuelNumber l) fuels → Applies before l units fuels 3
   -- 4: month, amount, heat or carbon out of range, the limit of carbon being that of the fuel's kind, or a
   -- low heat of a fuel that isn't natural gas;
   fuelOutside : (f : List ℕ) → FuelRecord l → Listed (fuelNumber l) fuels f → fuelRanges l f ≡ false
-      → Applies l units fuels 4
+      → Applies before l units fuels 4
   -- hour, moisture or reading out of range.
-  hourOutside : MonitorHour l → hourRange l ≡ false → Applies l units fuels 4
+  hourOutside : MonitorHour l → hourRange l ≡ false → Applies before l units fuels 4
   readingOutside : (x : Float) → MonitorHour l → hourOf (percentBits l) (flowBits l) ≡ Unusable x
-      → Applies l units fuels 4
+      → Applies before l units fuels 4
   -- 5: hour for a unit without monitor.
   noMonitor : (u : List ℕ) → MonitorHour l → Listed (unitNumber l) units u → monitored u ≡ false
-      → Applies l units fuels 5
+      → Applies before l units fuels 5
   -- 6: no permitted method.
   noMethod : (u f : List ℕ) → FuelRecord l → Listed (unitNumber l) units u → Listed (fuelNumber l) fuels f
-      → methodOf l u f ≡ 0 → Applies l units fuels 6
+      → methodOf l u f ≡ 0 → Applies before l units fuels 6
   -- 7: no heat in use.
   noHeat : (f : List ℕ) → FuelRecord l → Listed (fuelNumber l) fuels f → heatInUse l f .0 ≡ 0
-      → Applies l units fuels 7
+      → Applies before l units fuels 7
+  -- 8: hour whose unit and number stand in an earlier record, whatever became of that one.
+  sentBefore : (e : List ℕ) → MonitorHour l → List·Memᴰ e before → MonitorHour e → unitNumber e ≡ unitNumber l
+      → hour e ≡ hour l → Applies before l units fuels 8
 
-pub record Reasons (l : List ℕ) (units fuels : List (List ℕ)) (o : Outcome) : Type 0 where
+pub record Reasons (before : List (List ℕ)) (l : List ℕ) (units fuels : List (List ℕ)) (o : Outcome) : Type 0 where
   -- It is set aside with reason k exactly when k applies and none before it does.
   pub set-aside : (k : ℕ) → (o ≡ SetAside k)
-      ↔ (Applies l units fuels k × ((j : ℕ) → j < k → Applies l units fuels j → ⊥))
+      ↔ (Applies before l units fuels k × ((j : ℕ) → j < k → Applies before l units fuels j → ⊥))
   -- It counts exactly when none applies.
-  pub counts : ((e : Entry) × (o ≡ Counted e)) ↔ ((k : ℕ) → Applies l units fuels k → ⊥)
+  pub counts : ((e : Entry) × (o ≡ Counted e)) ↔ ((k : ℕ) → Applies before l units fuels k → ⊥)
   -- A fuel record that counts gives what it is worth by the listed lines of its unit and its fuel,
   pub gives-fuel : (e : Entry) (u f : List ℕ) → o ≡ Counted e → FuelRecord l → Listed (unitNumber l) units u
       → Listed (fuelNumber l) fuels f → e ≡ fuelEntry l u f

@@ -1,4 +1,5 @@
--- What becomes of a record: of its line, the unit lines and the fuel lines. RULES, "Reasons".
+-- What becomes of a record: of its line, the lines before it, the unit lines and the fuel lines. RULES,
+-- "Reasons".
 --
 --     lastReason                   the highest reason
 --     check t k rest               rest if t passes, else the record is set aside with reason k
@@ -14,7 +15,10 @@
 --     hourRead l u x               what becomes of an hour with its readings judged
 --     hourJudged l u               what becomes of an hour once its unit is known
 --     hourOutcome l units          what becomes of a monitor hour
---     outcomeOf l units fuels      what becomes of a record
+--     outcomeOf l units fuels      what becomes of a record by its own line, whatever stands before it
+--     unlessRepeated b o           o; but a record that would count is set aside if it is repeated
+--     outcomeAfter before l units fuels
+--                                  what becomes of a record, the lines before it being `before`
 --     outcomeAt h s i              what becomes of record i of the book s with the head h
 --
 -- Laws: proofs/RecordLaws.antt. Definitions only.
@@ -29,14 +33,15 @@ use Rattle.mass.specs.Hour.{hourOf}
 use Rattle.rules.specs.declared.book.Head.{Head}
 use Rattle.rules.specs.declared.record.Outcome.{Outcome}
 use Rattle.rules.specs.declared.record.Outcome.the-variants.{SetAside, Counted}
-use Rattle.rules.specs.Bytes.{line, linesIn}
+use Rattle.rules.specs.Bytes.{line, lines, linesIn}
 use Rattle.rules.specs.Fields.{number, monitored, dry, fuelKind, fuelClass, kind, flags, unitNumber, fuelNumber, heatMeasured, carbonMeasured, heatLow, month, amount, heat, carbon, fuelRecordBlank, hour, percentBits, flowBits, moisture, hourBlank}
 use Rattle.rules.specs.Book.{unitLines, fuelLines}
 use Rattle.rules.specs.Method.{methodOf}
 use Rattle.rules.specs.Entry.{heatInUse, fuelEntry, hourEntry}
+use Rattle.rules.specs.Repeat.{repeated}
 
 abbrev pub lastReason : ℕ
-lastReason = 7
+lastReason = 8
 
 unfoldable pub check : Bool → ℕ → Outcome → Outcome
 check t k rest = choose t rest (SetAside k)
@@ -118,11 +123,19 @@ hourOutcome l units =
     (listed (unitNumber l) units 2 (λ u.
     hourJudged l u))
 
--- ---- any record
+-- ---- a record by itself
 unfoldable pub outcomeOf : List ℕ → List (List ℕ) → List (List ℕ) → Outcome
 outcomeOf l units fuels =
     choose (eqb (kind l) 1) (fuelOutcome l units fuels)
     (check (eqb (kind l) 2) 1 (hourOutcome l units))
 
+-- ---- reason 8: the same hour twice
+unfoldable pub unlessRepeated : Bool → Outcome → Outcome
+unlessRepeated b (SetAside k) = SetAside k
+unlessRepeated b (Counted e) = check (not b) 8 (Counted e)
+
+unfoldable pub outcomeAfter : List (List ℕ) → List ℕ → List (List ℕ) → List (List ℕ) → Outcome
+outcomeAfter before l units fuels = unlessRepeated (repeated l before) (outcomeOf l units fuels)
+
 unfoldable pub outcomeAt : Head → List ℕ → ℕ → Outcome
-outcomeAt h s i = outcomeOf (line i s) (linesIn (unitLines h s)) (linesIn (fuelLines h s))
+outcomeAt h s i = outcomeAfter (lines i s) (line i s) (linesIn (unitLines h s)) (linesIn (fuelLines h s))

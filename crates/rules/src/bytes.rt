@@ -66,7 +66,7 @@ fn read_two(s: &[u8], at: usize) -> u64
     low + 256 * high
 }
 
-fn widen(x: u8) -> u64
+pub(crate) fn widen(x: u8) -> u64
     ensures same { λ r. ⌜ (r ≡ x) × (r < 256) ⌝ }
 {
     x as u64

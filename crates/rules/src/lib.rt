@@ -8,3 +8,5 @@ mod listing;
 mod method;
 pub mod reader;
 pub mod record;
+mod repeat;
+pub mod table;

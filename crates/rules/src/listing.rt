@@ -6,7 +6,8 @@ ghost use Prim.Native.Nat.{_≤_};
 ghost use lib.ListN.{length};
 ghost use Rattle.rules.specs.Bytes.{linesIn};
 ghost use Rattle.rules.specs.Book.{unitHeadOk, kindClassOk, fuelHeadOk, linesSound};
-ghost use Rattle.rules.specs.Listing.{lineOk, place, Rising, headOk, blankFrom};
+ghost use Rattle.rules.specs.Place.{place};
+ghost use Rattle.rules.specs.Listing.{lineOk, Rising, headOk, blankFrom};
 
 pub enum Sort {
     Unit,

@@ -9,6 +9,7 @@ ghost use mathlib.Core.Path.{_≡_};
 ghost use Prim.Native.Nat.{_-_};
 ghost use Rattle.rules.specs.Book.{opened, accepted};
 ghost use Rattle.rules.specs.Reader.{sightBy, sightAt, sight, leftFrom, placeAfter, advanced};
+ghost use Rattle.rules.specs.Table.{notingBy, notingAt, KnownAt};
 
 pub enum Seen {
     // The bytes are no sound book.
@@ -35,6 +36,12 @@ pub struct Step {
     pub left: usize,
 }
 
+// Where a step leads: the place after it, and how many records are left from there on.
+struct Onward {
+    next: usize,
+    left: usize,
+}
+
 // Record i of a book.
 pub fn look(book: &[u8], i: usize) -> Seen
     ensures shown { λ r. ⌜ sight r ≡ sightAt (now (book .entry)) i ⌝ }
@@ -52,6 +59,31 @@ fn look_in(book: &[u8], h: Head, i: usize) -> Seen
     let n = h.n;
     if i < n {
         return Seen::Record(record::judge(book, h, i));
+    }
+    Seen::Missing
+}
+
+// The same by a table of the records before, to which this one is added.
+fn look_noted(book: &[u8], i: usize, table: &mut [u64]) -> Seen
+    requires known { ⌜ KnownAt (now book) i (now table) ⌝ }
+    ensures shown { λ r. ⌜ sight r ≡ sightAt (now (book .entry)) i ⌝ }
+    ensures noted { λ _. ⌜ now (table .exit) ≡ notingAt (now (book .entry)) i (now (table .entry)) ⌝ }
+{
+    match book::open(book) {
+        Opened::Wrong(fault) => Seen::Refused(fault),
+        Opened::Open(h) => look_noted_in(book, h, i, table),
+    }
+}
+
+fn look_noted_in(book: &[u8], h: Head, i: usize, table: &mut [u64]) -> Seen
+    requires opened { ⌜ opened (now book) ≡ accepted h ⌝ }
+    requires known { ⌜ KnownAt (now book) i (now table) ⌝ }
+    ensures shown { λ r. ⌜ sight r ≡ sightBy (accepted h) (now (book .entry)) i ⌝ }
+    ensures noted { λ _. ⌜ now (table .exit) ≡ notingBy (accepted h) (now (book .entry)) i (now (table .entry)) ⌝ }
+{
+    let n = h.n;
+    if i < n {
+        return Seen::Record(record::judge_next(book, h, i, book, book, table));
     }
     Seen::Missing
 }
@@ -107,17 +139,32 @@ pub fn advance<'a>(r: Reader<'a>) -> Reader<'a>
     Reader { book: r.book, next }
 }
 
-// The step of a reader that stands at a place. Its parameters are plain, so that no caller is proved
-// by hand.
-pub fn take_step(book: &[u8], at: usize) -> Step
+// The step at a place, by a table of the records before, to which the record is added. A blank table
+// serves at place 0, so that a book takes one pass.
+pub fn take_step(book: &[u8], at: usize, table: &mut [u64]) -> Step
+    requires known { ⌜ KnownAt (now book) at (now table) ⌝ }
     ensures shown { λ r. ⌜ sight (r .seen) ≡ sightAt (now (book .entry)) at ⌝ }
+    ensures after { λ r. ⌜ r .next ≡ placeAfter (now (book .entry)) at ⌝ }
+    ensures left { λ r. ⌜ r .left ≡ leftFrom (now (book .entry)) (r .next) ⌝ }
+    ensures noted { λ _. ⌜ now (table .exit) ≡ notingAt (now (book .entry)) at (now (table .entry)) ⌝ }
+{
+    let seen = look_noted(book, at, table);
+    let onward = go_past(book, at);
+    Step {
+        seen,
+        next: onward.next,
+        left: onward.left,
+    }
+}
+
+// Where a reader leads from a place. The parameters are plain, so that no caller is proved by hand.
+fn go_past(book: &[u8], at: usize) -> Onward
     ensures after { λ r. ⌜ r .next ≡ placeAfter (now (book .entry)) at ⌝ }
     ensures left { λ r. ⌜ r .left ≡ leftFrom (now (book .entry)) (r .next) ⌝ }
 {
     let r = Reader { book, next: at };
     let after = advance(r);
-    Step {
-        seen: look_next(r),
+    Onward {
         next: after.next,
         left: count_left(after),
     }

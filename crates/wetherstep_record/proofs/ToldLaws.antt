@@ -20,6 +20,7 @@ use Rattle.rules.proofs.ReaderLaws.{sightAt-each}
 use Rattle.wetherstep.specs.Face.{packed}
 use Rattle.wetherstep.proofs.FaceLaws.{packed-sum}
 use Rattle.wetherstep.proofs.ToldLaws.{toldNumber-packed, toldReason-packed}
+use Rattle.rules.specs.Record.{lastReason}
 use Rattle.wetherstep_record.specs.Face.{noRecord, ledgerNumber, recordWord, massesOf, massesAfter}
 use Rattle.wetherstep_record.specs.Told.{toldMethod, toldLedger, toldCounts, destinationTold, entryTold, recordTold}
 
@@ -55,7 +56,7 @@ toldCounts-missing =
     toldCounts-packed 0 0 noRecord 0 (lit< tt) (lit< tt) (lit< tt)
     ∙ also-t (also-t refl refl) refl
 
-toldCounts-aside : (k : ℕ) → 1 ≤ k → k ≤ 7 → toldCounts (recordWord (shown (SetAside k))) ≡ false
+toldCounts-aside : (k : ℕ) → 1 ≤ k → k ≤ lastReason → toldCounts (recordWord (shown (SetAside k))) ≡ false
 unfolding recordWord
 toldCounts-aside k l m =
     toldCounts-packed 0 k 0 0 (lit< tt) (omega arith) (lit< tt)

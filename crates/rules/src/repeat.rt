@@ -1,0 +1,87 @@
+// What becomes of an hour that was sent before, and whether it was, by a look at each earlier record.
+use crate::bytes;
+use crate::field;
+use crate::record::Outcome;
+ghost use mathlib.Core.Path.{_≡_};
+ghost use Prim.Native.Nat.{_/_, _<_, _≤_};
+ghost use lib.ListN.{length};
+ghost use Rattle.rules.specs.Bytes.{line, lines};
+ghost use Rattle.rules.specs.Repeat.{standsAmong, repeated};
+ghost use Rattle.rules.specs.Record.{unlessRepeated};
+ghost use Rattle.rules.specs.Key.{Start, Keyed};
+
+// Kind, unit and hour in the first eight bytes of a record.
+const MASK: u64 = 0xFFFF_0000_FFFF_00FF;
+
+// The outcome of record i, that of its own line being o. Only an hour that would count is looked for.
+pub(crate) fn look_back(book: &[u8], i: usize, o: Outcome) -> Outcome
+    requires there { ⌜ i < length (now book) / 32 ⌝ }
+    ensures outcome { λ r. ⌜ r ≡ unlessRepeated (repeated (line i (now (book .entry))) (lines i (now (book .entry)))) o ⌝ }
+{
+    match o {
+        Outcome::SetAside(_) => o,
+        Outcome::Counted(_) => withhold(o, is_repeated(book, i)),
+    }
+}
+
+pub(crate) fn withhold(o: Outcome, repeated: bool) -> Outcome
+    ensures outcome { λ r. ⌜ r ≡ unlessRepeated repeated o ⌝ }
+{
+    match o {
+        Outcome::SetAside(_) => o,
+        Outcome::Counted(_) => {
+            if repeated {
+                return Outcome::SetAside(8);
+            }
+            o
+        }
+    }
+}
+
+// Whether record i is an hour whose unit and number stand in an earlier record.
+fn is_repeated(book: &[u8], i: usize) -> bool
+    requires there { ⌜ i < length (now book) / 32 ⌝ }
+    ensures repeated { λ r. ⌜ r ≡ repeated (line i (now (book .entry))) (lines i (now (book .entry))) ⌝ }
+{
+    if field::kind(bytes::take_line(book, i)) != 2 {
+        return false;
+    }
+    does_stand(book, i)
+}
+
+// Whether kind, unit and hour of record i stand in an earlier one.
+fn does_stand(book: &[u8], i: usize) -> bool
+    requires there { ⌜ i < length (now book) / 32 ⌝ }
+    ensures stands { λ r. ⌜ r ≡ standsAmong (line i (now (book .entry))) (lines i (now (book .entry))) ⌝ }
+{
+    let key = read_key(bytes::take_line(book, i));
+    let mut j = 0;
+    while j < i {
+        if read_key(bytes::take_line(book, j)) == key {
+            return true;
+        }
+        j += 1;
+    }
+    false
+}
+
+fn read_key(l: &[u8]) -> u64
+    requires whole { ⌜ 32 ≤ length (now l) ⌝ }
+    ensures key { λ r. ⌜ Keyed (now (l .entry)) r ⌝ }
+{
+    read_start(l) & MASK
+}
+
+// The first eight bytes. They are read by fields, which the mask's proof tells apart, and compile to one
+// load.
+fn read_start(l: &[u8]) -> u64
+    requires whole { ⌜ 32 ≤ length (now l) ⌝ }
+    ensures start { λ r. ⌜ Start (now (l .entry)) r ⌝ }
+{
+    let kind = bytes::widen(l[0]);
+    let flags = bytes::widen(l[1]);
+    let unit = bytes::read_word(l, 2, 2);
+    let fuel = bytes::read_word(l, 4, 2);
+    let hour = bytes::read_word(l, 6, 2);
+    kind + 256 * flags + 65536 * unit + 4294967296 * fuel + 281474976710656 * hour
+}
