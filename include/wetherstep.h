@@ -23,9 +23,10 @@
  *
  * WHAT A CALL TAKES. The library keeps no state between calls, allocates nothing and doesn't call
  * the operating system. It is re-entrant: calls may run at once, each with buffers of its own to
- * write to, and may read the same book. Of the C library memcpy alone is linked. A call's stack in
- * bytes, measured by bench/run and not proved: fresh 320, wake 1,344, report 336, left 240, record
- * 192.
+ * write to, and may read the same book. Of the C library memcpy and memset alone are linked. A
+ * call's stack in bytes, measured by bench/run and not proved: fresh 320, wake 82,320, report 336,
+ * left 240, record 192. So much a wake takes only where it goes through many records with an hour
+ * among them, and else 1,888: a thread of 128 KiB has room for either.
  */
 #ifndef WETHERSTEP_H
 #define WETHERSTEP_H
@@ -93,6 +94,8 @@ static inline uint32_t wetherstep_count(uint64_t reply) { return (uint32_t)(repl
 #define WETHERSTEP_REASON_MONITOR 5  /* an hour of a unit without a monitor: correct unit or flag */
 #define WETHERSTEP_REASON_METHOD 6   /* no permitted method: give the carbon, or check the rating */
 #define WETHERSTEP_REASON_HEAT 7     /* no heat in use: give it, or give the fuel a default */
+#define WETHERSTEP_REASON_REPEAT 8   /* an hour that an earlier record has: keep the right one, and
+                                        take the others out */
 
 /* METHODS by which a record counts. */
 #define WETHERSTEP_METHOD_HOUR 0           /* none: a monitor hour, by its readings and moisture */
