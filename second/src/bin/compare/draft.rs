@@ -1,5 +1,7 @@
 //! Books written line by line, from the requirements' table of lines alone.
 
+use std::collections::HashMap;
+
 pub const LINE: usize = 32;
 pub const LONGEST_BOOK: usize = 65_536;
 
@@ -29,6 +31,11 @@ pub const DRY: u8 = 2;
 /// Where an hour has its moisture, in tenths of a percent, and the greatest.
 pub const MOISTURE_PLACE: usize = 16;
 pub const MOST_MOISTURE: u16 = 1_000;
+
+/// Byte 0 of an hour, where it has its number, and the greatest.
+pub const HOUR: u8 = 2;
+pub const HOUR_PLACE: usize = 6;
+pub const LAST_HOUR: u16 = 8_784;
 
 pub type Line = [u8; LINE];
 
@@ -156,9 +163,9 @@ impl Burnt {
 
 pub fn hour(unit: u16, hour: u16, percent: u32, flow: u32) -> Line {
     let mut line = [0; LINE];
-    line[0] = 2;
+    line[0] = HOUR;
     put(&mut line, 2, &unit.to_le_bytes());
-    put(&mut line, 6, &hour.to_le_bytes());
+    put(&mut line, HOUR_PLACE, &hour.to_le_bytes());
     put(&mut line, 8, &percent.to_le_bytes());
     put(&mut line, 12, &flow.to_le_bytes());
     line
@@ -169,6 +176,23 @@ pub fn with_moisture(hour: Line, moisture: u16) -> Line {
     let mut line = hour;
     put(&mut line, MOISTURE_PLACE, &moisture.to_le_bytes());
     line
+}
+
+/// The records with new numbers for the hours of each unit, from the last down,
+/// so that none repeats another. A number out of range is there to be seen, and
+/// stays.
+pub fn numbered_apart(mut records: Vec<Line>) -> Vec<Line> {
+    let mut next_numbers = HashMap::new();
+    for record in records.iter_mut().filter(|record| record[0] == HOUR) {
+        let number = u16::from_le_bytes([record[HOUR_PLACE], record[HOUR_PLACE + 1]]);
+        if (1..=LAST_HOUR).contains(&number) {
+            let unit = [record[2], record[3]];
+            let next = next_numbers.entry(unit).or_insert(LAST_HOUR);
+            put(record, HOUR_PLACE, &next.to_le_bytes());
+            *next -= 1;
+        }
+    }
+    records
 }
 
 pub fn put(bytes: &mut [u8], place: usize, value: &[u8]) {

@@ -138,16 +138,18 @@ fn vary(
     Ok(())
 }
 
-/// Two fields of a record wrong at once show which reason comes first.
+/// Two fields of a record wrong at once show which reason comes first. Each record
+/// has a book of its own, for an hour would repeat the one before it.
 fn pairs(exchange: &mut Exchange, base: &Draft, fields: &[Field], record: usize) -> Outcome<()> {
     for (first, one) in fields.iter().enumerate() {
         for other in &fields[first + 1..] {
-            let records = pair_records(base.records[record], one, other);
-            let draft = Draft {
-                records,
-                ..base.clone()
-            };
-            job::records(exchange, &draft.bytes(), draft.records.len())?;
+            for record in pair_records(base.records[record], one, other) {
+                let draft = Draft {
+                    records: vec![record],
+                    ..base.clone()
+                };
+                job::records(exchange, &draft.bytes(), 1)?;
+            }
         }
     }
     Ok(())

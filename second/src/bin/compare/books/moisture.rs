@@ -8,7 +8,7 @@ mod unit_flags;
 mod units;
 mod values;
 
-use crate::draft::{dry_unit, unit, Draft, Line, FIRST_SET};
+use crate::draft::{dry_unit, numbered_apart, unit, Draft, Line, FIRST_SET};
 use crate::exchange::{Exchange, Outcome};
 use crate::expectation::{Expectation, Field};
 use crate::job;
@@ -31,10 +31,11 @@ pub fn run(exchange: &mut Exchange, rng: &mut Random) -> Outcome<()> {
     readings::run(exchange, rng)
 }
 
-/// A book of the three sorts of unit and these records.
+/// A book of the three sorts of unit and these records, whose hours are numbered
+/// apart.
 fn book(records: Vec<Line>) -> Draft {
     Draft {
-        records,
+        records: numbered_apart(records),
         units: vec![
             unit(WET, true, 2_500),
             dry_unit(DRY, 2_500),

@@ -1,6 +1,6 @@
 //! Monitor hours: every pair of special readings, halves of R, random ones.
 
-use crate::draft::{hour, unit, Draft, Line, FIRST_SET};
+use crate::draft::{hour, numbered_apart, unit, Draft, Line, FIRST_SET};
 use crate::exchange::{Exchange, Outcome};
 use crate::job;
 use crate::near_halves::{large_near_half, near_half, near_half_of_one};
@@ -50,10 +50,10 @@ pub fn run(exchange: &mut Exchange, rng: &mut Random) -> Outcome<()> {
 fn compare(exchange: &mut Exchange, rng: &mut Random, pairs: &[[u32; 2]]) -> Outcome<()> {
     let mut record = |&[percent, flow]: &[u32; 2]| -> Line {
         let unit = if rng.one_in(16) { 2 } else { 1 };
-        hour(unit, 1 + rng.below(8_784) as u16, percent, flow)
+        hour(unit, 1, percent, flow)
     };
     let draft = Draft {
-        records: pairs.iter().map(&mut record).collect(),
+        records: numbered_apart(pairs.iter().map(&mut record).collect()),
         units: vec![unit(1, true, 2_500), unit(2, false, 2_500)],
         fuels: Vec::new(),
         year: 2012,

@@ -2,7 +2,7 @@
 
 use second::replay::LONGEST_PART;
 
-use crate::draft::{unit, Draft, FuelLine, FIRST_SET, LINE, LONGEST_BOOK};
+use crate::draft::{numbered_apart, unit, Draft, FuelLine, FIRST_SET, LINE, LONGEST_BOOK};
 use crate::exchange::{Exchange, Outcome};
 use crate::expectation::Field;
 use crate::job;
@@ -70,9 +70,8 @@ fn listing(units: u16, fuels: u16) -> Draft {
 fn many_lines(exchange: &mut Exchange, rng: &mut Random) -> Outcome<()> {
     for (units, fuels, number) in [(64, 64, 0), (65, 64, 22), (64, 65, 23), (65, 65, 22)] {
         let mut draft = listing(units, fuels);
-        draft.records = (0..200)
-            .map(|_| random_books::good_record(rng, &draft))
-            .collect();
+        let records = (0..200).map(|_| random_books::good_record(rng, &draft));
+        draft.records = numbered_apart(records.collect());
         let book = draft.bytes();
         let frame_of_first = vec![Field::Number.is(number)];
         job::record(exchange, &book, 0, frame_of_first)?;

@@ -5,7 +5,9 @@
 use second::bytes::u16_at;
 
 use super::{brought, every_budget, older, BOOKS};
-use crate::draft::{dry_unit, hour, with_moisture, Draft, Line, DRY, FIRST_SET, MONITORED};
+use crate::draft::{
+    dry_unit, hour, numbered_apart, with_moisture, Draft, Line, DRY, FIRST_SET, HOUR, MONITORED,
+};
 use crate::exchange::{Exchange, Outcome};
 use crate::expectation::{Expectation, Field};
 use crate::job::{self, CHECKPOINT};
@@ -52,6 +54,7 @@ fn book(rng: &mut Random) -> Draft {
         let hour = about_a_half(rng, u16_at(&draft.units[0], 0));
         draft.records.insert(place, hour);
     }
+    draft.records = numbered_apart(draft.records);
     draft
 }
 
@@ -59,8 +62,7 @@ fn about_a_half(rng: &mut Random, unit: u16) -> Line {
     let multiple = odd_multiple(rng);
     let pair = rng.pick(&[near_half, large_near_half, near_half_of_one]);
     let [percent, flow] = pair(rng, multiple);
-    let number = 1 + rng.below(8_784) as u16;
-    with_moisture(hour(unit, number, percent, flow), 1_000 - multiple)
+    with_moisture(hour(unit, 1, percent, flow), 1_000 - multiple)
 }
 
 fn with_wet_units(draft: &Draft) -> Draft {
@@ -70,7 +72,7 @@ fn with_wet_units(draft: &Draft) -> Draft {
 }
 
 fn without_moisture(mut draft: Draft) -> Draft {
-    let hours = draft.records.iter_mut().filter(|record| record[0] == 2);
+    let hours = draft.records.iter_mut().filter(|record| record[0] == HOUR);
     hours.for_each(|hour| *hour = with_moisture(*hour, 0));
     draft
 }
@@ -84,7 +86,7 @@ const KG_PER_HOUR: u64 = 6_475;
 fn changed_flag(exchange: &mut Exchange, rng: &mut Random) -> Outcome<()> {
     let moist = with_moisture(hour(1, 1, 0x4148_0000, 0x49F4_2400), 500);
     let draft = Draft {
-        records: vec![moist; HOURS as usize],
+        records: numbered_apart(vec![moist; HOURS as usize]),
         units: vec![dry_unit(1, 2_500)],
         fuels: Vec::new(),
         year: 2015,
