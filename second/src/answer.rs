@@ -3,7 +3,7 @@
 
 use crate::book::Book;
 use crate::checkpoint::{Checkpoint, LENGTH};
-use crate::record::judge;
+use crate::record::judged_from;
 use crate::refusal::Refusal;
 use crate::report::Report;
 
@@ -90,7 +90,7 @@ pub fn one_record(book: &[u8], index: u32) -> [u8; HEAD] {
         Err(refusal) => return refused(refusal),
     };
     let mut head = [0; HEAD];
-    match book.record(index).map(|line| judge(&book, line)) {
+    match judged_from(&book, index).next() {
         None => head[2] = NO_SUCH_RECORD,
         Some(Err(reason)) => head[1] = reason as u8,
         Some(Ok(addition)) => {
@@ -133,10 +133,9 @@ pub fn reported(book: &[u8], checkpoint: &[u8]) -> Result<Report, Refusal> {
 }
 
 fn advance(book: &Book, before: Checkpoint, budget: u32) -> Checkpoint {
-    let end = book.record_count().min(before.done.saturating_add(budget));
     let mut checkpoint = before;
-    for line in (before.done..end).filter_map(|index| book.record(index)) {
-        checkpoint.take(judge(book, line));
+    for judged in judged_from(book, before.done).take(budget as usize) {
+        checkpoint.take(judged);
     }
     checkpoint
 }

@@ -44,9 +44,9 @@ impl<'a> Book<'a> {
         (self.records.len() / LINE) as u32
     }
 
-    /// The line of record `index`, counting from 0.
-    pub fn record(&self, index: u32) -> Option<&'a [u8]> {
-        self.records.chunks(LINE).nth(index as usize)
+    /// The lines of all records.
+    pub fn records(&self) -> impl Iterator<Item = &'a [u8]> {
+        self.records.chunks(LINE)
     }
 
     pub fn unit(&self, number: u16) -> Option<&Unit> {

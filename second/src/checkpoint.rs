@@ -3,7 +3,7 @@
 use crate::book::Book;
 use crate::bytes::{all_zero, u16_at, u32_at, u64_at};
 use crate::ledger::{Ledgers, NG_PER_TONNE};
-use crate::record::{Addition, Reason};
+use crate::record::Judged;
 use crate::refusal::Refusal;
 
 pub const LENGTH: usize = 96;
@@ -64,7 +64,7 @@ impl Checkpoint {
         let first_is_sound = if self.set_aside == 0 {
             self.first == 0 && self.reason == 0
         } else {
-            self.first < self.done && (1..=7).contains(&self.reason)
+            self.first < self.done && (1..=8).contains(&self.reason)
         };
         self.book_length == book.length
             && self.year == book.year
@@ -74,7 +74,7 @@ impl Checkpoint {
     }
 
     /// Takes in the record at place `done`.
-    pub fn take(&mut self, judged: Result<Addition, Reason>) {
+    pub fn take(&mut self, judged: Judged) {
         match judged {
             Ok(addition) => self.ledgers.add(&addition),
             Err(reason) => {

@@ -4,7 +4,7 @@ use crate::book::Book;
 use crate::bytes::{all_zero, u16_at, u32_at};
 use crate::lines::{Fuel, Monitor, Unit, DISTILLATE_OIL, GAS, NATURAL_GAS, PURE_BIOMASS};
 use crate::measured_heat::MeasuredHeat;
-use crate::record::{Addition, Co2Ledger, Reason};
+use crate::record::{Addition, Co2Ledger, Judged, Reason};
 
 /// 250.0 MMBtu/h, in tenths.
 const LARGE_UNIT_ABOVE: u32 = 2_500;
@@ -18,7 +18,7 @@ struct FuelRecord {
     measured_carbon: Option<u32>,
 }
 
-pub fn judge(book: &Book, line: &[u8]) -> Result<Addition, Reason> {
+pub fn judge(book: &Book, line: &[u8]) -> Judged {
     let record = FuelRecord::read(line).ok_or(Reason::Form)?;
     let unit = book.unit(u16_at(line, 2)).ok_or(Reason::UnitNotListed)?;
     let fuel = book.fuel(u16_at(line, 4)).ok_or(Reason::FuelNotListed)?;

@@ -1,6 +1,7 @@
 //! One record: what it adds, or the reason why it is set aside.
 
 use crate::book::Book;
+use crate::earlier_hours::EarlierHours;
 use crate::{fuel_record, hour};
 
 /// Why a record is set aside; the values are the requirements', "first that
@@ -15,6 +16,7 @@ pub enum Reason {
     HourWithoutMonitor = 5,
     NoPermittedMethod = 6,
     NoHeatInUse = 7,
+    HourRepeated = 8,
 }
 
 /// Where the CO2 of a record goes; the values are those of an answer's byte 3.
@@ -38,10 +40,26 @@ pub struct Addition {
     pub n2o_ng: u64,
 }
 
-const FUEL_RECORD: u8 = 1;
-const MONITOR_HOUR: u8 = 2;
+pub type Judged = Result<Addition, Reason>;
 
-pub fn judge(book: &Book, line: &[u8]) -> Result<Addition, Reason> {
+const FUEL_RECORD: u8 = 1;
+pub const MONITOR_HOUR: u8 = 2;
+
+/// Each record from `place` on, by itself and by what stands before it.
+pub fn judged_from<'a>(book: &'a Book<'a>, place: u32) -> impl Iterator<Item = Judged> + 'a {
+    let mut earlier = EarlierHours::before(book, place);
+    book.records().skip(place as usize).map(move |line| {
+        let is_repeated = earlier.go_through(line);
+        judge(book, line).and_then(|addition| match is_repeated {
+            true => Err(Reason::HourRepeated),
+            false => Ok(addition),
+        })
+    })
+}
+
+/// A record by itself: every reason but the one that asks what stands before it,
+/// which no other comes after.
+pub fn judge(book: &Book, line: &[u8]) -> Judged {
     match line[0] {
         FUEL_RECORD => fuel_record::judge(book, line),
         MONITOR_HOUR => hour::judge(book, line),

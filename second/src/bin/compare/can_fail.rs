@@ -85,7 +85,7 @@ caught! {
     subtracts_all_biomass_always by ALL;
     clears_the_output_when_it_refuses by ALL;
     wakes_to_the_end_whatever_the_budget by ["books", "damage", "histories"];
-    knows_eight_reasons by ["damage", "histories"];
+    knows_nine_reasons by ["damage", "histories"];
     overlooks_the_last_byte_of_lines by ["books", "damage", "histories"];
     minds_the_output_buffer_first by ["histories"];
     tells_the_records_done_as_left by ALL;

@@ -34,8 +34,8 @@ pub struct Counts {
     calls: [u64; 4],
     numbers: [u64; NUMBERS.len()],
     numbers_of_left: [u64; NUMBERS_OF_LEFT.len()],
-    reasons_of_records: [u64; 7],
-    reasons_of_refusals: [u64; 7],
+    reasons_of_records: [u64; 8],
+    reasons_of_refusals: [u64; 8],
     methods: [u64; METHODS.len()],
     ledgers: [u64; 3],
     percents: [u64; CLASSES.len()],
@@ -97,7 +97,7 @@ impl Counts {
         if reason == 0 {
             self.rounding.count(line);
         }
-        if ![0, 4, 5].contains(&reason) {
+        if ![0, 4, 5, 8].contains(&reason) {
             return;
         }
         let percent = class(u32_at(line, 8), PERCENT_LIMIT);
@@ -114,7 +114,7 @@ impl Counts {
             names.zip(counts.iter().copied()).collect()
         };
         let numbers = NUMBERS.iter().map(u8::to_string).zip(self.numbers);
-        let reasons = ["1", "2", "3", "4", "5", "6", "7"];
+        let reasons = ["1", "2", "3", "4", "5", "6", "7", "8"];
         let methods = ["0 (hour)", "1", "2", "3", "4", "none (no such record)"];
         let calls = ["fresh", "wake", "report", "one record"];
         let mut table = vec![

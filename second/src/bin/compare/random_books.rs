@@ -2,6 +2,7 @@
 
 use second::book::Book;
 use second::bytes::u16_at;
+use second::earlier_hours::EarlierHours;
 use second::record::judge;
 
 use crate::draft::{
@@ -47,10 +48,11 @@ pub fn book(rng: &mut Random) -> Draft {
 pub fn counted_records(rng: &mut Random, listing: &Draft, count: usize) -> Vec<Line> {
     let bytes = listing.bytes();
     let book = Book::read(&bytes).expect("the listing is sound");
+    let mut earlier = EarlierHours::default();
     let mut records = Vec::new();
     while records.len() < count {
         let record = good_record(rng, listing);
-        if judge(&book, &record).is_ok() {
+        if judge(&book, &record).is_ok() && !earlier.go_through(&record) {
             records.push(record);
         }
     }

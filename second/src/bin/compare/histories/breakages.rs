@@ -55,9 +55,9 @@ pub const BREAKAGES: [(&str, Breaking); 14] = [
         set_one_aside(checkpoint, count);
         checkpoint[12] = 0;
     }),
-    ("reason 8 or more", |rng, checkpoint, count| {
+    ("reason 9 or more", |rng, checkpoint, count| {
         set_one_aside(checkpoint, count);
-        checkpoint[12] = rng.pick(&[8, 9, 255]);
+        checkpoint[12] = rng.pick(&[9, 10, 255]);
     }),
     ("none set aside, but an index", |_, checkpoint, count| {
         put_word(checkpoint, 0, count);
@@ -67,7 +67,7 @@ pub const BREAKAGES: [(&str, Breaking); 14] = [
     }),
     ("none set aside, but a reason", |rng, checkpoint, _| {
         set_none_aside(checkpoint);
-        checkpoint[12] = 1 + rng.below(7) as u8;
+        checkpoint[12] = 1 + rng.below(8) as u8;
     }),
     ("a rest of 10^15 ng", |rng, checkpoint, _| {
         let place = rng.pick(&LEDGERS) + 8;

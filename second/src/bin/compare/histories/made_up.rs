@@ -70,7 +70,7 @@ fn sound(rng: &mut Random, draft: &Draft) -> Vec<u8> {
     if set_aside > 0 {
         let first = rng.below(done) as u32;
         put(&mut checkpoint, 8, &first.to_le_bytes());
-        checkpoint[12] = 1 + rng.below(7) as u8;
+        checkpoint[12] = 1 + rng.below(8) as u8;
     }
     fill_ledgers(rng, &mut checkpoint, TONNES_PER_RECORD * done);
     let length = draft.bytes().len() as u32;

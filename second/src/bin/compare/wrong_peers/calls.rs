@@ -66,11 +66,11 @@ pub fn wakes_to_the_end_whatever_the_budget(frame: &Frame) -> Answer {
     answer(&greedy)
 }
 
-/// That is, believes a checkpoint whose reason is 8.
-pub fn knows_eight_reasons(frame: &Frame) -> Answer {
+/// That is, believes a checkpoint whose reason is 9.
+pub fn knows_nine_reasons(frame: &Frame) -> Answer {
     let mut checkpoint = frame.checkpoint.to_vec();
-    if checkpoint.get(12) == Some(&8) {
-        checkpoint[12] = 7;
+    if checkpoint.get(12) == Some(&9) {
+        checkpoint[12] = 8;
     }
     answer(&Frame {
         checkpoint: &checkpoint,

@@ -4,9 +4,9 @@ use second::answer::{Answer, Frame};
 use second::book::Book;
 use second::bytes::{u16_at, u32_at};
 use second::lines::{Fuel, GAS};
-use second::record::{judge, Addition, Reason};
+use second::record::{judge, Addition, Judged, Reason};
 
-use super::records::{judging, Judged};
+use super::records::judging;
 use crate::draft::{put, CARBON_MEASURED, HEAT_IS_LOW, HEAT_MEASURED, MOST_LOW_HEAT, NATURAL_GAS};
 
 const FUEL_RECORD: u8 = 1;

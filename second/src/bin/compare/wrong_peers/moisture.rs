@@ -5,10 +5,10 @@ use second::book::Book;
 use second::bytes::{u16_at, u32_at};
 use second::hour::{moisture, product};
 use second::lines::Monitor;
-use second::record::{judge, Addition, Reason};
+use second::record::{judge, Addition, Judged, Reason};
 use second::single::{usable_reading, Product};
 
-use super::records::{judging, Judged};
+use super::records::judging;
 use crate::draft::{put, MOISTURE_PLACE, MOST_MOISTURE};
 
 const HOUR: u8 = 2;

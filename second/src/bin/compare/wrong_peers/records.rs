@@ -1,34 +1,56 @@
 //! Programs that judge records wrongly.
 
+use std::ops::Range;
+
 use second::answer::{answer, Answer, Call, Frame};
 use second::book::Book;
 use second::bytes::{u16_at, u32_at};
 use second::checkpoint::Checkpoint;
-use second::record::{judge, Addition, Co2Ledger, Reason};
+use second::earlier_hours::EarlierHours;
+use second::record::{judge, Addition, Co2Ledger, Judged, Reason};
 
 use crate::draft::put;
 
-pub(super) type Judged = Result<Addition, Reason>;
-
-/// A job done with a wrong judge of records: call 4 and wakes.
+/// A job done with a wrong judge of single records; which hours are repeated it
+/// sees rightly.
 pub(super) fn judging(frame: &Frame, wrong: impl Fn(&Book, &[u8]) -> Judged) -> Answer {
+    judging_ranges(frame, |book, range| {
+        let mut earlier = EarlierHours::before(book, range.start as u32);
+        let lines = book.records().take(range.end).skip(range.start);
+        let judged = lines.map(|line| {
+            let is_repeated = earlier.go_through(line);
+            wrong(book, line).and_then(|addition| match is_repeated {
+                true => Err(Reason::HourRepeated),
+                false => Ok(addition),
+            })
+        });
+        judged.collect()
+    })
+}
+
+/// A job done with a wrong judge of the records whose indices are in a range:
+/// call 4 and wakes.
+pub(super) fn judging_ranges(
+    frame: &Frame,
+    wrong: impl Fn(&Book, Range<usize>) -> Vec<Judged>,
+) -> Answer {
     let mut answered = answer(frame);
     let Ok(book) = Book::read(frame.book) else {
         return answered;
     };
     match frame.call {
-        Call::Record => {
-            if let Some(line) = book.record(frame.argument) {
-                put_judged(&mut answered, wrong(&book, line));
-            }
+        Call::Record if frame.argument < book.record_count() => {
+            let index = frame.argument as usize;
+            let judged = wrong(&book, index..index + 1);
+            put_judged(&mut answered, judged[0]);
         }
         Call::Wake if answered.head[0] == 0 => {
             let mut checkpoint =
                 Checkpoint::read(frame.checkpoint, &book).expect("the wake was accepted");
             let moved = frame.argument.min(book.record_count() - checkpoint.done);
-            for index in checkpoint.done..checkpoint.done + moved {
-                let line = book.record(index).expect("the index is below n");
-                checkpoint.take(wrong(&book, line));
+            let range = checkpoint.done as usize..(checkpoint.done + moved) as usize;
+            for judged in wrong(&book, range) {
+                checkpoint.take(judged);
             }
             answered.output = checkpoint.bytes().to_vec();
         }
