@@ -7,6 +7,7 @@ mod low_heat;
 mod methods;
 mod moisture;
 mod readings;
+mod repeats;
 mod sizes;
 mod warming;
 
@@ -15,6 +16,7 @@ use crate::random::Random;
 use crate::random_books;
 
 pub fn run(exchange: &mut Exchange, rng: &mut Random) -> Outcome<()> {
+    repeats::run(exchange, rng)?;
     limits::run(exchange, rng)?;
     methods::run(exchange, rng)?;
     low_heat::run(exchange, rng)?;
@@ -23,5 +25,6 @@ pub fn run(exchange: &mut Exchange, rng: &mut Random) -> Outcome<()> {
     warming::run(exchange, rng)?;
     readings::run(exchange, rng)?;
     sizes::run(exchange, rng)?;
+    repeats::full_books(exchange, rng)?;
     random_books::run(exchange, rng)
 }

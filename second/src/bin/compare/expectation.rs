@@ -79,6 +79,15 @@ pub fn report(figures: [u64; 5], must_report: bool) -> Vec<Expectation> {
     ]
 }
 
+/// A report that is withheld, for the first record set aside and its reason.
+pub fn withheld(first: u64, reason: u64) -> Vec<Expectation> {
+    vec![
+        Field::Number.is(41),
+        Field::Count.is(first),
+        Field::Reason.is(reason),
+    ]
+}
+
 impl Expectation {
     /// What is wrong with an answer, if anything.
     pub fn complaint(&self, head: &[u8; HEAD]) -> Option<String> {

@@ -20,6 +20,7 @@ mod near_halves;
 mod public_figures;
 mod random;
 mod random_books;
+mod repeats;
 mod run;
 mod sample;
 mod specials;

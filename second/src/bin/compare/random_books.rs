@@ -6,8 +6,8 @@ use second::earlier_hours::EarlierHours;
 use second::record::judge;
 
 use crate::draft::{
-    dry_unit, hour, unit, with_moisture, Burnt, Draft, FuelLine, Line, DRY, LINE, MOISTURE_PLACE,
-    MONITORED, MOST_LOW_HEAT, MOST_MOISTURE, NATURAL_GAS, SETS,
+    dry_unit, hour, put, unit, with_moisture, Burnt, Draft, FuelLine, Line, DRY, HOUR, LINE,
+    MOISTURE_PLACE, MONITORED, MOST_LOW_HEAT, MOST_MOISTURE, NATURAL_GAS, SETS,
 };
 use crate::exchange::{Exchange, Outcome};
 use crate::job;
@@ -26,7 +26,8 @@ pub fn run(exchange: &mut Exchange, rng: &mut Random) -> Outcome<()> {
 }
 
 /// A book of up to 40 records. Half of the books have only records that are
-/// counted, so that reports with figures are as common as refusals.
+/// counted, so that reports with figures are as common as refusals; half of the
+/// others have hours again that stand in earlier records.
 pub fn book(rng: &mut Random) -> Draft {
     let mut draft = listing(rng);
     let count = rng.index(40);
@@ -34,10 +35,13 @@ pub fn book(rng: &mut Random) -> Draft {
         draft.records = counted_records(rng, &draft, count);
         return draft;
     }
+    let has_echoes = rng.one_in(2);
     for _ in 0..count {
-        let record = match rng.below(3) {
-            0 => wild_record(rng, &draft),
-            _ => good_record(rng, &draft),
+        let echo = (has_echoes && rng.one_in(3)).then(|| echo(rng, &draft.records));
+        let record = match (echo.flatten(), rng.below(3)) {
+            (Some(echo), _) => echo,
+            (None, 0) => wild_record(rng, &draft),
+            (None, _) => good_record(rng, &draft),
         };
         draft.records.push(record);
     }
@@ -166,6 +170,30 @@ fn low_heat(rng: &mut Random) -> u32 {
         true => rng.within(MOST_LOW_HEAT),
         false => 100 * rng.below(u64::from(hundreds)) as u32 + rng.pick(&[49, 50, 51]),
     }
+}
+
+/// A record after one of these hours, if there is one: the same hour in the same
+/// bytes or with something else in the others, or one that is near to it.
+fn echo(rng: &mut Random, records: &[Line]) -> Option<Line> {
+    let hours = records.iter().copied().filter(|record| record[0] == HOUR);
+    let hours: Vec<Line> = hours.collect();
+    if hours.is_empty() {
+        return None;
+    }
+    let mut line = rng.pick(&hours);
+    match rng.below(6) {
+        0 => line[0] = rng.pick(&[0, 1, 3]),
+        1 => line[rng.pick(&[2, 3, 6, 7])] ^= 1 << rng.below(8),
+        2 => line[rng.pick(&[1, 4, 5, MOISTURE_PLACE, LINE - 1])] ^= 1 << rng.below(8),
+        3 => put(
+            &mut line,
+            8,
+            &rng.pick(&singles(PERCENT_LIMIT)).to_le_bytes(),
+        ),
+        4 => put(&mut line, 12, &0x3F80_0000u32.to_le_bytes()),
+        _ => {}
+    }
+    Some(line)
 }
 
 /// A record with anything at or past its edges.

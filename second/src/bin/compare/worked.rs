@@ -3,6 +3,7 @@
 
 mod low_heat;
 mod moisture;
+mod repeats;
 mod reports;
 mod rounding;
 
@@ -186,7 +187,8 @@ pub fn run(exchange: &mut Exchange, rng: &mut Random) -> Outcome<()> {
             job::whole(exchange, rng, &book, printed.clone())?;
         }
     }
-    reports::run(exchange, rng)
+    reports::run(exchange, rng)?;
+    repeats::run(exchange, rng)
 }
 
 #[cfg(test)]

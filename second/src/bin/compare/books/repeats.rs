@@ -1,0 +1,69 @@
+//! Hours that stand in an earlier record: of every sort, of any unit and number,
+//! next to each other and as far apart as a book allows.
+
+mod ends;
+mod full;
+mod many;
+mod near_misses;
+mod sorts;
+
+pub use full::run as full_books;
+
+use crate::draft::Line;
+use crate::exchange::{Exchange, Outcome};
+use crate::job::{self, CHECKPOINT};
+use crate::random::Random;
+use crate::repeats::{self, of_reason, Judged, Key};
+
+/// A book of so many records is cut at each place, a longer one at one place.
+const FEW: usize = 4;
+
+pub fn run(exchange: &mut Exchange, rng: &mut Random) -> Outcome<()> {
+    sorts::run(exchange, rng)?;
+    near_misses::run(exchange, rng)?;
+    ends::run(exchange, rng)?;
+    many::run(exchange, rng)
+}
+
+fn held_hours(exchange: &mut Exchange, rng: &mut Random, keys: &[Key]) -> Outcome<()> {
+    let records = repeats::judged(keys);
+    held(exchange, rng, &repeats::units_of(keys), &records)
+}
+
+/// Every record by itself, and the job in one wake and in two.
+fn held(
+    exchange: &mut Exchange,
+    rng: &mut Random,
+    units: &[Line],
+    records: &[Judged],
+) -> Outcome<()> {
+    let book = repeats::book(units, records);
+    for (index, (_, reason)) in (0..).zip(records) {
+        job::record(exchange, &book, index, of_reason(*reason))?;
+    }
+    job::whole(exchange, rng, &book, repeats::told(records))?;
+    let cuts = match records.len() {
+        count @ ..=FEW => (1..count).collect(),
+        count => vec![1 + rng.index(count - 1)],
+    };
+    for cut in cuts {
+        in_two_wakes(exchange, rng, &book, cut, records)?;
+    }
+    Ok(())
+}
+
+fn in_two_wakes(
+    exchange: &mut Exchange,
+    rng: &mut Random,
+    book: &[u8],
+    cut: usize,
+    records: &[Judged],
+) -> Outcome<()> {
+    let junk = rng.junk(CHECKPOINT);
+    let start = job::fresh(exchange, book, &junk)?;
+    let middle = job::wake(exchange, book, &start.output, cut as u32, &junk)?;
+    let end = job::wake(exchange, book, &middle.output, u32::MAX, &junk)?;
+    let report = job::report_frame(book, &end.output, &[]);
+    exchange.hold(&report, repeats::told(records))?;
+    Ok(())
+}
