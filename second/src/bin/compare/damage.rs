@@ -7,13 +7,20 @@ use crate::draft::{Draft, LINE};
 use crate::exchange::{Exchange, Outcome};
 use crate::job::{self, CHECKPOINT};
 use crate::random::Random;
-use crate::sample::{small_book, small_book_with_low_heat};
+use crate::sample::{small_book, small_book_with_low_heat, small_book_with_repeats};
 use edits::Edit;
 
 const RANDOM_TIMES: usize = 12_000;
+const RANDOM_TIMES_PER_BOOK: usize = 6_000;
 
 /// In the small book.
 const HOUR_WITH_MOISTURE: usize = 4;
+
+/// In the small book with repeats.
+const REPEATED: [(usize, &str); 2] = [
+    (0, "an hour that is repeated"),
+    (3, "an hour that repeats another"),
+];
 
 /// The small book, and checkpoints within and after its run.
 struct Sound {
@@ -47,6 +54,11 @@ pub fn run(exchange: &mut Exchange, rng: &mut Random) -> Outcome<()> {
     draft.records[1][6] = 13;
     let with_one_set_aside = sound(exchange, draft)?;
     let with_low_heat = sound(exchange, small_book_with_low_heat())?;
+    let with_repeats = sound(exchange, small_book_with_repeats())?;
+    for (line, name) in REPEATED {
+        exchange.case(format!("every value of every byte of {name}"));
+        single_bytes_of_line(exchange, rng, &with_repeats, line)?;
+    }
     exchange.case("every value of every byte of an hour with moisture");
     single_bytes_of_line(exchange, rng, &whole, HOUR_WITH_MOISTURE)?;
     exchange.case("every value of every byte of a fuel record with a low heat value");
@@ -60,8 +72,9 @@ pub fn run(exchange: &mut Exchange, rng: &mut Random) -> Outcome<()> {
     }
     single_bytes_of_checkpoints(exchange, rng, &whole, "all counted")?;
     single_bytes_of_checkpoints(exchange, rng, &with_one_set_aside, "one set aside")?;
+    single_bytes_of_checkpoints(exchange, rng, &with_repeats, "two repeated")?;
     lengths(exchange, rng, &whole)?;
-    random_in_book(exchange, rng, &[&whole, &with_low_heat])?;
+    random_in_book(exchange, rng, &[&whole, &with_low_heat, &with_repeats])?;
     random_in_checkpoints(exchange, rng, &[whole, with_one_set_aside])
 }
 
@@ -161,7 +174,7 @@ fn lengths(exchange: &mut Exchange, rng: &mut Random, sound: &Sound) -> Outcome<
 
 /// In books that have as many lines of each kind.
 fn random_in_book(exchange: &mut Exchange, rng: &mut Random, sounds: &[&Sound]) -> Outcome<()> {
-    let times = RANDOM_TIMES * exchange.run.settings.times;
+    let times = RANDOM_TIMES_PER_BOOK * sounds.len() * exchange.run.settings.times;
     let records = 0..LINE * sounds[0].draft.records.len();
     let everywhere = 0..sounds[0].book.len();
     let kinds: [(&str, Edit, _); 4] = [

@@ -4,6 +4,7 @@ mod breakages;
 mod changed_set;
 mod dry_units;
 mod made_up;
+mod repeats;
 mod smallest;
 
 use std::collections::BTreeMap;
@@ -19,6 +20,7 @@ const WAKES: usize = 24;
 
 pub fn run(exchange: &mut Exchange, rng: &mut Random) -> Outcome<()> {
     smallest::run(exchange, rng)?;
+    repeats::run(exchange, rng)?;
     dry_units::run(exchange, rng)?;
     exchange.case("wakes of random budgets from older checkpoints");
     for _ in 0..BOOKS * exchange.run.settings.times {

@@ -1,6 +1,6 @@
 //! A small sound book that has every kind of line.
 
-use crate::draft::{dry_unit, hour, unit, with_moisture, Burnt, Draft, FuelLine, FIRST_SET};
+use crate::draft::{dry_unit, hour, put, unit, with_moisture, Burnt, Draft, FuelLine, FIRST_SET};
 
 const UNMEASURED: Burnt = Burnt {
     unit: 1,
@@ -64,5 +64,16 @@ pub fn small_book_with_low_heat() -> Draft {
     };
     let mut draft = small_book();
     draft.records[0] = gas.line();
+    draft
+}
+
+/// The same, but each hour stands in an earlier record too, with 25 percent: records
+/// 3 and 4 repeat 0 and 1.
+pub fn small_book_with_repeats() -> Draft {
+    let mut draft = small_book();
+    for (first, repeat) in [(0, 3), (1, 4)] {
+        draft.records[first] = draft.records[repeat];
+        put(&mut draft.records[first], 8, &25f32.to_le_bytes());
+    }
     draft
 }

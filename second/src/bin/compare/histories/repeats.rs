@@ -1,0 +1,71 @@
+//! Jobs over books in which hours are repeated: within a wake and across wakes,
+//! from older checkpoints, from ones that no wake made, and after the book was
+//! edited. The earlier records are in the book and not in the checkpoint.
+
+mod budgets;
+mod edited;
+mod past_the_first;
+
+use super::{brought, every_budget, older, record_by_record, BOOKS};
+use crate::draft::{put, Draft, Line, HOUR, MONITORED};
+use crate::exchange::{Exchange, Outcome};
+use crate::random::Random;
+use crate::random_books;
+
+pub fn run(exchange: &mut Exchange, rng: &mut Random) -> Outcome<()> {
+    past_the_first::run(exchange, rng)?;
+    edited::run(exchange, rng)?;
+    let times = exchange.run.settings.times;
+    exchange.case("repeats, wakes of random budgets from older checkpoints");
+    for _ in 0..BOOKS / 15 * times {
+        let book = book(rng).bytes();
+        older(exchange, rng, &[book])?;
+    }
+    exchange.case("repeats, every budget from 0 to past n, and the greatest");
+    for _ in 0..BOOKS / 100 * times {
+        let draft = book(rng);
+        every_budget(exchange, rng, &draft)?;
+    }
+    exchange.case("repeats, record by record");
+    for _ in 0..BOOKS / 30 * times {
+        let draft = book(rng);
+        record_by_record(exchange, rng, &draft)?;
+    }
+    exchange.case("repeats, checkpoints of another book, length or year");
+    for _ in 0..BOOKS / 15 * times {
+        let (one, other) = (book(rng), book(rng));
+        let shuffled = in_another_order(rng, &one);
+        brought(exchange, rng, &one, &other)?;
+        brought(exchange, rng, &one, &shuffled)?;
+    }
+    budgets::run(exchange, rng)
+}
+
+/// Records that count, and among them hours again, half of them with another percent.
+fn book(rng: &mut Random) -> Draft {
+    let mut draft = random_books::listing(rng);
+    draft.units[0][2] = MONITORED;
+    let count = 4 + rng.index(16);
+    draft.records = random_books::counted_records(rng, &draft, count);
+    let is_hour = |record: &Line| record[0] == HOUR;
+    let hours: Vec<Line> = draft.records.iter().copied().filter(is_hour).collect();
+    for _ in 0..hours.len().min(6) {
+        let mut again = rng.pick(&hours);
+        if rng.one_in(2) {
+            put(&mut again, 8, &0x3F80_0000u32.to_le_bytes());
+        }
+        let place = rng.index(draft.records.len() + 1);
+        draft.records.insert(place, again);
+    }
+    draft
+}
+
+/// The first and the later of a pair may change places.
+fn in_another_order(rng: &mut Random, draft: &Draft) -> Draft {
+    let mut other = draft.clone();
+    let count = other.records.len();
+    for place in 1..count {
+        other.records.swap(place, rng.index(place + 1));
+    }
+    other
+}

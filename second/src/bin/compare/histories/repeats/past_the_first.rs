@@ -1,0 +1,82 @@
+//! Checkpoints that no wake made, whose place lies past the first of a pair, and ones
+//! that name each reason there is and each that there isn't.
+
+use second::answer::{Call, Frame};
+
+use crate::draft::put;
+use crate::exchange::{Exchange, Outcome};
+use crate::expectation::{withheld, Expectation, Field};
+use crate::job::{self, CHECKPOINT};
+use crate::random::Random;
+use crate::repeats::{self, Judged, Key, COUNTED, KG_PER_HOUR};
+
+const UNSOUND: u64 = 31;
+const REASONS: std::ops::RangeInclusive<u8> = 1..=8;
+
+const HOURS: [Key; 7] = [(1, 1), (1, 2), (1, 1), (2, 2), (1, 2), (1, 1), (2, 1)];
+
+pub fn run(exchange: &mut Exchange, rng: &mut Random) -> Outcome<()> {
+    let records = repeats::judged(&HOURS);
+    let book = repeats::book(&repeats::units_of(&HOURS), &records);
+    let junk = rng.junk(CHECKPOINT);
+    let start = job::fresh(exchange, &book, &junk)?.output.clone();
+    exchange.case("a place past the first of a pair that no wake came to");
+    for place in 0..=records.len() {
+        let mut checkpoint = start.clone();
+        checkpoint[0] = place as u8;
+        gone_on(exchange, &book, &checkpoint, told_from(&records, place))?;
+    }
+    exchange.case("checkpoints that name every reason from 0 to 255");
+    for place in 1..=records.len() {
+        for reason in 0..=u8::MAX {
+            let mut checkpoint = start.clone();
+            put(&mut checkpoint, 0, &[place as u8, 0, 0, 0, 1]);
+            checkpoint[12] = reason;
+            let told = match REASONS.contains(&reason) {
+                true => withheld(0, u64::from(reason)),
+                false => vec![Field::Number.is(UNSOUND)],
+            };
+            gone_on(exchange, &book, &checkpoint, told)?;
+        }
+    }
+    Ok(())
+}
+
+/// The report where none was set aside before a place and nothing added.
+fn told_from(records: &[Judged], place: usize) -> Vec<Expectation> {
+    let reasons = || records.iter().map(|(_, reason)| *reason).skip(place);
+    let first = (place as u64..)
+        .zip(reasons())
+        .find(|(_, reason)| *reason != COUNTED);
+    match first {
+        Some((index, reason)) => withheld(index, reason),
+        None => vec![
+            Field::Number.is(0),
+            Field::FossilKg.is(KG_PER_HOUR * reasons().count() as u64),
+        ],
+    }
+}
+
+/// By one wake and by two, the first of one record.
+fn gone_on(
+    exchange: &mut Exchange,
+    book: &[u8],
+    checkpoint: &[u8],
+    told: Vec<Expectation>,
+) -> Outcome<()> {
+    for first_budget in [u32::MAX, 1] {
+        let wake = Frame {
+            call: Call::Wake,
+            argument: first_budget,
+            book,
+            checkpoint,
+            // What a wake that is refused leaves there is no sounder.
+            output: checkpoint,
+        };
+        let first = exchange.ask(&wake)?;
+        let last = job::wake(exchange, book, &first.output, u32::MAX, checkpoint)?;
+        let report = job::report_frame(book, &last.output, &[]);
+        exchange.hold(&report, told.clone())?;
+    }
+    Ok(())
+}
