@@ -16,9 +16,9 @@ use crate::random::Random;
 use crate::random_books;
 
 pub fn run(exchange: &mut Exchange, rng: &mut Random) -> Outcome<()> {
-    repeats::run(exchange, rng)?;
     limits::run(exchange, rng)?;
     methods::run(exchange, rng)?;
+    repeats::run(exchange, rng)?;
     low_heat::run(exchange, rng)?;
     moisture::run(exchange, rng)?;
     decisions::run(exchange, rng)?;

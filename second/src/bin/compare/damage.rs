@@ -2,25 +2,19 @@
 //! its run, every length, and random damage of several bytes.
 
 mod edits;
+mod repeats;
 
 use crate::draft::{Draft, LINE};
 use crate::exchange::{Exchange, Outcome};
 use crate::job::{self, CHECKPOINT};
 use crate::random::Random;
-use crate::sample::{small_book, small_book_with_low_heat, small_book_with_repeats};
+use crate::sample::{small_book, small_book_with_low_heat};
 use edits::Edit;
 
 const RANDOM_TIMES: usize = 12_000;
-const RANDOM_TIMES_PER_BOOK: usize = 6_000;
 
 /// In the small book.
 const HOUR_WITH_MOISTURE: usize = 4;
-
-/// In the small book with repeats.
-const REPEATED: [(usize, &str); 2] = [
-    (0, "an hour that is repeated"),
-    (3, "an hour that repeats another"),
-];
 
 /// The small book, and checkpoints within and after its run.
 struct Sound {
@@ -30,12 +24,13 @@ struct Sound {
     end: Vec<u8>,
 }
 
-/// The run is made by asking, so that its calls are compared too.
-fn sound(exchange: &mut Exchange, draft: Draft) -> Outcome<Sound> {
+/// In two wakes, the first of so many records. The run is made by asking, so that its
+/// calls are compared too.
+fn sound(exchange: &mut Exchange, draft: Draft, first_budget: u32) -> Outcome<Sound> {
     let book = draft.bytes();
     let junk = [0xA5; CHECKPOINT];
     let start = job::fresh(exchange, &book, &junk)?;
-    let middle = job::wake(exchange, &book, &start.output, 2, &junk)?;
+    let middle = job::wake(exchange, &book, &start.output, first_budget, &junk)?;
     let end = job::wake(exchange, &book, &middle.output, u32::MAX, &junk)?;
     Ok(Sound {
         draft,
@@ -47,22 +42,19 @@ fn sound(exchange: &mut Exchange, draft: Draft) -> Outcome<Sound> {
 
 pub fn run(exchange: &mut Exchange, rng: &mut Random) -> Outcome<()> {
     exchange.case("the sound run");
-    let whole = sound(exchange, small_book())?;
+    let whole = sound(exchange, small_book(), 2)?;
     // A month of 13 sets record 1 aside, so that its index and reason stand
     // in the checkpoints.
     let mut draft = small_book();
     draft.records[1][6] = 13;
-    let with_one_set_aside = sound(exchange, draft)?;
-    let with_low_heat = sound(exchange, small_book_with_low_heat())?;
-    let with_repeats = sound(exchange, small_book_with_repeats())?;
-    for (line, name) in REPEATED {
-        exchange.case(format!("every value of every byte of {name}"));
-        single_bytes_of_line(exchange, rng, &with_repeats, line)?;
-    }
+    let with_one_set_aside = sound(exchange, draft, 2)?;
+    let with_low_heat = sound(exchange, small_book_with_low_heat(), 2)?;
+    let with_repeats = repeats::sound_run(exchange, rng)?;
     exchange.case("every value of every byte of an hour with moisture");
     single_bytes_of_line(exchange, rng, &whole, HOUR_WITH_MOISTURE)?;
     exchange.case("every value of every byte of a fuel record with a low heat value");
     single_bytes_of_line(exchange, rng, &with_low_heat, 0)?;
+    repeats::run(exchange, rng, &with_repeats)?;
     let lines = 0..whole.book.len() / LINE;
     for line in lines.filter(|&line| line != HOUR_WITH_MOISTURE) {
         exchange.case(format!(
@@ -70,11 +62,17 @@ pub fn run(exchange: &mut Exchange, rng: &mut Random) -> Outcome<()> {
         ));
         single_bytes_of_line(exchange, rng, &whole, line)?;
     }
-    single_bytes_of_checkpoints(exchange, rng, &whole, "all counted")?;
-    single_bytes_of_checkpoints(exchange, rng, &with_one_set_aside, "one set aside")?;
-    single_bytes_of_checkpoints(exchange, rng, &with_repeats, "two repeated")?;
+    for (run, sound) in [
+        ("all counted", &whole),
+        ("one set aside", &with_one_set_aside),
+    ] {
+        let middle = format!("the checkpoint at the middle, {run}");
+        single_bytes_of_checkpoint(exchange, rng, &sound.book, &sound.middle, &middle)?;
+        let end = format!("the checkpoint at the end, {run}");
+        single_bytes_of_checkpoint(exchange, rng, &sound.book, &sound.end, &end)?;
+    }
     lengths(exchange, rng, &whole)?;
-    random_in_book(exchange, rng, &[&whole, &with_low_heat, &with_repeats])?;
+    random_in_book(exchange, rng, &[&whole, &with_low_heat])?;
     random_in_checkpoints(exchange, rng, &[whole, with_one_set_aside])
 }
 
@@ -121,24 +119,21 @@ fn with_checkpoint(
     Ok(())
 }
 
-fn single_bytes_of_checkpoints(
+fn single_bytes_of_checkpoint(
     exchange: &mut Exchange,
     rng: &mut Random,
-    sound: &Sound,
-    run: &str,
+    book: &[u8],
+    original: &[u8],
+    name: &str,
 ) -> Outcome<()> {
-    for (name, original) in [("middle", &sound.middle), ("end", &sound.end)] {
-        exchange.case(format!(
-            "every value of every byte of the checkpoint at the {name}, {run}"
-        ));
-        let mut checkpoint = original.clone();
-        for place in 0..CHECKPOINT {
-            for value in 0..=255 {
-                checkpoint[place] = value;
-                with_checkpoint(exchange, rng, &sound.book, &checkpoint)?;
-            }
-            checkpoint[place] = original[place];
+    exchange.case(format!("every value of every byte of {name}"));
+    let mut checkpoint = original.to_vec();
+    for place in 0..CHECKPOINT {
+        for value in 0..=255 {
+            checkpoint[place] = value;
+            with_checkpoint(exchange, rng, book, &checkpoint)?;
         }
+        checkpoint[place] = original[place];
     }
     Ok(())
 }
@@ -174,7 +169,7 @@ fn lengths(exchange: &mut Exchange, rng: &mut Random, sound: &Sound) -> Outcome<
 
 /// In books that have as many lines of each kind.
 fn random_in_book(exchange: &mut Exchange, rng: &mut Random, sounds: &[&Sound]) -> Outcome<()> {
-    let times = RANDOM_TIMES_PER_BOOK * sounds.len() * exchange.run.settings.times;
+    let times = RANDOM_TIMES * exchange.run.settings.times;
     let records = 0..LINE * sounds[0].draft.records.len();
     let everywhere = 0..sounds[0].book.len();
     let kinds: [(&str, Edit, _); 4] = [

@@ -20,8 +20,8 @@ const WAKES: usize = 24;
 
 pub fn run(exchange: &mut Exchange, rng: &mut Random) -> Outcome<()> {
     smallest::run(exchange, rng)?;
-    repeats::run(exchange, rng)?;
     dry_units::run(exchange, rng)?;
+    repeats::run(exchange, rng)?;
     exchange.case("wakes of random budgets from older checkpoints");
     for _ in 0..BOOKS * exchange.run.settings.times {
         let book = random_books::book(rng).bytes();
@@ -42,7 +42,8 @@ pub fn run(exchange: &mut Exchange, rng: &mut Random) -> Outcome<()> {
         foreign(exchange, rng)?;
     }
     made_up::run(exchange, rng)?;
-    changed_set::run(exchange, rng)
+    changed_set::run(exchange, rng)?;
+    repeats::full_books(exchange, rng)
 }
 
 fn budget(rng: &mut Random) -> u32 {

@@ -174,7 +174,7 @@ fn low_heat(rng: &mut Random) -> u32 {
 
 /// A record after one of these hours, if there is one: the same hour in the same
 /// bytes or with something else in the others, or one that is near to it.
-fn echo(rng: &mut Random, records: &[Line]) -> Option<Line> {
+pub fn echo(rng: &mut Random, records: &[Line]) -> Option<Line> {
     let hours = records.iter().copied().filter(|record| record[0] == HOUR);
     let hours: Vec<Line> = hours.collect();
     if hours.is_empty() {

@@ -1,6 +1,9 @@
 //! A small sound book that has every kind of line.
 
-use crate::draft::{dry_unit, hour, put, unit, with_moisture, Burnt, Draft, FuelLine, FIRST_SET};
+use crate::draft::{
+    dry_unit, hour, put, unit, with_moisture, Burnt, Draft, FuelLine, Line, FIRST_SET, HOUR_PLACE,
+    LAST_HOUR,
+};
 
 const UNMEASURED: Burnt = Burnt {
     unit: 1,
@@ -67,13 +70,16 @@ pub fn small_book_with_low_heat() -> Draft {
     draft
 }
 
-/// The same, but each hour stands in an earlier record too, with 25 percent: records
-/// 3 and 4 repeat 0 and 1.
+/// The same, but with hours alone: the wet unit's three times, and twice the dry unit's,
+/// which is the last of the year; each with 25 percent the first time.
 pub fn small_book_with_repeats() -> Draft {
     let mut draft = small_book();
-    for (first, repeat) in [(0, 3), (1, 4)] {
-        draft.records[first] = draft.records[repeat];
-        put(&mut draft.records[first], 8, &25f32.to_le_bytes());
-    }
+    let with_25_percent = |mut hour: Line| {
+        put(&mut hour, 8, &25f32.to_le_bytes());
+        hour
+    };
+    let [wet, mut dry] = [3, 4].map(|place| draft.records[place]);
+    put(&mut dry, HOUR_PLACE, &LAST_HOUR.to_le_bytes());
+    draft.records = vec![with_25_percent(wet), wet, with_25_percent(dry), wet, dry];
     draft
 }

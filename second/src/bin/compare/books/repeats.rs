@@ -15,9 +15,6 @@ use crate::job::{self, CHECKPOINT};
 use crate::random::Random;
 use crate::repeats::{self, of_reason, Judged, Key};
 
-/// A book of so many records is cut at each place, a longer one at one place.
-const FEW: usize = 4;
-
 pub fn run(exchange: &mut Exchange, rng: &mut Random) -> Outcome<()> {
     sorts::run(exchange, rng)?;
     near_misses::run(exchange, rng)?;
@@ -30,7 +27,8 @@ fn held_hours(exchange: &mut Exchange, rng: &mut Random, keys: &[Key]) -> Outcom
     held(exchange, rng, &repeats::units_of(keys), &records)
 }
 
-/// Every record by itself, and the job in one wake and in two.
+/// Every record by itself, and the job in one wake and in two, the first of which ends
+/// anywhere.
 fn held(
     exchange: &mut Exchange,
     rng: &mut Random,
@@ -42,28 +40,12 @@ fn held(
         job::record(exchange, &book, index, of_reason(*reason))?;
     }
     job::whole(exchange, rng, &book, repeats::told(records))?;
-    let cuts = match records.len() {
-        count @ ..=FEW => (1..count).collect(),
-        count => vec![1 + rng.index(count - 1)],
-    };
-    for cut in cuts {
-        in_two_wakes(exchange, rng, &book, cut, records)?;
-    }
-    Ok(())
-}
-
-fn in_two_wakes(
-    exchange: &mut Exchange,
-    rng: &mut Random,
-    book: &[u8],
-    cut: usize,
-    records: &[Judged],
-) -> Outcome<()> {
     let junk = rng.junk(CHECKPOINT);
-    let start = job::fresh(exchange, book, &junk)?;
-    let middle = job::wake(exchange, book, &start.output, cut as u32, &junk)?;
-    let end = job::wake(exchange, book, &middle.output, u32::MAX, &junk)?;
-    let report = job::report_frame(book, &end.output, &[]);
+    let cut = 1 + rng.index(records.len() - 1) as u32;
+    let start = job::fresh(exchange, &book, &junk)?;
+    let middle = job::wake(exchange, &book, &start.output, cut, &junk)?;
+    let end = job::wake(exchange, &book, &middle.output, u32::MAX, &junk)?;
+    let report = job::report_frame(&book, &end.output, &[]);
     exchange.hold(&report, repeats::told(records))?;
     Ok(())
 }

@@ -6,8 +6,10 @@ mod budgets;
 mod edited;
 mod past_the_first;
 
+pub use budgets::full_books;
+
 use super::{brought, every_budget, older, record_by_record, BOOKS};
-use crate::draft::{put, Draft, Line, HOUR, MONITORED};
+use crate::draft::{Draft, MONITORED};
 use crate::exchange::{Exchange, Outcome};
 use crate::random::Random;
 use crate::random_books;
@@ -38,24 +40,21 @@ pub fn run(exchange: &mut Exchange, rng: &mut Random) -> Outcome<()> {
         brought(exchange, rng, &one, &other)?;
         brought(exchange, rng, &one, &shuffled)?;
     }
-    budgets::run(exchange, rng)
+    budgets::small_books(exchange, rng)
 }
 
-/// Records that count, and among them hours again, half of them with another percent.
+/// Records that count, and among them hours again and ones that are near to them.
 fn book(rng: &mut Random) -> Draft {
     let mut draft = random_books::listing(rng);
     draft.units[0][2] = MONITORED;
     let count = 4 + rng.index(16);
     draft.records = random_books::counted_records(rng, &draft, count);
-    let is_hour = |record: &Line| record[0] == HOUR;
-    let hours: Vec<Line> = draft.records.iter().copied().filter(is_hour).collect();
-    for _ in 0..hours.len().min(6) {
-        let mut again = rng.pick(&hours);
-        if rng.one_in(2) {
-            put(&mut again, 8, &0x3F80_0000u32.to_le_bytes());
+    let counted = draft.records.clone();
+    for _ in 0..rng.below(8) {
+        if let Some(echo) = random_books::echo(rng, &counted) {
+            let place = rng.index(draft.records.len() + 1);
+            draft.records.insert(place, echo);
         }
-        let place = rng.index(draft.records.len() + 1);
-        draft.records.insert(place, again);
     }
     draft
 }

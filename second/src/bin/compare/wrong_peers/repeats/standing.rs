@@ -1,0 +1,130 @@
+//! Which earlier records an hour is held against.
+
+use second::answer::{Answer, Frame};
+use second::book::Book;
+use second::bytes::{u16_at, u32_at};
+use second::lines::Monitor;
+use second::record::{judge, Reason};
+
+use super::{is_hour, is_same_hour, key, repeating, Place};
+use crate::draft::LINE;
+
+/// Only earlier hours that `stands` lets stand make a repeat.
+fn standing(frame: &Frame, stands: impl Fn(&Book, &[u8]) -> bool) -> Answer {
+    repeating(frame, |place| {
+        let mut same = place
+            .earlier()
+            .iter()
+            .filter(|line| is_same_hour(line, place.line()));
+        same.any(|line| stands(place.book, line))
+    })
+}
+
+pub fn holds_hours_against_those_that_counted(frame: &Frame) -> Answer {
+    standing(frame, |book, line| judge(book, line).is_ok())
+}
+
+pub fn holds_hours_against_those_in_good_form(frame: &Frame) -> Answer {
+    standing(frame, |book, line| judge(book, line) != Err(Reason::Form))
+}
+
+pub fn holds_hours_against_those_in_range(frame: &Frame) -> Answer {
+    standing(frame, |book, line| {
+        judge(book, line) != Err(Reason::OutOfRange)
+    })
+}
+
+/// A year that is no leap year.
+pub fn knows_8_760_hours(frame: &Frame) -> Answer {
+    standing(frame, |_, line| u16_at(line, 6) <= 8_760)
+}
+
+pub fn overlooks_repeats_on_dry_units(frame: &Frame) -> Answer {
+    standing(frame, |book, line| {
+        book.unit(u16_at(line, 2))
+            .is_some_and(|unit| unit.monitor != Monitor::Dry)
+    })
+}
+
+pub fn overlooks_repeats_on_the_64th_unit(frame: &Frame) -> Answer {
+    let line_of_64th = |book: &[u8]| {
+        let trailer = &book[book.len() - LINE..];
+        let units = &book[u32_at(trailer, 8) as usize..u32_at(trailer, 12) as usize];
+        units.chunks(LINE).nth(63).map(|line| u16_at(line, 0))
+    };
+    standing(frame, |_, line| {
+        line_of_64th(frame.book) != Some(u16_at(line, 2))
+    })
+}
+
+/// The other records are held against by the same bytes, if `stands` lets them.
+fn of_kinds(frame: &Frame, stands: impl Fn(u8) -> bool) -> Answer {
+    repeating(frame, |place| {
+        let mut standing = place.earlier().iter().filter(|line| stands(line[0]));
+        standing.any(|line| key(line) == key(place.line()))
+    })
+}
+
+pub fn holds_hours_against_records_of_any_kind(frame: &Frame) -> Answer {
+    of_kinds(frame, |_| true)
+}
+
+/// That is, of kinds 2 and 3.
+pub fn asks_one_bit_of_the_kind(frame: &Frame) -> Answer {
+    of_kinds(frame, |kind| kind & 0b11 >= 2)
+}
+
+/// Only so many of the records before an hour are looked at.
+fn within(frame: &Frame, most: usize) -> Answer {
+    repeating(frame, |place| {
+        let first = place.index.saturating_sub(most);
+        place.is_among(&place.lines[first..place.index])
+    })
+}
+
+pub fn compares_neighbours_alone(frame: &Frame) -> Answer {
+    within(frame, 1)
+}
+
+pub fn looks_back_over_two_thousand_records(frame: &Frame) -> Answer {
+    within(frame, 2_000)
+}
+
+/// So that fuel records may stand between.
+pub fn compares_the_latest_hour_alone(frame: &Frame) -> Answer {
+    repeating(frame, |place| {
+        let latest = place.earlier().iter().rfind(|line| is_hour(line));
+        latest.is_some_and(|line| is_same_hour(line, place.line()))
+    })
+}
+
+/// As if the first record had nothing before it to be held against, and was nothing.
+pub fn overlooks_the_first_record_of_the_book(frame: &Frame) -> Answer {
+    repeating(frame, |place| {
+        place.index > 0 && place.is_among(&place.lines[1..place.index])
+    })
+}
+
+fn times_before(place: &Place) -> usize {
+    let same = |line: &&&[u8]| is_same_hour(line, place.line());
+    place.earlier().iter().filter(same).count()
+}
+
+pub fn lets_the_third_of_an_hour_count(frame: &Frame) -> Answer {
+    repeating(frame, |place| times_before(place) == 1)
+}
+
+/// As a bit that each record turns over.
+pub fn lets_every_second_of_an_hour_count(frame: &Frame) -> Answer {
+    repeating(frame, |place| times_before(place) % 2 == 1)
+}
+
+pub fn sets_the_first_of_a_pair_aside(frame: &Frame) -> Answer {
+    repeating(frame, |place| place.is_among(place.later()))
+}
+
+pub fn sets_both_of_a_pair_aside(frame: &Frame) -> Answer {
+    repeating(frame, |place| {
+        place.is_among(place.earlier()) || place.is_among(place.later())
+    })
+}
