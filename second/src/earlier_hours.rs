@@ -1,35 +1,42 @@
 //! Monitor hours that stand in a book more than once, as after a radio gap.
 
-use std::collections::HashSet;
-
 use crate::book::Book;
 use crate::bytes::u16_at;
 use crate::record::MONITOR_HOUR;
 
-/// Unit and hour number of each monitor hour among the records gone through,
-/// "whether or not that earlier one was itself set aside": a record stands by
-/// its byte 0 alone.
+/// Unit and number of each monitor hour among the records gone through, "whether or
+/// not that earlier one was itself set aside": a record stands by its byte 0 alone.
 #[derive(Debug, Default)]
 pub struct EarlierHours {
-    standing: HashSet<(u16, u16)>,
+    standing: Vec<u32>,
 }
 
 impl EarlierHours {
     /// Those of the records before `place`, from the book itself: a checkpoint
     /// tells nothing of them.
     pub fn before(book: &Book, place: u32) -> EarlierHours {
-        let mut earlier = EarlierHours::default();
-        for line in book.records().take(place as usize) {
-            earlier.go_through(line);
+        let lines = book.records().take(place as usize);
+        EarlierHours {
+            standing: lines.filter_map(unit_and_number).collect(),
         }
-        earlier
     }
 
     /// Goes through the next record, and tells whether it is an hour that stands
     /// in one before it.
     pub fn go_through(&mut self, line: &[u8]) -> bool {
-        line[0] == MONITOR_HOUR && !self.standing.insert((u16_at(line, 2), u16_at(line, 6)))
+        let Some(hour) = unit_and_number(line) else {
+            return false;
+        };
+        let stands = self.standing.contains(&hour);
+        self.standing.push(hour);
+        stands
     }
+}
+
+/// Of a monitor hour, as one number.
+fn unit_and_number(line: &[u8]) -> Option<u32> {
+    let [unit, number] = [2, 6].map(|place| u32::from(u16_at(line, place)));
+    (line[0] == MONITOR_HOUR).then_some(unit << 16 | number)
 }
 
 #[cfg(test)]
