@@ -2,6 +2,7 @@
 
 mod low_heat;
 mod moisture;
+mod repeats;
 mod rounding;
 mod warming;
 
@@ -14,6 +15,7 @@ use crate::run::Run;
 use crate::specials::{class, is_usable, CLASSES, FLOW_LIMIT, PERCENT_LIMIT};
 use low_heat::LowHeatCounts;
 use moisture::MoistureCounts;
+use repeats::RepeatCounts;
 use rounding::RoundingCounts;
 use warming::WarmingCounts;
 
@@ -42,33 +44,77 @@ pub struct Counts {
     flows: [u64; CLASSES.len()],
     low_heat: LowHeatCounts,
     moisture: MoistureCounts,
+    repeats: RepeatCounts,
     rounding: RoundingCounts,
     warming: WarmingCounts,
+    latest: Option<Made>,
+}
+
+/// What a frame asks.
+struct Question<'a> {
+    call: u8,
+    /// A wake's budget, or the index of one record.
+    argument: u32,
+    book: &'a [u8],
+    checkpoint: &'a [u8],
+}
+
+/// A checkpoint, and the book of the fresh start or wake that made it.
+struct Made {
+    book: Vec<u8>,
+    checkpoint: Vec<u8>,
+}
+
+impl Question<'_> {
+    fn of(frame: &[u8]) -> Question<'_> {
+        let [book, checkpoint] = [8, 12].map(|place| u32_at(frame, place) as usize);
+        let (book, after_book) = frame[FRAME_HEAD..].split_at(book);
+        Question {
+            call: frame[0],
+            argument: u32_at(frame, 4),
+            book,
+            checkpoint: &after_book[..checkpoint],
+        }
+    }
 }
 
 impl Counts {
     /// Counts one call from its frame and the answer of both sides.
     pub fn count(&mut self, frame: &[u8], answer: &Answer) {
         let [number, reason, ..] = answer.head;
-        if frame[0] == Call::Left as u8 {
+        let question = Question::of(frame);
+        if question.call == Call::Left as u8 {
             // Or the numbers of this call would stand for those of the others.
             return add_at(&mut self.numbers_of_left, &NUMBERS_OF_LEFT, number);
         }
-        self.calls[usize::from(frame[0]) - 1] += 1;
-        self.warming.count(frame, answer);
+        self.calls[usize::from(question.call) - 1] += 1;
+        self.warming.count(&question, answer, self.latest.as_ref());
+        self.repeats.count(&question, answer, self.latest.as_ref());
         add_at(&mut self.numbers, &NUMBERS, number);
-        if frame[0] == Call::Record as u8 && number == 0 {
-            self.count_record(frame, answer);
+        if question.call == Call::Record as u8 && number == 0 {
+            self.count_record(&question, answer);
         } else if number == SET_ASIDE {
             self.reasons_of_refusals[usize::from(reason) - 1] += 1;
         } else if number == UNIT_LINES_WRONG {
-            self.moisture.count_unit_lines(book_of(frame));
+            self.moisture.count_unit_lines(question.book);
+        }
+        self.remember(&question, answer);
+    }
+
+    /// The checkpoint that a call has made.
+    fn remember(&mut self, question: &Question, answer: &Answer) {
+        let makes_one = [Call::Fresh as u8, Call::Wake as u8].contains(&question.call);
+        if makes_one && answer.head[0] == 0 {
+            self.latest = Some(Made {
+                book: question.book.to_vec(),
+                checkpoint: answer.output.clone(),
+            });
         }
     }
 
-    fn count_record(&mut self, frame: &[u8], answer: &Answer) {
+    fn count_record(&mut self, question: &Question, answer: &Answer) {
         let [_, reason, method, ledger, ..] = answer.head;
-        let index = u32_at(frame, 4) as usize;
+        let (book, index) = (question.book, question.argument as usize);
         if reason > 0 {
             self.reasons_of_records[usize::from(reason) - 1] += 1;
         } else {
@@ -80,13 +126,13 @@ impl Counts {
         if reason == 0 {
             self.ledgers[usize::from(ledger)] += 1;
         }
-        let book = book_of(frame);
         let line = &book[LINE * index..][..LINE];
         if line[0] == FUEL_RECORD {
             self.low_heat.count(book, line, answer);
         }
         if line[0] == HOUR {
             self.moisture.count_hour(book, line, answer);
+            self.repeats.count_hour(book, index, reason);
             self.count_readings(line, reason);
         }
     }
@@ -136,6 +182,7 @@ impl Counts {
         ];
         table.extend(self.rounding.table());
         table.extend(self.moisture.table());
+        table.extend(self.repeats.table());
         table.extend(self.warming.table());
         if asks_left {
             let numbers = NUMBERS_OF_LEFT.iter().map(u8::to_string);
@@ -144,11 +191,6 @@ impl Counts {
         }
         table
     }
-}
-
-/// The book of a frame.
-fn book_of(frame: &[u8]) -> &[u8] {
-    &frame[FRAME_HEAD..][..u32_at(frame, 8) as usize]
 }
 
 fn add_at(counts: &mut [u64], keys: &[u8], key: u8) {

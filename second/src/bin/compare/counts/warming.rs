@@ -2,14 +2,12 @@
 
 use second::answer::{Answer, Call};
 use second::book::Book;
-use second::bytes::u32_at;
 use second::checkpoint::Checkpoint;
 use second::ledger::{Ledgers, NG_PER_TONNE};
-use second::replay::FRAME_HEAD;
 use second::report::{co2e, Report};
 use second::warming::Warming;
 
-use super::Rows;
+use super::{Made, Question, Rows};
 use crate::draft::{FIRST_SET, LINE, SECOND_SET, SETS, SET_PLACE};
 
 const TRAILER_WRONG: u8 = 21;
@@ -28,21 +26,18 @@ pub struct WarmingCounts {
     /// Wakes and reports of a checkpoint that was just made under a book which
     /// differs in its set alone, by the set that it was made under.
     changed: [[u64; 2]; 2],
-    latest: Option<Made>,
-}
-
-/// A checkpoint, and the book of the fresh start or wake that made it.
-struct Made {
-    book: Vec<u8>,
-    checkpoint: Vec<u8>,
 }
 
 impl WarmingCounts {
-    pub fn count(&mut self, frame: &[u8], answer: &Answer) {
-        let after_head = &frame[FRAME_HEAD..];
-        let (book, after_book) = after_head.split_at(u32_at(frame, 8) as usize);
-        let checkpoint = &after_book[..u32_at(frame, 12) as usize];
-        let (call, number) = (frame[0], answer.head[0]);
+    /// Counts a call, before what it made is the latest.
+    pub fn count(&mut self, question: &Question, answer: &Answer, latest: Option<&Made>) {
+        let Question {
+            call,
+            book,
+            checkpoint,
+            ..
+        } = *question;
+        let number = answer.head[0];
         if number == TRAILER_WRONG {
             self.wrong_sets += u64::from(only_the_set_is_wrong(book));
         }
@@ -50,24 +45,18 @@ impl WarmingCounts {
             return;
         }
         if call == Call::Report as u8 {
-            self.count_change(book, checkpoint, 1);
+            self.count_change(question, latest, 1);
             self.count_report(book, checkpoint);
         } else if call == Call::Wake as u8 {
-            self.count_change(book, checkpoint, 0);
-        }
-        if [Call::Fresh as u8, Call::Wake as u8].contains(&call) {
-            self.latest = Some(Made {
-                book: book.to_vec(),
-                checkpoint: answer.output.clone(),
-            });
+            self.count_change(question, latest, 0);
         }
     }
 
-    fn count_change(&mut self, book: &[u8], checkpoint: &[u8], call: usize) {
-        let Some(made) = &self.latest else {
-            return;
+    fn count_change(&mut self, question: &Question, latest: Option<&Made>, call: usize) {
+        let is_changed = |made: &&Made| {
+            made.checkpoint == question.checkpoint && differ_in_set_alone(&made.book, question.book)
         };
-        if made.checkpoint == checkpoint && differ_in_set_alone(&made.book, book) {
+        if let Some(made) = latest.filter(is_changed) {
             self.changed[set_of(&made.book)][call] += 1;
         }
     }

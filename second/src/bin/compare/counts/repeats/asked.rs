@@ -1,0 +1,100 @@
+//! An hour that was asked for by itself, and what of it and of the records before it is
+//! told apart.
+
+use second::book::Book;
+use second::bytes::{u16_at, u32_at};
+use second::record::judge;
+
+use crate::draft::{HOUR, LINE, MOISTURE_PLACE};
+use crate::specials::{class, CLASSES, FLOW_LIMIT, PERCENT_LIMIT};
+
+pub struct Asked<'a> {
+    pub book: &'a [u8],
+    pub index: usize,
+    pub reason: u8,
+}
+
+impl<'a> Asked<'a> {
+    pub fn line(&self) -> &'a [u8] {
+        &self.book[LINE * self.index..][..LINE]
+    }
+
+    pub fn earlier(&self) -> impl Iterator<Item = &'a [u8]> {
+        self.book[..LINE * self.index].chunks(LINE)
+    }
+
+    /// The same hour in earlier records.
+    pub fn same(&self) -> impl Iterator<Item = &'a [u8]> {
+        let line = self.line();
+        self.earlier()
+            .filter(move |other| is_same_hour(other, line))
+    }
+
+    /// So many records lie between it and the latest of them, and one.
+    pub fn distance(&self) -> Option<usize> {
+        let line = self.line();
+        let back = self.book[..LINE * self.index].chunks(LINE).rev();
+        let mut distances = (1..).zip(back);
+        let latest = distances.find(|(_, other)| is_same_hour(other, line));
+        latest.map(|(distance, _)| distance)
+    }
+
+    /// The one record in which it stands already, and the reason of that record, 0 if
+    /// it counted.
+    pub fn only_one(&self) -> Option<(&'a [u8], u8)> {
+        let mut same = self.same();
+        let (Some(line), None) = (same.next(), same.next()) else {
+            return None;
+        };
+        let book = Book::read(self.book).expect("the record was judged");
+        Some((
+            line,
+            judge(&book, line).err().map_or(0, |reason| reason as u8),
+        ))
+    }
+
+    pub fn stands_in_one(&self, reason: u8, is_so: impl Fn(&[u8]) -> bool) -> bool {
+        self.only_one()
+            .is_some_and(|(line, found)| found == reason && is_so(line))
+    }
+
+    pub fn resembles(&self, is_so: impl Fn(&[u8], &[u8]) -> bool) -> bool {
+        self.earlier().any(|other| is_so(other, self.line()))
+    }
+
+    pub fn resembles_hour(&self, is_so: impl Fn(&[u8], &[u8]) -> bool) -> bool {
+        self.resembles(|other, line| other[0] == HOUR && is_so(other, line))
+    }
+}
+
+pub fn unit(line: &[u8]) -> u16 {
+    u16_at(line, 2)
+}
+
+pub fn number(line: &[u8]) -> u16 {
+    u16_at(line, 6)
+}
+
+pub fn is_same_hour(one: &[u8], other: &[u8]) -> bool {
+    one[0] == HOUR && other[0] == HOUR && key(one) == key(other)
+}
+
+pub fn key(line: &[u8]) -> [u16; 2] {
+    [unit(line), number(line)]
+}
+
+pub fn moisture(line: &[u8]) -> u16 {
+    u16_at(line, MOISTURE_PLACE)
+}
+
+pub fn has_nan(line: &[u8]) -> bool {
+    let classes = [(8, PERCENT_LIMIT), (12, FLOW_LIMIT)];
+    classes
+        .iter()
+        .any(|&(place, limit)| CLASSES[class(u32_at(line, place), limit)].contains("NaN"))
+}
+
+pub fn is_in_form(line: &[u8]) -> bool {
+    let must_be_0 = [&line[1..2], &line[4..6], &line[18..]];
+    must_be_0.concat().iter().all(|&byte| byte == 0)
+}
