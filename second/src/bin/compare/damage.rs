@@ -62,15 +62,8 @@ pub fn run(exchange: &mut Exchange, rng: &mut Random) -> Outcome<()> {
         ));
         single_bytes_of_line(exchange, rng, &whole, line)?;
     }
-    for (run, sound) in [
-        ("all counted", &whole),
-        ("one set aside", &with_one_set_aside),
-    ] {
-        let middle = format!("the checkpoint at the middle, {run}");
-        single_bytes_of_checkpoint(exchange, rng, &sound.book, &sound.middle, &middle)?;
-        let end = format!("the checkpoint at the end, {run}");
-        single_bytes_of_checkpoint(exchange, rng, &sound.book, &sound.end, &end)?;
-    }
+    single_bytes_of_checkpoints(exchange, rng, &whole, "all counted")?;
+    single_bytes_of_checkpoints(exchange, rng, &with_one_set_aside, "one set aside")?;
     lengths(exchange, rng, &whole)?;
     random_in_book(exchange, rng, &[&whole, &with_low_heat])?;
     random_in_checkpoints(exchange, rng, &[whole, with_one_set_aside])
@@ -119,21 +112,24 @@ fn with_checkpoint(
     Ok(())
 }
 
-fn single_bytes_of_checkpoint(
+fn single_bytes_of_checkpoints(
     exchange: &mut Exchange,
     rng: &mut Random,
-    book: &[u8],
-    original: &[u8],
-    name: &str,
+    sound: &Sound,
+    run: &str,
 ) -> Outcome<()> {
-    exchange.case(format!("every value of every byte of {name}"));
-    let mut checkpoint = original.to_vec();
-    for place in 0..CHECKPOINT {
-        for value in 0..=255 {
-            checkpoint[place] = value;
-            with_checkpoint(exchange, rng, book, &checkpoint)?;
+    for (name, original) in [("middle", &sound.middle), ("end", &sound.end)] {
+        exchange.case(format!(
+            "every value of every byte of the checkpoint at the {name}, {run}"
+        ));
+        let mut checkpoint = original.clone();
+        for place in 0..CHECKPOINT {
+            for value in 0..=255 {
+                checkpoint[place] = value;
+                with_checkpoint(exchange, rng, &sound.book, &checkpoint)?;
+            }
+            checkpoint[place] = original[place];
         }
-        checkpoint[place] = original[place];
     }
     Ok(())
 }

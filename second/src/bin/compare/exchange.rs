@@ -163,7 +163,9 @@ impl<'a> Exchange<'a> {
         if let Some(complaint) = complaint {
             return self.fail_frame(&one, &complaint);
         }
-        self.run.counts.count(&one.frame, &one.answer);
+        if self.run.settings.keeps_counts {
+            self.run.counts.count(&one.frame, &one.answer);
+        }
         Ok(())
     }
 

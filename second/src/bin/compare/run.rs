@@ -18,6 +18,8 @@ pub struct Settings {
     pub patience: Duration,
     /// A group goes no further after so many.
     pub most_failures: u32,
+    /// What was compared is counted; a run that is to fail needs no counts.
+    pub keeps_counts: bool,
     pub failures_folder: PathBuf,
 }
 
@@ -29,6 +31,7 @@ impl Default for Settings {
             asks_left: false,
             patience: Duration::from_secs(60),
             most_failures: 10,
+            keeps_counts: true,
             failures_folder: PathBuf::from("target/second-failures"),
         }
     }

@@ -27,8 +27,7 @@ fn held_hours(exchange: &mut Exchange, rng: &mut Random, keys: &[Key]) -> Outcom
     held(exchange, rng, &repeats::units_of(keys), &records)
 }
 
-/// Every record by itself, and the job in one wake and in two, the first of which ends
-/// anywhere.
+/// Every record by itself, and the job in two wakes, the first of which ends anywhere.
 fn held(
     exchange: &mut Exchange,
     rng: &mut Random,
@@ -39,9 +38,8 @@ fn held(
     for (index, (_, reason)) in (0..).zip(records) {
         job::record(exchange, &book, index, of_reason(*reason))?;
     }
-    job::whole(exchange, rng, &book, repeats::told(records))?;
     let junk = rng.junk(CHECKPOINT);
-    let cut = 1 + rng.index(records.len() - 1) as u32;
+    let cut = rng.index(records.len() + 1) as u32;
     let start = job::fresh(exchange, &book, &junk)?;
     let middle = job::wake(exchange, &book, &start.output, cut, &junk)?;
     let end = job::wake(exchange, &book, &middle.output, u32::MAX, &junk)?;

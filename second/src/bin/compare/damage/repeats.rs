@@ -1,20 +1,30 @@
 //! Damage of a small book whose hours are repeated, and of the checkpoint that names
 //! the first repeat.
 
+use std::ops::Range;
+
 use super::edits::{self, Edit};
-use super::{damaged_book, single_bytes_of_checkpoint, single_bytes_of_line, sound, Sound};
+use super::{damaged_book, sound, with_checkpoint, Sound};
 use crate::draft::LINE;
 use crate::exchange::{Exchange, Outcome};
+use crate::job::{self, CHECKPOINT};
 use crate::random::Random;
 use crate::sample::small_book_with_repeats;
 
-const RANDOM_TIMES: usize = 2_000;
+const RANDOM_TIMES: usize = 1_000;
 
-const LINES: [(usize, &str); 3] = [
-    (0, "an hour that is repeated"),
-    (1, "an hour that repeats another"),
-    (6, "the unit line of hours that are repeated"),
+/// A line of the book, and those of its bytes that are damaged.
+const LINES: [(&str, usize, Range<usize>); 3] = [
+    ("an hour that is repeated", 0, 0..LINE),
+    ("an hour that repeats another", 1, 0..LINE),
+    ("number and flags of their unit", 6, 0..3),
 ];
+
+/// The records that are one hour.
+const OF_ONE_HOUR: [u32; 3] = [0, 1, 3];
+
+/// Records done and set aside, the first of these, and its reason.
+const PLACES_OF_COUNTS: Range<usize> = 0..16;
 
 const EDITS: [(&str, Edit); 3] = [
     ("random damage in repeated hours", edits::damage),
@@ -31,12 +41,22 @@ pub fn sound_run(exchange: &mut Exchange, rng: &mut Random) -> Outcome<Sound> {
 }
 
 pub fn run(exchange: &mut Exchange, rng: &mut Random, sound: &Sound) -> Outcome<()> {
-    for (line, name) in LINES {
+    for (name, line, bytes) in LINES {
         exchange.case(format!("every value of every byte of {name}"));
-        single_bytes_of_line(exchange, rng, sound, line)?;
+        let places = LINE * line + bytes.start..LINE * line + bytes.end;
+        single_bytes(&sound.book, places, |book| {
+            for index in OF_ONE_HOUR {
+                job::record(exchange, book, index, Vec::new())?;
+            }
+            let junk = rng.junk(CHECKPOINT);
+            job::wake(exchange, book, &sound.middle, u32::MAX, &junk)?;
+            Ok(())
+        })?;
     }
-    let name = "the checkpoint at the end, hours repeated";
-    single_bytes_of_checkpoint(exchange, rng, &sound.book, &sound.end, name)?;
+    exchange.case("every value of the first bytes of the checkpoint at the end, hours repeated");
+    single_bytes(&sound.end, PLACES_OF_COUNTS, |checkpoint| {
+        with_checkpoint(exchange, rng, &sound.book, checkpoint)
+    })?;
     let records = LINE * sound.draft.records.len();
     for (name, edit) in EDITS {
         exchange.case(name);
@@ -45,6 +65,23 @@ pub fn run(exchange: &mut Exchange, rng: &mut Random, sound: &Sound) -> Outcome<
             edit(rng, &mut book[..records]);
             damaged_book(exchange, rng, &book, sound)?;
         }
+    }
+    Ok(())
+}
+
+/// Each of these bytes with every value.
+fn single_bytes(
+    original: &[u8],
+    places: Range<usize>,
+    mut with: impl FnMut(&[u8]) -> Outcome<()>,
+) -> Outcome<()> {
+    let mut bytes = original.to_vec();
+    for place in places {
+        for value in 0..=255 {
+            bytes[place] = value;
+            with(&bytes)?;
+        }
+        bytes[place] = original[place];
     }
     Ok(())
 }

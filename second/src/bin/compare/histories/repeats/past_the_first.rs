@@ -3,21 +3,36 @@
 
 use second::answer::{Call, Frame};
 
-use crate::draft::put;
+use crate::draft::{put, unit};
 use crate::exchange::{Exchange, Outcome};
 use crate::expectation::{withheld, Expectation, Field};
 use crate::job::{self, CHECKPOINT};
 use crate::random::Random;
-use crate::repeats::{self, Judged, Key, COUNTED, KG_PER_HOUR};
+use crate::repeats::{self, hour_of, monitored, Judged, Key, COUNTED, KG_PER_HOUR, REPEATED};
 
 const UNSOUND: u64 = 31;
 const REASONS: std::ops::RangeInclusive<u8> = 1..=8;
 
-const HOURS: [Key; 7] = [(1, 1), (1, 2), (1, 1), (2, 2), (1, 2), (1, 1), (2, 1)];
+const WITHOUT_MONITOR: u16 = 3;
+
+/// Each hour with its reason.
+const HOURS: [(Key, u64); 9] = [
+    ((1, 1), COUNTED),
+    ((1, 2), COUNTED),
+    ((1, 1), REPEATED),
+    ((2, 2), COUNTED),
+    ((1, 2), REPEATED),
+    ((1, 1), REPEATED),
+    ((WITHOUT_MONITOR, 1), 5),
+    ((WITHOUT_MONITOR, 1), 5),
+    ((2, 1), COUNTED),
+];
 
 pub fn run(exchange: &mut Exchange, rng: &mut Random) -> Outcome<()> {
-    let records = repeats::judged(&HOURS);
-    let book = repeats::book(&repeats::units_of(&HOURS), &records);
+    let records = HOURS.map(|(key, reason)| (hour_of(key), reason));
+    let mut units = monitored([1, 2]);
+    units.push(unit(WITHOUT_MONITOR, false, 2_500));
+    let book = repeats::book(&units, &records);
     let junk = rng.junk(CHECKPOINT);
     let start = job::fresh(exchange, &book, &junk)?.output.clone();
     exchange.case("a place past the first of a pair that no wake came to");
@@ -27,7 +42,7 @@ pub fn run(exchange: &mut Exchange, rng: &mut Random) -> Outcome<()> {
         gone_on(exchange, &book, &checkpoint, told_from(&records, place))?;
     }
     exchange.case("checkpoints that name every reason from 0 to 255");
-    for place in 1..=records.len() {
+    for place in [1, 3, records.len()] {
         for reason in 0..=u8::MAX {
             let mut checkpoint = start.clone();
             put(&mut checkpoint, 0, &[place as u8, 0, 0, 0, 1]);

@@ -60,13 +60,6 @@ pub fn puts_all_hours_in_one_row(frame: &Frame) -> Answer {
     })
 }
 
-pub fn takes_a_unit_for_an_hour_number(frame: &Frame) -> Answer {
-    keyed(frame, |line| {
-        let (unit, number) = key(line);
-        [unit.min(number), unit.max(number)]
-    })
-}
-
 /// That is, compares bytes 2 to 7 in one piece.
 pub fn compares_the_fuel_number_too(frame: &Frame) -> Answer {
     keyed(frame, |line| line[2..8].to_vec())
