@@ -101,6 +101,12 @@ fn set_aside_first() -> Vec<Upload> {
             vec![(too_moist, 4), (of(DRY, 1, P7), 8)],
             0,
         ),
+    ]
+}
+
+/// The second upload is set aside for the same reason as the first.
+fn set_aside_alike() -> Vec<Upload> {
+    vec![
         (
             "of a unit without a monitor",
             vec![(of(WITHOUT_MONITOR, 1, P7), 5); 2],
@@ -145,8 +151,13 @@ fn not_the_same() -> Vec<Upload> {
 }
 
 fn uploads() -> impl Iterator<Item = Upload> {
-    let repeats = sound_first().into_iter().chain(set_aside_first());
-    repeats.chain(not_the_same())
+    let groups = [
+        sound_first(),
+        set_aside_first(),
+        set_aside_alike(),
+        not_the_same(),
+    ];
+    groups.into_iter().flatten()
 }
 
 fn book(records: &[Judged]) -> Vec<u8> {

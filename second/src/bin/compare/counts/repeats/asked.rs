@@ -8,6 +8,7 @@ use second::record::judge;
 use crate::draft::{HOUR, LINE, MOISTURE_PLACE};
 use crate::specials::{class, CLASSES, FLOW_LIMIT, PERCENT_LIMIT};
 
+/// The record of this index, and the reason that it was given.
 pub struct Asked<'a> {
     pub book: &'a [u8],
     pub index: usize,
@@ -30,7 +31,7 @@ impl<'a> Asked<'a> {
             .filter(move |other| is_same_hour(other, line))
     }
 
-    /// So many records lie between it and the latest of them, and one.
+    /// How many records back the latest of them stands.
     pub fn distance(&self) -> Option<usize> {
         let line = self.line();
         let back = self.book[..LINE * self.index].chunks(LINE).rev();

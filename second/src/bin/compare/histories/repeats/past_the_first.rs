@@ -85,7 +85,7 @@ fn gone_on(
             argument: first_budget,
             book,
             checkpoint,
-            // What a wake that is refused leaves there is no sounder.
+            // A wake that is refused leaves it as it is, and the next is refused too.
             output: checkpoint,
         };
         let first = exchange.ask(&wake)?;

@@ -98,7 +98,7 @@ pub fn compares_the_latest_hour_alone(frame: &Frame) -> Answer {
     })
 }
 
-/// As if the first record had nothing before it to be held against, and was nothing.
+/// As if place 0 stood for no place.
 pub fn overlooks_the_first_record_of_the_book(frame: &Frame) -> Answer {
     repeating(frame, |place| {
         place.index > 0 && place.is_among(&place.lines[1..place.index])
