@@ -29,13 +29,13 @@ const HOURS: [(Key, u64); 9] = [
 ];
 
 pub fn run(exchange: &mut Exchange, rng: &mut Random) -> Outcome<()> {
+    exchange.case("a place past the first of a pair that no wake came to");
     let records = HOURS.map(|(key, reason)| (hour_of(key), reason));
     let mut units = monitored([1, 2]);
     units.push(unit(WITHOUT_MONITOR, false, 2_500));
     let book = repeats::book(&units, &records);
     let junk = rng.junk(CHECKPOINT);
     let start = job::fresh(exchange, &book, &junk)?.output.clone();
-    exchange.case("a place past the first of a pair that no wake came to");
     for place in 0..=records.len() {
         let mut checkpoint = start.clone();
         checkpoint[0] = place as u8;
