@@ -47,7 +47,7 @@ pub fn explain(
     Ok(explanation)
 }
 
-/// Gives where each record of the book stands in its text, such as `plant.txt:57: `. A text edited
+/// Gives where each record of the book stands in its text, such as `plant.txt:57`. A text edited
 /// since would show wrong lines, so it must pack to this very book.
 fn places_in(text: &Named, book: &Named) -> Result<Vec<String>, String> {
     let name = &text.name;
@@ -61,7 +61,7 @@ fn places_in(text: &Named, book: &Named) -> Result<Vec<String>, String> {
         )));
     }
     let lines = parsed.record_lines.iter();
-    Ok(lines.map(|line| format!("{name}:{line}: ")).collect())
+    Ok(lines.map(|line| format!("{name}:{line}")).collect())
 }
 
 fn refused(name: &str, number: u8, refusal: &str) -> Explanation {
@@ -80,9 +80,9 @@ fn accepted(name: &str, book: &Book, reasons: &[Option<u8>], places: &[String]) 
     let mut words = String::new();
     for (i, (record, reason)) in book.records().iter().zip(reasons).enumerate() {
         if let Some(reason) = *reason {
-            let place = places.get(i).map_or("", String::as_str);
+            let place = places.get(i).map_or(String::new(), |at| format!("{at}: "));
             let said = record_line(record);
-            let Account { why, remedy } = Account::of(reason, record, book);
+            let Account { why, remedy } = Account::of(reason, i, book, places);
             words += &format!("{place}record {i}: {said}\n");
             words += &format!("  reason {reason}: {why}\n  to do: {remedy}\n");
         }

@@ -10,6 +10,7 @@ mod method;
 mod parse;
 mod ranges;
 mod reasons;
+mod repeats;
 mod single;
 mod verdict;
 mod words;

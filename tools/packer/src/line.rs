@@ -176,6 +176,12 @@ pub fn decode_record(line: &Line) -> Record {
     }
 }
 
+/// Gives unit and hour number of a record of an hour's kind, also of one that no words say.
+pub fn sent_hour(record: &Record) -> Option<(u16, u16)> {
+    let line = encode_record(record);
+    (line[0] == HOUR).then(|| (get16(&line, 2), get16(&line, 6)))
+}
+
 /// Says which byte of a line no words give back, if there is one.
 pub fn form_fault(line: &Line) -> Option<String> {
     let kind = line[0];

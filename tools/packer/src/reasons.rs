@@ -6,6 +6,7 @@ use crate::fuel::Fuel;
 use crate::line::form_fault;
 use crate::method::no_method;
 use crate::ranges::{beyond, low_of_other_class};
+use crate::repeats::repeated;
 
 /// What is said of a record that is set aside.
 pub struct Account {
@@ -14,9 +15,14 @@ pub struct Account {
 }
 
 impl Account {
-    pub fn of(reason: u8, record: &Record, book: &Book) -> Account {
+    /// Of the record at this index. The places are the records' own in the text, or none.
+    pub fn of(reason: u8, i: usize, book: &Book, places: &[String]) -> Account {
         let (why, remedy) = general(reason);
-        match particular(reason, record, book) {
+        let found = match reason {
+            8 => repeated(i, book, places),
+            _ => particular(reason, &book.records()[i], book),
+        };
+        match found {
             Some(found) => Account {
                 why: format!("{why}: {}", found.why),
                 remedy: found.remedy,
@@ -29,7 +35,7 @@ impl Account {
     }
 }
 
-fn general(reason: u8) -> (&'static str, &'static str) {
+pub fn general(reason: u8) -> (&'static str, &'static str) {
     match reason {
         1 => ("its form is wrong", "say it as a `delivery` or an `hour`"),
         2 => ("its unit isn't listed", "list it, or correct its number"),
@@ -50,6 +56,11 @@ fn general(reason: u8) -> (&'static str, &'static str) {
             "there is no heat in use",
             "give the measured heat, or give the fuel a default heat",
         ),
+        8 => (
+            "the hour was sent before",
+            "keep the right record of this hour and take the others out, or correct the unit or \
+             the hour",
+        ),
         _ => (
             "one that isn't known here",
             "see docs/RULES.md, \"Reasons\"",
@@ -57,7 +68,7 @@ fn general(reason: u8) -> (&'static str, &'static str) {
     }
 }
 
-/// What can be told of this record. None if nothing here agrees with the reason.
+/// What can be told of this record by itself. None if nothing here agrees with the reason.
 fn particular(reason: u8, record: &Record, book: &Book) -> Option<Account> {
     let unit = record.unit().and_then(|number| book.unit(number));
     let fuel = record.fuel().and_then(|number| book.fuel(number));

@@ -7,6 +7,8 @@ mod folder;
 mod on_files;
 #[path = "explain/refused.rs"]
 mod refused;
+#[path = "explain/repeats.rs"]
+mod repeats;
 #[path = "explain/repository.rs"]
 mod repository;
 mod stand_in;
@@ -153,7 +155,10 @@ fn shown_by(command: &str) -> String {
 fn the_example_of_the_readme_is_true() {
     let text = named("north.txt", shown_by("cat north.txt"));
     let book = named("north.book", pack(&text.content).unwrap());
-    let printed = format!("record 0 {COUNTS}\nrecord 1 reason 4\nrecord 2 reason 5\n");
+    let printed = format!(
+        "record 0 {COUNTS}\nrecord 1 reason 4\nrecord 2 reason 5\n\
+         record 3 hour fossil co2-ug 12950000000000 ch4-ng 0 n2o-ng 0\nrecord 4 reason 8\n"
+    );
     let explanation = explain(&book, Some(&text), |_| Ok(printed)).unwrap();
     let command = "tools/book explain north.book north.txt";
     assert_eq!(explanation.words, shown_by(command));

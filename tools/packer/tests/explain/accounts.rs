@@ -1,5 +1,6 @@
 //! Records with a reason each, what is said of them, and what is to be done: three lines a record.
 
+use crate::repeats::REMEDY;
 use crate::unsupported::UNSUPPORTED;
 
 /// Unit 1 is at the limit of default heats, 2 is past it, 3 has a monitor, and 4 a dry one. Fuels 1
@@ -239,7 +240,7 @@ const CHOICES: &str = "
 ";
 
 /// What stands for words that many rows share.
-const SHORT: [(&str, &str); 5] = [
+const SHORT: [(&str, &str); 6] = [
     ("FORM", "say it as a `delivery` or an `hour`"),
     (
         "DRY",
@@ -252,6 +253,7 @@ const SHORT: [(&str, &str); 5] = [
         "correct its month, hour, amount, heat, carbon, reading or moisture",
     ),
     ("NONE", "no method is permitted"),
+    ("REPEAT", REMEDY),
 ];
 
 pub struct Row {

@@ -101,7 +101,13 @@ pub const UNSUPPORTED: &str = "
 7 delivery unit 3 fuel 5 month 1 amount 1 low-heat 1
   there is no heat in use
   give the measured heat, or give the fuel a default heat
+8 hour unit 3 hour 1 percent 1 flow 1
+  the hour was sent before
+  REPEAT
 8 delivery unit 1 fuel 1 month 1 amount 1
+  the hour was sent before
+  REPEAT
+9 delivery unit 1 fuel 1 month 1 amount 1
   one that isn't known here
   see docs/RULES.md, \"Reasons\"
 ";
