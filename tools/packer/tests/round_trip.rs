@@ -7,6 +7,8 @@ mod bad_books;
 mod bad_texts;
 #[path = "round_trip/dice.rs"]
 mod dice;
+#[path = "round_trip/every_sort.rs"]
+mod every_sort;
 mod folder;
 #[path = "round_trip/program.rs"]
 mod program;
@@ -25,7 +27,7 @@ use dice::Dice;
 use folder::fresh_folder;
 use packer::{pack, unpack};
 use program::{names_in, run};
-use random_books::{Sample, LONGEST};
+use random_books::Sample;
 use random_lines::LINE;
 
 const BOOKS: usize = 3000;
@@ -87,52 +89,6 @@ fn a_changed_byte_is_refused_or_said() {
     assert!(
         said > 500 && refusals > 500,
         "{said} said, {refusals} refused"
-    );
-}
-
-/// The tests above say little if the random books are poor.
-#[test]
-fn random_books_are_of_every_sort() {
-    let (mut no_records, mut full, mut no_units, mut most_units, mut most_fuels) = (0, 0, 0, 0, 0);
-    let starts = ["delivery ", "hour ", "raw 01", "raw 02", "raw FF"];
-    let mut records = [0; 5];
-    let mut warmings = [0; 2];
-    each_random_book(|sample, _| {
-        warmings[usize::from(sample.warming)] += 1;
-        no_records += u32::from(sample.records.is_empty());
-        full += u32::from(sample.bytes().len() == LONGEST);
-        no_units += u32::from(sample.units.is_empty());
-        most_units += u32::from(sample.units.len() == 64);
-        most_fuels += u32::from(sample.fuels.len() == 64);
-        for (count, start) in records.iter_mut().zip(starts) {
-            let said = sample.records.iter();
-            *count += said.filter(|said| said.words.starts_with(start)).count();
-        }
-    });
-    let books = [no_records, full, no_units, most_units, most_fuels];
-    assert!(books.iter().all(|&count| count >= 20), "{books:?}");
-    assert!(records.iter().all(|&count| count >= 1000), "{records:?}");
-    assert!(warmings.iter().all(|&count| count >= 1000), "{warmings:?}");
-}
-
-#[test]
-fn random_units_and_hours_are_of_every_sort() {
-    let (mut monitors, mut moistures) = ([0; 3], [0; 3]);
-    each_random_book(|sample, _| {
-        for (count, flags) in monitors.iter_mut().zip([0, 1, 3]) {
-            let units = sample.units.iter();
-            *count += units.filter(|said| said.line[2] == flags).count();
-        }
-        for said in sample.records {
-            let tenths = u16::from_le_bytes([said.line[16], said.line[17]]);
-            let sort = usize::from(tenths > 0) + usize::from(tenths > 1_000);
-            moistures[sort] += u32::from(said.words.starts_with("hour "));
-        }
-    });
-    assert!(monitors.iter().all(|&count| count >= 1000), "{monitors:?}");
-    assert!(
-        moistures.iter().all(|&count| count >= 1000),
-        "{moistures:?}"
     );
 }
 

@@ -31,7 +31,7 @@ impl Sample {
             warming: dice.pick(&[0, 1]),
             units,
             fuels,
-            records: (0..records).map(|_| dice.pick(&SORTS)(dice)).collect(),
+            records: some_sent_again(records, dice),
         }
     }
 
@@ -81,6 +81,19 @@ impl Sample {
         text += dice.pick(&["", "\n", "# the end, without a newline", "\t"]);
         text
     }
+}
+
+/// Gives so many records of every sort, some of which stand in the book already, byte for byte.
+fn some_sent_again(count: usize, dice: &mut Dice) -> Vec<Said> {
+    let mut records: Vec<Said> = Vec::new();
+    for place in 0..count {
+        let record = match place {
+            1.. if dice.one_in(8) => records[dice.below(place as u64) as usize].clone(),
+            _ => dice.pick(&SORTS)(dice),
+        };
+        records.push(record);
+    }
+    records
 }
 
 fn loose_line(words: &str, dice: &mut Dice) -> String {

@@ -5,6 +5,7 @@ use crate::dice::Dice;
 
 pub const LINE: usize = 32;
 
+#[derive(Clone)]
 pub struct Said {
     pub line: [u8; LINE],
     /// The canonical words.
