@@ -132,7 +132,7 @@ def try_every_moisture(programs, cases):
 
 def try_aside(programs, cases):
     for reason, record in ((1, p7(WET, moisture=1)), (2, p7(UNLISTED, moisture=1)),
-                           (4, p7(moisture=1_001))):
+                           (4, p7(hour=2, moisture=1_001))):
         with cases.case(f"annual: moisture that is set aside for reason {reason}"):
             of = book([p7(moisture=1_000), record], UNITS, [])
             expect_told(programs.run("annual", data=of),

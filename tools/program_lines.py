@@ -58,9 +58,18 @@ def try_forms(programs, cases, forms):
     try_together(programs, cases, forms)
 
 
+def book_of(forms, warming_set=0):
+    """All of these records in one book, where each record of hour 1 gets a number of its own: a
+    second one of an hour would be set aside for that."""
+    records = [patch(record, 6, struct.pack("<H", place))
+               if record[0] == 2 and record[6:8] == b"\1\0" else record
+               for place, (_, record, _) in enumerate(forms, 1)]
+    return book(records, UNITS, FUELS, warming_set=warming_set)
+
+
 def try_together(programs, cases, forms):
     with cases.case(f"lines: {forms[0][0]} to {forms[-1][0]} in one book"):
-        of = book([record for _, record, _ in forms], UNITS, FUELS)
+        of = book_of(forms)
         lines = [f"record {i} {wanted}\n" for i, (_, _, wanted) in enumerate(forms)]
         expect_told(programs.run("lines", data=of), "".join(lines).encode())
 

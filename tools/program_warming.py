@@ -1,9 +1,9 @@
 """The second set of warming values, which a book's trailer names. A report's CO2 equivalent and its
 decision follow the set, and nothing else does: no line of a record, and no byte of a checkpoint."""
 from program_annual import EXAMPLE, ONE, TRAILER, site
-from program_books import LINE, TONNE, book, ledgers_in, patch, report, under_set
+from program_books import LINE, TONNE, ledgers_in, patch, report, under_set
 from program_jobs import ALL, Plan, job_on, plan_by_lines, plan_plant
-from program_lines import FORMS, FUELS, UNITS
+from program_lines import FORMS, book_of
 from program_runs import PLANT, expect, expect_told
 
 # Tonnes of fossil CO2, biomass CO2, CH4 and N2O; then for each set the CO2 equivalent in tonnes and
@@ -53,7 +53,7 @@ def try_warming_bytes(programs, cases):
 
 def try_warming_lines(programs, cases):
     with cases.case("lines: every form under the second set is as under the first"):
-        of = book([record for _, record, _ in FORMS], UNITS, FUELS, warming_set=1)
+        of = book_of(FORMS, warming_set=1)
         lines = [f"record {i} {wanted}\n" for i, (_, _, wanted) in enumerate(FORMS)]
         expect_told(programs.run("lines", data=of), "".join(lines).encode())
     with cases.case("lines: examples/plant.book under the second set is as under the first"):
