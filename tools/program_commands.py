@@ -206,25 +206,31 @@ def try_run(programs, cases):
 
 MISTAKEN = """year 2010
 unit 1 rating 250
+unit 2 rating 410.5 monitor
 fuel 1 gas natural-gas heat 38000 co2 50000 ch4 900 n2o 90
 delivery unit 1 fuel 1 month 6  amount 1000
 delivery unit 1 fuel 1 month 13 amount 1000   # the year has 12
 hour unit 1 hour 1 percent 12.5 flow 2000000
+hour unit 2 hour 1 percent 12.5 flow 2000000
+hour unit 2 hour 1 percent 12.5 flow 2000000  # resent by the logger
 """
-EXPLAINED = """north.book: 2 of 3 records are set aside
-north.txt:5: record 1: delivery unit 1 fuel 1 month 13 amount 1000
+EXPLAINED = """north.book: 3 of 5 records are set aside
+north.txt:6: record 1: delivery unit 1 fuel 1 month 13 amount 1000
   reason 4: a value is out of range: month 13 isn't from 1 to 12
   to do: correct the month
-north.txt:6: record 2: hour unit 1 hour 1 percent 12.5 flow 2000000
+north.txt:7: record 2: hour unit 1 hour 1 percent 12.5 flow 2000000
   reason 5: an hour of a unit without a monitor: unit 1 has none
   to do: correct the hour's unit, or add `monitor` to unit 1
+north.txt:9: record 4: hour unit 2 hour 1 percent 12.5 flow 2000000
+  reason 8: the hour was sent before: record 3 at north.txt:8 has hour 1 of unit 2 too
+  to do: keep the right record of this hour and take the others out, or correct the unit or the hour
 """
 
 
 def try_explain(_, cases):
     """The reasons are those that the built `lines` tells."""
     command = ROOT / "tools/book"
-    with memory_folder() as folder, cases.case("tools/book explain: two records set aside"):
+    with memory_folder() as folder, cases.case("tools/book explain: three records set aside"):
         pathlib.Path(folder, "north.txt").write_text(MISTAKEN, encoding="utf-8")
         packed = run_command(command, "pack", "north.txt", "north.book", cwd=folder)
         expect(packed.status, WORKED, f"with {packed.err!r} on standard error, the packer's end")

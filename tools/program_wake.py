@@ -13,7 +13,7 @@ HINT = "{} isn't this book's checkpoint; wake BOOK CHECKPOINT BUDGET fresh start
 LEFT = "{}: neither empty nor as long as a checkpoint, so it is left as it is\n"
 BEGUN = checkpoint(ONE)
 DONE = checkpoint(ONE, 1, P1_MASSES)
-SOUND = checkpoint(ONE, 1, P1_MASSES, aside=1, first=0, reason=7)
+SOUND = checkpoint(ONE, 1, P1_MASSES, aside=1, first=0, reason=8)
 SCHEDULES = [["282"], ["100", "100", "100"], ["0", "1", "280", "0", "1"], ["1", ALL], ["281", "2"],
              ["007", "0000000000000000000000275"], ["99999999", "5"]]
 # None of these is a budget, which is digits alone and at most 2^32 - 1.
@@ -38,7 +38,7 @@ STRANGE = {
     "more set aside than done": (31, damage(4, b"\2")),
     "a first one set aside that isn't done": (31, damage(8, b"\1")),
     "reason 0 of a record set aside": (31, damage(12, b"\0")),
-    "reason 8": (31, damage(12, b"\x08")),
+    "reason 9": (31, damage(12, b"\x09")),
     "a reason with none set aside": (31, damage(12, b"\1", DONE)),
     "an index with none set aside": (31, damage(8, b"\1", DONE)),
     "4,000,001 tonnes of one record": (31, checkpoint(ONE, 1, (4_000_001 * TONNE, 0, 0, 0))),
@@ -142,7 +142,7 @@ def try_long_paths(programs, cases):
 def try_checkpoints(programs, cases):
     with cases.case("wake: the checkpoint that is damaged below is sound"), job_on(
             programs, ONE, SOUND) as job:
-        expect_told(job.wake(1), b"moved 0\ndone 1 of 1\nrefused 41 record 0 reason 7\n")
+        expect_told(job.wake(1), b"moved 0\ndone 1 of 1\nrefused 41 record 0 reason 8\n")
     for name, (number, saved) in STRANGE.items():
         for copy in (ONE, None):
             kind = "" if copy else ", without a copy"

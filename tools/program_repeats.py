@@ -1,0 +1,265 @@
+"""Hours that were sent before: what the programs make of a unit and hour number that stand in an
+earlier record of the book, wherever it stands and whatever became of it."""
+import itertools
+import struct
+
+from program_books import LINE, LONGEST, book, checkpoint, fuel_record, hour_record, masses_of
+from program_books import patch, unit_line
+from program_dry import hour_of
+from program_jobs import ALL, Plan, end_of
+from program_judge import judge_hour
+from program_lines import FUELS, UNITS
+from program_replay import BLANK, RECORD, REPORT, WAKE, answer, frame, record_answer
+from program_runs import expect, expect_told
+
+HOUR = 2  # byte 0 of a monitor hour
+LISTED = [*UNITS, unit_line(259, monitor=True)]
+# FAR differs from WET in the higher byte alone. UNLISTED is no unit of the book.
+UNMONITORED, WET, UNLISTED, DRY, FAR = 1, 3, 4, 5, 259
+BUDGETS = (1, 2, 3, 4, 10, int(ALL))
+NAN = struct.pack("<I", 0x7FC00000)
+
+
+def sent(hour=7, unit=WET, moisture=0):
+    """An hour with the readings of P7."""
+    return hour_record(12.5, 2_000_000, unit, hour, moisture)
+
+
+def unread(hour=7, unit=WET, at=8):
+    """An hour one of whose readings is no number."""
+    return patch(sent(hour, unit), at, NAN)
+
+
+def stray(at=18, hour=7, unit=WET):
+    """An hour with a byte that must be 0."""
+    return patch(sent(hour, unit), at, b"\1")
+
+
+def small(hour=7):
+    """An hour with the readings of P8."""
+    return hour_record(0.25, 0.25, WET, hour)
+
+
+# Records that aren't hours, with what stands behind their index. The last has bytes 2 to 7 of the
+# hour 7, which name fuel 0.
+DELIVERY, IN_MONTH_7 = fuel_record(unit=WET), fuel_record(unit=WET, month=7)
+AS_HOUR = patch(sent(), 0, b"\1")[:12].ljust(LINE, b"\0")
+BURNED = "method 4 none co2-ug 0 ch4-ng 34200000000 n2o-ng 3420000000"
+OTHERS = {DELIVERY: BURNED, IN_MONTH_7: BURNED, AS_HOUR: "reason 3"}
+
+# Each with the reasons of its records, worked by hand; 0 is that of a record that counts.
+REPEATS = [
+    ("an hour sent twice", [sent(), sent()], "08"),
+    ("an hour sent again with other readings", [sent(), small()], "08"),
+    ("an hour of dry gas, sent again with other moisture",
+     [sent(unit=DRY, moisture=1), sent(unit=DRY, moisture=2)], "08"),
+    ("three of an hour", [sent(), small(), sent()], "088"),
+    ("twelve of an hour", [sent()] * 12, "0" + 11 * "8"),
+    ("two hours in turn", [sent(7), sent(8), sent(7), sent(8)], "0088"),
+    ("two hours, one within the other", [sent(7), sent(8), sent(8), sent(7)], "0088"),
+    ("a delivery between", [sent(), DELIVERY, sent()], "008"),
+    ("ten records between", [sent(hour) for hour in (*range(1, 12), 1, 12)], 11 * "0" + "80"),
+    ("a flow that is no number first", [unread(at=12), sent(), sent()], "488"),
+    ("a percent that is no number twice", [unread(), unread(), sent()], "448"),
+    ("moisture on a wet unit first", [sent(moisture=1), sent()], "18"),
+    ("moisture past the range first", [sent(unit=DRY, moisture=1_001), sent(unit=DRY)], "48"),
+    ("a repeat whose form is wrong", [sent(), stray(), sent()], "018"),
+    ("a repeat with moisture on a wet unit", [sent(), sent(moisture=1)], "01"),
+    ("a repeat with moisture past the range", [sent(unit=DRY), sent(unit=DRY, moisture=1_001)],
+     "04"),
+    ("a repeat whose reading is no number", [sent(), unread(), sent()], "048"),
+    ("an unlisted unit", [sent(unit=UNLISTED), sent(unit=UNLISTED), sent()], "220"),
+    ("a stray byte on an unlisted unit", [sent(unit=UNLISTED), stray(unit=UNLISTED)], "21"),
+    ("a unit without a monitor", [sent(unit=UNMONITORED), sent(unit=UNMONITORED), sent()], "550"),
+    ("a bad reading and no monitor", [sent(unit=UNMONITORED), unread(unit=UNMONITORED)], "54"),
+    ("a delivery with the bytes of the hour", [AS_HOUR, sent(), AS_HOUR, sent()], "3038"),
+    ("a delivery in the month of the hour's number", [IN_MONTH_7, sent(), sent()], "008"),
+    ("kinds beside an hour's", [patch(sent(), 0, bytes([kind])) for kind in (0, 1, 3, 130, 255)]
+     + [sent(), sent()], "1111108"),
+    ("the same hour of other units", [sent(), sent(unit=DRY), sent(unit=FAR)], "000"),
+    ("other hours of the same unit", [sent(hour) for hour in (7, 6, 8, 263, 1_799, 8_199)],
+     "000000"),
+    ("unit and hour that change places", [sent(DRY, WET), sent(WET, DRY)], "00"),
+    ("the first hour and the last", [sent(1), sent(8_784), sent(1), sent(8_784)], "0088"),
+    ("hours past the range", [sent(hour) for hour in (0, 8_785, 65_535, 0, 8_785, 65_535)],
+     "444444"),
+    # As numbers counted on from unit to unit they would be hour 1 of WET, of DRY or of FAR.
+    ("hours past the range, and hour 1 of every unit",
+     [*(sent(hour) for hour in (0, 8_785, 8_786, 16_385, 17_569, 17_571, 32_769, 65_535)),
+      sent(1), sent(1, DRY), sent(1, FAR)], "44444444000"),
+    *((f"byte {at} of the first has to be 0", [stray(at), sent(), sent()], "188")
+      for at in (1, 4, 5, 16, 18, 31)),
+]
+# One of each sort. Under every budget below 22 that is tried, some wake begins with a repeat.
+STREAM = [sent(1), sent(1), small(2), sent(2), sent(1), unread(3), sent(3), stray(hour=4), sent(4),
+          DELIVERY, sent(1), sent(5), unread(5), sent(1, UNMONITORED), sent(1, UNMONITORED),
+          sent(1, UNLISTED), sent(1, UNLISTED), AS_HOUR, sent(7), sent(5, DRY), sent(1), sent(8)]
+STREAM_REASONS = "0808848180804552230080"
+
+
+def words_of(record, is_repeat, units):
+    """What stands behind the index of a record. The judge says it of an hour by itself; a record of
+    another kind, or with the readings of an hour where nothing is flagged, has a wrong form."""
+    if record[0] != HOUR:
+        return OTHERS.get(record, "reason 1")
+    told, number = judge_hour(record, b"".join(units))
+    if told == "reason":
+        return f"reason {number}"
+    return "reason 8" if is_repeat else hour_of(number)
+
+
+def judged(records, units):
+    """The same of all records. An earlier one counts as sent if its byte 0 is an hour's."""
+    before, told = set(), []
+    for record in records:
+        named = record[2:4] + record[6:8]
+        told.append(words_of(record, named in before, units))
+        if record[0] == HOUR:
+            before.add(named)
+    return told
+
+
+def lines_of(told):
+    return "".join(f"record {i} {words}\n" for i, words in enumerate(told)).encode()
+
+
+def reason_in(words):
+    return int(words.removeprefix("reason ")) if words.startswith("reason ") else 0
+
+
+def plan_of(records, units=LISTED, fuels=FUELS):
+    """What a job on these records has to print and save at every place, by the model alone."""
+    of = book(records, units, fuels)
+    ledgers, aside, first = (0, 0, 0, 0), 0, (0, 0)
+    places = [checkpoint(of)]
+    for index, words in enumerate(judged(records, units)):
+        reason = reason_in(words)
+        if reason:
+            first, aside = first if aside else (index, reason), aside + 1
+        else:
+            ledgers = tuple(map(sum, zip(ledgers, *masses_of(lines_of([words])))))
+        places.append(checkpoint(of, index + 1, ledgers, aside, *first))
+    return Plan(of, places, end_of(of, places[-1]))
+
+
+def answer_of(words):
+    """What `replay` answers to the look at one record."""
+    reason = reason_in(words)
+    if reason:
+        return record_answer(reason=reason)
+    (fossil, _, ch4, n2o), = masses_of(lines_of([words]))
+    if words == BURNED:
+        return record_answer(method=4, masses=(0, ch4, n2o))
+    return record_answer(ledger=1, masses=(fossil // 1000, ch4, n2o))
+
+
+def calls_of(plan, told, places):
+    """Calls on a plan's book, each with its answer: from these places wakes with every budget and a
+    look at the record there, and the report if a record was set aside."""
+    for place, budget in itertools.product(places, BUDGETS):
+        moved = plan.moved(place, budget)
+        yield (frame(WAKE, budget, plan.book, plan.places[place], BLANK),
+               answer(count=moved, out=plan.places[place + moved]))
+    for place in places:
+        yield (frame(RECORD, place, plan.book),
+               answer_of(told[place]) if place < plan.count else record_answer(method=255))
+    aside, first, reason = struct.unpack_from("<IIB", plan.places[-1], 4)
+    if aside:
+        yield frame(REPORT, 0, plan.book, plan.places[-1]), answer(41, reason, first)
+
+
+def expect_answered(programs, calls):
+    """`replay` gives each answer; of a wrong one, the fault says to which call."""
+    asked, answers = zip(*calls)
+    told, at = programs.run("replay", data=b"".join(asked)), 0
+    for index, wanted in enumerate(answers):
+        expect(told.out[at:at + len(wanted)], wanted, f"the answer to call {index}")
+        at += len(wanted)
+    expect_told(told, b"".join(answers))
+
+
+def expect_repeats(programs, records, units=LISTED, fuels=FUELS):
+    """What `lines` and `annual` print, and what `replay` answers, at all places of a short book."""
+    plan, told = plan_of(records, units, fuels), judged(records, units)
+    expect_told(programs.run("lines", data=plan.book), lines_of(told))
+    expect_told(programs.run("annual", data=plan.book), plan.ended)
+    places = range(plan.count + 1) if plan.count < 30 else (0, 1, plan.count // 2, plan.count - 1)
+    expect_answered(programs, calls_of(plan, told, places))
+
+
+def try_own_repeats(cases):
+    for name, records, reasons in [*REPEATS, ("one of each sort", STREAM, STREAM_REASONS)]:
+        with cases.case(f"the model of repeats says what is worked by hand: {name}"):
+            told = judged(records, LISTED)
+            expect("".join(str(reason_in(words)) for words in told), reasons, "the reasons")
+    for budget in BUDGETS[:-1]:
+        with cases.case(f"a wake of {budget} begins with a repeat where there is one of each sort"):
+            expect("8" in STREAM_REASONS[budget::budget], True, "that one does")
+
+
+def try_rows(programs, cases):
+    for name, records, reasons in REPEATS:
+        with cases.case(f"lines, annual and replay: {name}"):
+            expect_repeats(programs, records)
+        if reasons.lstrip("0").startswith("8"):
+            with cases.case(f"annual: {name}, in so many words"):
+                told = f"refused 41 record {reasons.index('8')} reason 8\n".encode()
+                expect_told(programs.run("annual", data=book(records, LISTED, FUELS)), told)
+
+
+def try_repeat_book(programs, cases):
+    with cases.case("lines: repeats of each sort in one book"):
+        told = programs.run("lines", data=book(STREAM, LISTED, FUELS))
+        expect_told(told, lines_of(judged(STREAM, LISTED)))
+
+
+def try_units(programs, cases):
+    """On 64 units, whose numbers differ in both bytes, two hours each; then all of them again, and
+    before them those of a unit that isn't listed, and so has no place among the others."""
+    numbers = [257 * place + 1 for place in range(64)]
+    units = [unit_line(number, monitor=True) for number in numbers]
+    hours = [sent(hour, number) for hour in (7, 8_784) for number in numbers]
+    with cases.case("lines, annual and replay: 64 units with a monitor, every hour once"):
+        expect_repeats(programs, hours, units)
+    with cases.case("lines, annual and replay: 64 units with a monitor, every hour twice"):
+        strange = [sent(hour, UNLISTED) for hour in (7, 8_784)]
+        expect_repeats(programs, [*strange, *hours, *reversed(hours)], units)
+
+
+def crowd():
+    """Hours, kinds and faults mixed, on every sort of unit: what a pass sends first comes back in
+    the next one, or 256 hours later."""
+    sorts = list(itertools.product(
+        (UNMONITORED, WET, UNLISTED, DRY, FAR), (0, 1, 256),
+        (sent, unread, lambda hour, unit: stray(31, hour, unit),
+         lambda hour, unit: patch(sent(hour, unit), 0, b"\3"))))
+    # 7 has no divisor in common with the number of sorts, so that a pass has each of them once.
+    mixed = [sorts[7 * place % len(sorts)] for place in range(len(sorts))]
+    return [make(turn + later, unit) for turn in range(1, 34) for unit, later, make in mixed]
+
+
+def try_full_books(programs, cases):
+    """The longest books of hours, with one unit and no fuel."""
+    room, units = LONGEST // LINE - 2, [unit_line(WET, monitor=True)]
+    half = range(1, room // 2 + 1)
+    books = {
+        "every hour once": range(1, room + 1),
+        "every hour once, from the last": range(8_784, 8_784 - room, -1),
+        "the last repeats the first": [*range(1, room), 1],
+        "the last repeats the one before": [*range(1, room), room - 1],
+        "one hour alone": [7] * room,
+        "every hour twice in a row": [hour for hour in half for _ in range(2)],
+        "the second half repeats the first": [*half, *half],
+        "the second half is the first, turned round": [*half, *reversed(half)],
+    }
+    for name, hours in books.items():
+        with cases.case(f"lines, annual and replay: a full book, {name}"):
+            expect_repeats(programs, [sent(hour) for hour in hours], units, [])
+    with cases.case("lines, annual and replay: every sort of hour over and over"):
+        expect_repeats(programs, crowd())
+
+
+def try_repeats(programs, cases):
+    try_own_repeats(cases)
+    for attempt in (try_rows, try_repeat_book, try_units, try_full_books):
+        attempt(programs, cases)
