@@ -13,7 +13,9 @@ from program_jobs import plan_plant
 from program_kept import try_kept_answers
 from program_lines import try_plant
 from program_low_heat import try_low_lines
+from program_repeats import try_repeat_book
 from program_replay import try_answers, try_heads
+from program_resent import try_resent_steps
 from program_runs import Cases, Programs, Wrong, expect, memory_folder
 from program_wake import try_jobs
 from program_warming import try_warming_changes, try_warming_reports
@@ -25,6 +27,25 @@ def with_set(number):
             'seek=$(($(wc -c <"$scratch/of") - 12)) status=none; real "$@" <"$scratch/of"')
 
 
+def counting_repeats(after=None):
+    """For a body: a repeat counts as P7 does, whatever its readings; or only behind such a line."""
+    counted = "s/reason 8$/hour fossil co2-ug 12950000000000 ch4-ng 0 n2o-ng 0/"
+    return f"spoil sed '/{after}/{{n;{counted}}}'" if after else f"spoil sed '{counted}'"
+
+
+# For a body: the real `wake` sees zeros in the place of the records that are done.
+FORGETFUL = """
+cp "$2" "$scratch/of"
+if [ -e "$3" ]; then
+    head -c $((32 * $(od -An -tu4 -N4 "$3"))) /dev/zero | dd of="$2" conv=notrunc status=none
+    cp "$2" "$3.book"
+fi
+real "$@"
+end=$?
+cp "$scratch/of" "$2"
+cp "$2" "$3.book"
+exit "$end"
+"""
 # Each stand-in spoils one program's output, its end or its file. Its status stays the program's own
 # where that isn't the fault.
 WRONG = [
@@ -60,6 +81,15 @@ WRONG = [
      "12937050000000 ch4-ng 0 n2o-ng 0/'", try_dry_book),
     ("lines", "moisture is judged before the unit is found", "spoil sed 's/reason 2$/reason 1/'",
      try_dry_book),
+    ("lines", "a repeat counts", counting_repeats(), try_repeat_book),
+    ("lines", "only the record before is looked at", counting_repeats("method 4"),
+     try_repeat_book),
+    ("lines", "a repeat with other readings counts", counting_repeats("co2-ug 32116 "),
+     try_repeat_book),
+    ("lines", "a repeat of what was set aside counts", counting_repeats("reason 4$"),
+     try_repeat_book),
+    ("lines", "a repeat is told before its reading is judged",
+     "spoil sed '/^record 12 /s/reason 4$/reason 8/'", try_repeat_book),
     ("replay", "it says nothing", "spoil true", try_answers),
     ("replay", "a wrong head is no failure", 'real "$@"; exit 0', try_heads),
     ("replay", "a wrong head isn't told", 'real "$@" 2>/dev/null', try_heads),
@@ -73,6 +103,7 @@ WRONG = [
     ("wake", "it passes over an edited book",
      'cp "$2" "$3.book" 2>/dev/null; real "$@"', try_warming_changes),
     ("wake", "it keeps no copy", 'real "$@"; end=$?; rm "$3.book"; exit "$end"', try_jobs),
+    ("wake", "only the records of this wake are looked at", FORGETFUL, try_resent_steps),
 ]
 # For the body of a stand-in: the real output goes through a command.
 SPOIL = """
