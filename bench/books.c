@@ -16,6 +16,11 @@ static void write(uint8_t *at, uint64_t value, size_t bytes)
         at[i] = (uint8_t)(value >> 8 * i);
 }
 
+static uint32_t hour_of(const uint8_t *l)
+{
+    return l[6] | (uint32_t)l[7] << 8;
+}
+
 static void write_single(uint8_t *at, float value)
 {
     uint32_t bits;
@@ -34,11 +39,16 @@ static uint32_t number_of(size_t i)
     return (uint32_t)(7 + 11 * i + i * i % 5);
 }
 
+static bool has_hours_alone(enum mix mix)
+{
+    return mix == ALL_HOURS || mix == DRY_HOURS || mix == RISING_HOURS || mix == REPEATED_HOURS;
+}
+
 /* Unless all units have a monitor, or none, every fourth has one; of the others every third is a
    big one. */
 static bool is_monitored(enum mix mix, size_t i)
 {
-    return mix == ALL_HOURS || mix == DRY_HOURS || (mix != ALL_FUEL && i % 4 == 0);
+    return has_hours_alone(mix) || (mix != ALL_FUEL && i % 4 == 0);
 }
 
 static bool is_big(size_t i)
@@ -93,7 +103,7 @@ static void write_hour(uint8_t *l, size_t unit, uint64_t *row)
 {
     write(l, 2, 1);
     write(l + 2, number_of(unit), 2);
-    write(l + 6, 1 + draw(row, 8784), 2);
+    write(l + 6, 1 + draw(row, LAST_HOUR), 2);
     write_single(l + 8, (float)draw(row, 100001) / 1000.0f);
     write_single(l + 12, (float)draw(row, 1000000001));
 }
@@ -107,14 +117,54 @@ static void write_dry(uint8_t *l, size_t unit, uint64_t *row)
 static void write_record(uint8_t *l, const struct recipe *recipe, size_t unit, uint64_t *row)
 {
     enum mix mix = recipe->mix;
-    if (mix == ALL_HOURS || (mix == MIXED && is_monitored(mix, unit) && draw(row, 2)))
-        write_hour(l, unit, row);
-    else if (mix == DRY_HOURS)
+    if (mix == DRY_HOURS)
         write_dry(l, unit, row);
+    else if (has_hours_alone(mix) || (mix == MIXED && is_monitored(mix, unit) && draw(row, 2)))
+        write_hour(l, unit, row);
     else if (mix == LOW_HEATS)
         write_low(l, unit, draw(row, (uint32_t)recipe->fuels), row);
     else
         write_burned(l, unit, draw(row, (uint32_t)recipe->fuels), row);
+}
+
+static bool is_of_one_unit(const uint8_t *l, const uint8_t *m)
+{
+    return l[0] == 2 && m[0] == 2 && memcmp(l + 2, m + 2, 2) == 0;
+}
+
+static bool is_repeated(struct bytes *b, size_t i)
+{
+    for (size_t j = 0; j < i; j++)
+        if (is_of_one_unit(line(b, i), line(b, j)) && hour_of(line(b, i)) == hour_of(line(b, j)))
+            return true;
+    return false;
+}
+
+/* The hour after the last one of this unit. */
+static void write_next(struct bytes *b, size_t i)
+{
+    size_t j = i;
+    while (j > 0 && !is_of_one_unit(line(b, i), line(b, j - 1)))
+        j--;
+    write(line(b, i) + 6, j > 0 ? hour_of(line(b, j - 1)) + 1 : 1, 2);
+}
+
+/* Of four repeats two are near, and two have the readings as well. */
+static void write_again(struct bytes *b, size_t i, uint64_t *row)
+{
+    size_t j = i % 4 == 1 ? i - 1 : draw(row, (uint32_t)i);
+    memcpy(line(b, i), line(b, j), i % 8 < 4 ? BOOK_LINE : 8);
+}
+
+/* Record i, if it is an hour, gets the number that it has by the recipe. */
+static void number_hour(struct bytes *b, size_t i, enum mix mix, uint64_t *row)
+{
+    if (mix == RISING_HOURS)
+        write_next(b, i);
+    while (is_repeated(b, i))
+        write(line(b, i) + 6, 1 + draw(row, LAST_HOUR), 2);
+    if (mix == REPEATED_HOURS && i % 2 == 1)
+        write_again(b, i, row);
 }
 
 void make_book(struct bytes *b, const struct recipe *recipe)
@@ -128,6 +178,7 @@ void make_book(struct bytes *b, const struct recipe *recipe)
     for (size_t i = 0; i < n; i++) {
         size_t unit = draw(&row, (uint32_t)recipe->units);
         write_record(line(b, i), recipe, unit, &row);
+        number_hour(b, i, recipe->mix, &row);
     }
     for (size_t i = 0; i < recipe->units; i++)
         write_unit(line(b, n + i), recipe->mix, i);

@@ -5,11 +5,13 @@
 #include <stddef.h>
 #include <stdint.h>
 
-enum { LONGEST_BOOK = 65536, BOOK_LINE = 32, WARMING_SETS = 2 };
+enum { LONGEST_BOOK = 65536, BOOK_LINE = 32, WARMING_SETS = 2, LAST_HOUR = 8784 };
 enum { YEAR_AT = 16, SET_AT = 20 }; /* bytes of the trailer */
 
-/* LOW_HEATS: natural gas by its low value. DRY_HOURS: of units that measure dry gas. */
-enum mix { MIXED, ALL_FUEL, LOW_HEATS, ALL_HOURS, DRY_HOURS };
+/* LOW_HEATS: natural gas by its low value. DRY_HOURS: of units that measure dry gas. RISING_HOURS:
+   each unit's rise by one, where others are in any order. REPEATED_HOURS: every second record has
+   an hour that stands before, one line up or anywhere, with its readings or with others. */
+enum mix { MIXED, ALL_FUEL, LOW_HEATS, ALL_HOURS, DRY_HOURS, RISING_HOURS, REPEATED_HOURS };
 
 struct recipe {
     const char *name;
@@ -25,7 +27,8 @@ struct bytes {
 /* A number below `limit`, the next of a fixed row. */
 uint32_t draw(uint64_t *row, uint32_t limit);
 
-/* A sound book, every record of which counts. It has the first set of warming values. */
+/* A sound book, every record of which counts unless it repeats an hour by its recipe. It has the
+   first set of warming values. */
 void make_book(struct bytes *b, const struct recipe *recipe);
 
 /* Where this byte of the trailer stands in a book. */
