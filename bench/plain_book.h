@@ -57,6 +57,20 @@ static inline bool in_range(uint32_t x, uint32_t least, uint32_t most)
     return x - least <= most - least;
 }
 
+/* The place of x among n rising numbers, n if it isn't there. No branch depends on the numbers. */
+static inline uint32_t find(const uint16_t *numbers, uint32_t n, uint32_t x)
+{
+    uint32_t low = 0, width = n;
+    if (n == 0)
+        return n;
+    while (width > 1) {
+        uint32_t half = width / 2;
+        low = numbers[low + half] <= x ? low + half : low;
+        width -= half;
+    }
+    return numbers[low] == x ? low : n;
+}
+
 static bool decode_units(struct book *k, const uint8_t *l)
 {
     uint32_t before = 0;
