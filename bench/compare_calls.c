@@ -81,8 +81,8 @@ uint32_t compare_wake(const struct bytes *b, const char *name, struct out *from,
     return wetherstep_count(plain);
 }
 
-void compare_report(const struct bytes *b, const char *name, const struct out *from,
-                    size_t from_len)
+uint64_t compare_report(const struct bytes *b, const char *name, const struct out *from,
+                        size_t from_len)
 {
     uint64_t one[8] = {9, 9, 9, 9, 9, 9, 9, 9}, two[8] = {9, 9, 9, 9, 9, 9, 9, 9};
     uint64_t library = wetherstep_report(b->book, b->length, from->bytes, from_len, one);
@@ -90,13 +90,16 @@ void compare_report(const struct bytes *b, const char *name, const struct out *f
     same(name, REPORT, library, plain, one, two, sizeof one);
     if (wetherstep_number(plain) == 0)
         reports[b->book[in_trailer(b, SET_AT)]][two[5]]++;
+    return plain;
 }
 
-void compare_left(const struct bytes *b, const char *name, const struct out *from, size_t from_len)
+uint64_t compare_left(const struct bytes *b, const char *name, const struct out *from,
+                      size_t from_len)
 {
     uint64_t library = wetherstep_left(b->book, b->length, from->bytes, from_len);
     uint64_t plain = plain_left(b->book, b->length, from->bytes, from_len);
     same(name, LEFT, library, plain, "", "", 0);
+    return plain;
 }
 
 /* A record that counts, by what it has. */
@@ -131,9 +134,9 @@ static void see_all(void)
         {FRESH, NUMBER, 0, 0},   {FRESH, NUMBER, 20, 23},  {FRESH, NUMBER, 32, 32},
         {WAKE, NUMBER, 0, 0},    {WAKE, NUMBER, 20, 23},   {WAKE, NUMBER, 30, 32},
         {REPORT, NUMBER, 0, 0},  {REPORT, NUMBER, 20, 23}, {REPORT, NUMBER, 30, 31},
-        {REPORT, NUMBER, 40, 41}, {REPORT, REASON, 1, 7},
+        {REPORT, NUMBER, 40, 41}, {REPORT, REASON, 1, 8},
         {LEFT, NUMBER, 0, 0},    {LEFT, NUMBER, 20, 23},   {LEFT, NUMBER, 30, 31},
-        {RECORD, NUMBER, 0, 0},  {RECORD, NUMBER, 20, 23}, {RECORD, REASON, 1, 7},
+        {RECORD, NUMBER, 0, 0},  {RECORD, NUMBER, 20, 23}, {RECORD, REASON, 1, 8},
         {RECORD, METHOD, 0, 4},  {RECORD, METHOD, 255, 255}, {RECORD, LEDGER, 0, 2},
     };
     for (size_t i = 0; i < sizeof due / sizeof *due; i++)
