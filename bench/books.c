@@ -167,6 +167,14 @@ static void number_hour(struct bytes *b, size_t i, enum mix mix, uint64_t *row)
         write_again(b, i, row);
 }
 
+/* Where the unit lines and the fuel lines start. */
+static void write_starts(struct bytes *b)
+{
+    uint8_t *at = b->book + in_trailer(b, 8);
+    write(at, (uint32_t)(BOOK_LINE * b->records), 4);
+    write(at + 4, (uint32_t)(BOOK_LINE * (b->records + b->units)), 4);
+}
+
 void make_book(struct bytes *b, const struct recipe *recipe)
 {
     const size_t rest = recipe->units + recipe->fuels + 1;
@@ -174,6 +182,7 @@ void make_book(struct bytes *b, const struct recipe *recipe)
     uint64_t row = 1;
     memset(b, 0, sizeof *b);
     b->records = n;
+    b->units = recipe->units;
     b->length = BOOK_LINE * (n + rest);
     for (size_t i = 0; i < n; i++) {
         size_t unit = draw(&row, (uint32_t)recipe->units);
@@ -187,9 +196,19 @@ void make_book(struct bytes *b, const struct recipe *recipe)
     uint8_t *trailer = line(b, n + rest - 1);
     memcpy(trailer, "STCB", 4);
     write(trailer + 4, 1, 2);
-    write(trailer + 8, (uint32_t)(BOOK_LINE * n), 4);
-    write(trailer + 12, (uint32_t)(BOOK_LINE * (n + recipe->units)), 4);
+    write_starts(b);
     write(trailer + YEAR_AT, 2010, 2);
+}
+
+void take_record(struct bytes *alone, const struct bytes *b, size_t i)
+{
+    const size_t rest = b->length - BOOK_LINE * b->records;
+    alone->length = BOOK_LINE + rest;
+    alone->records = 1;
+    alone->units = b->units;
+    memcpy(alone->book, b->book + BOOK_LINE * i, BOOK_LINE);
+    memcpy(alone->book + BOOK_LINE, b->book + BOOK_LINE * b->records, rest);
+    write_starts(alone);
 }
 
 size_t in_trailer(const struct bytes *b, size_t at)

@@ -20,7 +20,7 @@ struct recipe {
 };
 
 struct bytes {
-    size_t length, records;
+    size_t length, records, units;
     uint8_t book[LONGEST_BOOK];
 };
 
@@ -30,6 +30,9 @@ uint32_t draw(uint64_t *row, uint32_t limit);
 /* A sound book, every record of which counts unless it repeats an hour by its recipe. It has the
    first set of warming values. */
 void make_book(struct bytes *b, const struct recipe *recipe);
+
+/* A book with record i of another alone. */
+void take_record(struct bytes *alone, const struct bytes *b, size_t i);
 
 /* Where this byte of the trailer stands in a book. */
 size_t in_trailer(const struct bytes *b, size_t at);

@@ -3,6 +3,8 @@
 
 #include "compare_calls.h"
 #include "compare_dry.h"
+#include "compare_model.h"
+#include "compare_repeats.h"
 
 #include <string.h>
 
@@ -11,6 +13,7 @@ enum { FUZZED = 37500, DRAWN = 20000 };
 static const struct recipe small = {"small", MIXED, 10, 4, 4};
 static const struct recipe low = {"small, low", LOW_HEATS, 10, 4, 4};
 static const struct recipe dry = {"small, dry", DRY_HOURS, 10, 4, 4};
+static const struct recipe repeated = {"small, repeated", REPEATED_HOURS, 10, 4, 4};
 
 /* Every record, and two that aren't there. */
 static void compare_records(const struct bytes *b, const char *name)
@@ -192,7 +195,7 @@ static void compare_too_many(struct bytes *b)
 /* Each reason, and a byte or two damaged, in small books of this set. */
 static void compare_faults(struct bytes *b, unsigned set)
 {
-    static const struct recipe *const kinds[5] = {&low, &dry, &small, &small, &small};
+    static const struct recipe *const kinds[5] = {&low, &dry, &repeated, &small, &small};
     uint64_t row = 5;
     for (unsigned reason = 1; reason <= 7; reason++) {
         make_under(b, &small, set);
@@ -219,8 +222,10 @@ void compare_damaged(void)
     compare_heats(&b);
     compare_flags(&b);
     compare_dry(&b);
+    compare_repeats(&b);
     compare_decisions(&b);
     compare_too_many(&b);
     tell_compared();
     tell_dry();
+    tell_modelled();
 }

@@ -1,0 +1,153 @@
+/*
+ * The model of hours that stand before, by the requirements: a record has the reason that it has as
+ * the only record of its book, or else, if it is an hour that stands before, reason 8. To look at
+ * all earlier records for each is slow, and plain to see.
+ */
+#include "compare_model.h"
+
+#include "compare_calls.h"
+
+#include <stdbool.h>
+#include <stdio.h>
+#include <stdlib.h>
+#include <string.h>
+
+enum { REASONS = 9, MOST_RECORDS = LONGEST_BOOK / BOOK_LINE, LEDGERS_AT = 16, DRAWN_WAKES = 12 };
+
+/* Of each record: its reason; and the checkpoints, the fresh one first. */
+static unsigned due[MOST_RECORDS];
+static struct out reached[MOST_RECORDS + 1];
+
+/* Repeats by what became of an hour that they repeat, and hours that stand before and have a lower
+   reason, by that. */
+static unsigned long repeats[REASONS], lower[REASONS];
+
+void stop_at(const char *name, const char *what, size_t i)
+{
+    printf("%s: %s of record %zu isn't as the requirements say\n", name, what, i);
+    exit(1);
+}
+
+static const uint8_t *line(const struct bytes *b, size_t i)
+{
+    return b->book + BOOK_LINE * i;
+}
+
+static bool is_one_hour(const uint8_t *l, const uint8_t *m)
+{
+    return l[0] == 2 && m[0] == 2 && l[2] == m[2] && l[3] == m[3] && l[6] == m[6] && l[7] == m[7];
+}
+
+/* Works `due` out. */
+static void expect(const struct bytes *b, const char *name)
+{
+    static struct bytes alone;
+    for (size_t i = 0; i < b->records; i++) {
+        unsigned met = 0;
+        for (size_t j = 0; j < i; j++)
+            if (is_one_hour(line(b, i), line(b, j)))
+                met |= 1u << due[j];
+        take_record(&alone, b, i);
+        due[i] = wetherstep_reason(compare_record(&alone, name, 0));
+        lower[due[i]] += met != 0 && due[i] != 0;
+        if (met == 0 || due[i] != 0)
+            continue;
+        due[i] = REPEATED;
+        for (unsigned reason = 0; reason < REASONS; reason++)
+            repeats[reason] += met >> reason & 1;
+    }
+}
+
+static uint32_t field(const struct out *at, size_t place)
+{
+    uint32_t value;
+    memcpy(&value, at->bytes + place, sizeof value);
+    return value;
+}
+
+/* Goes through the book by wakes of one record, each held against `due`. */
+static void reach(const struct bytes *b, const char *name)
+{
+    uint32_t aside = 0, first = 0, reason = 0;
+    reached[0] = compare_fresh(b, name, SIZE);
+    for (size_t i = 0; i < b->records; i++) {
+        struct out *at = &reached[i + 1];
+        if (due[i] != 0 && aside++ == 0) {
+            first = (uint32_t)i;
+            reason = due[i];
+        }
+        *at = reached[i];
+        if (wetherstep_reason(compare_record(b, name, (uint32_t)i)) != due[i])
+            stop_at(name, "the reason", i);
+        if (compare_wake(b, name, at, SIZE, 1, SIZE) != 1 || field(at, 0) != i + 1 ||
+            field(at, 4) != aside || field(at, 8) != first || field(at, REASON_AT) != reason)
+            stop_at(name, "the checkpoint", i);
+        compare_report(b, name, at, SIZE);
+    }
+}
+
+/* A wake from any place comes to the checkpoint that wakes of one record come to. */
+static size_t go_on(const struct bytes *b, const char *name, size_t from, uint32_t budget)
+{
+    struct out at = reached[from];
+    size_t to = from + compare_wake(b, name, &at, SIZE, budget, SIZE);
+    if (to - from != (budget < b->records - from ? budget : b->records - from) ||
+        memcmp(&at, &reached[to], sizeof at) != 0)
+        stop_at(name, "a wake's checkpoint", from);
+    return to;
+}
+
+static void compare_budgets(const struct bytes *b, const char *name, uint64_t *row)
+{
+    static const uint32_t budgets[] = {2, 3, 4, 10, 100, UINT32_MAX};
+    for (size_t i = 0; i < sizeof budgets / sizeof *budgets; i++)
+        for (size_t at = 0; at < b->records;)
+            at = go_on(b, name, at, budgets[i]);
+    for (int i = 0; i < DRAWN_WAKES; i++) {
+        size_t from = draw(row, (uint32_t)b->records + 1);
+        go_on(b, name, from, i % 2 == 0 ? draw(row, 6) : draw(row, (uint32_t)b->records + 2));
+    }
+}
+
+/* Repeats add nothing: the ledgers are the same where each has byte 0 = 0. The hour that they repeat
+   stays, so that no other record is judged otherwise. */
+static void compare_without(struct bytes *b, const char *name)
+{
+    for (size_t i = 0; i < b->records; i++)
+        if (due[i] == REPEATED)
+            b->book[BOOK_LINE * i] = 0;
+    struct out at = reached[0], *last = &reached[b->records];
+    compare_wake(b, name, &at, SIZE, UINT32_MAX, SIZE);
+    if (memcmp(at.bytes + LEDGERS_AT, last->bytes + LEDGERS_AT, SIZE - LEDGERS_AT) != 0)
+        stop_at(name, "the last checkpoint", b->records);
+}
+
+void compare_modelled(struct bytes *b, const char *name, uint64_t *row)
+{
+    expect(b, name);
+    reach(b, name);
+    compare_budgets(b, name, row);
+    compare_without(b, name);
+}
+
+unsigned reason_due(size_t i)
+{
+    return due[i];
+}
+
+/* With reason 2 or 5 an hour isn't repeated: its repeat has that reason too, by the same unit. */
+static const bool can_be_repeated[REASONS] = {[0] = true, [1] = true, [4] = true, [8] = true};
+static const bool can_be_lower[REASONS] = {[1] = true, [2] = true, [4] = true, [5] = true};
+
+void tell_modelled(void)
+{
+    for (unsigned i = 0; i < REASONS; i++)
+        if ((repeats[i] != 0) != can_be_repeated[i] || (lower[i] != 0) != can_be_lower[i]) {
+            printf("of reason %u are %lu hours that are repeated, %lu that stand before\n", i,
+                   repeats[i], lower[i]);
+            exit(1);
+        }
+    printf("hours set aside with reason 8: after one that counts %lu, with reason 1 %lu, 4 %lu, 8 "
+           "%lu\nhours that stand before and have a lower reason: 1 %lu, 2 %lu, 4 %lu, 5 %lu\n",
+           repeats[0], repeats[1], repeats[4], repeats[8], lower[1], lower[2], lower[4], lower[5]);
+}

@@ -1,0 +1,24 @@
+/* Library, C and a model of hours that stand before, on one book. */
+#ifndef COMPARE_MODEL_H
+#define COMPARE_MODEL_H
+
+#include "books.h"
+
+enum { REPEATED = 8, REASON_AT = 12 }; /* the reason, and where a checkpoint names one */
+
+/* Stops where a record has another reason than the model's, or a wake another checkpoint than wakes
+   of one record come to, whichever earlier one it goes on from. Places and budgets are drawn from
+   `row`, and some are fixed. Spends the book. */
+void compare_modelled(struct bytes *b, const char *name, uint64_t *row);
+
+/* By the model, of record i of the last book. */
+unsigned reason_due(size_t i);
+
+/* Stops the program, and says that this of a record is wrong. */
+void stop_at(const char *name, const char *what, size_t i);
+
+/* Says what was met, and stops unless that is every reason that an hour which stands before can
+   have, and whatever can have become of the earlier one. */
+void tell_modelled(void);
+
+#endif
