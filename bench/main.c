@@ -207,66 +207,6 @@ static void time_growth(struct bytes *b)
     }
 }
 
-/* A function that runs on a stack of its own takes no argument. */
-static const struct job *deep;
-
-static void call_fresh(void)
-{
-    uint8_t out[SIZE];
-    wetherstep_fresh(deep->book->book, deep->book->length, out, SIZE);
-}
-
-static void call_wake(void)
-{
-    do_one_wake(&library, deep);
-}
-
-static void call_report(void)
-{
-    do_report(&library, deep);
-}
-
-static void call_left(void)
-{
-    wetherstep_left(deep->book->book, deep->book->length, deep->at, SIZE);
-}
-
-static void call_record(void)
-{
-    uint64_t masses[3];
-    for (uint32_t i = 0; i < deep->book->records; i++)
-        wetherstep_record(deep->book->book, deep->book->length, i, masses);
-}
-
-static void call_nothing(void)
-{
-}
-
-/* The most that a call touches on any of the books, less what the way to it takes. */
-static void tell_stack(struct bytes *b)
-{
-    static const struct {
-        const char *name;
-        void (*run)(void);
-    } calls[] = {{"fresh", call_fresh}, {"wake", call_wake}, {"report", call_report},
-                 {"left", call_left}, {"record", call_record}};
-    enum { CALLS = sizeof calls / sizeof *calls };
-    size_t most[CALLS] = {0};
-    for (int i = 0; i < BOOKS; i++) {
-        struct job job = begin(b, &books[i]);
-        job.budget = UINT32_MAX;
-        deep = &job;
-        for (int j = 0; j < CALLS; j++) {
-            size_t used = stack_of(calls[j].run) - stack_of(call_nothing);
-            most[j] = used > most[j] ? used : most[j];
-        }
-    }
-    printf("\nstack of the library, bytes:");
-    for (int j = 0; j < CALLS; j++)
-        printf(" %s %zu", calls[j].name, most[j]);
-    printf("\n");
-}
-
 int main(int count, char **words)
 {
     static struct bytes b;
@@ -281,6 +221,6 @@ int main(int count, char **words)
     time_wakes(&b);
     time_openings(&b);
     time_growth(&b);
-    tell_stack(&b);
+    tell_stack(&b, books, BOOKS);
     return 0;
 }

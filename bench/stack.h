@@ -1,9 +1,11 @@
+/* How much stack the library's calls take. */
 #ifndef BENCH_STACK_H
 #define BENCH_STACK_H
 
-#include <stddef.h>
+#include "books.h"
 
-/* The bytes of stack that a call of `run` touches, on a stack of its own. */
-size_t stack_of(void (*run)(void));
+/* Tells the most that each call touches on any of these books. Wakes are told apart: of all records
+   and of the last 100; of the last one alone; and of all where a book has no hour. */
+void tell_stack(struct bytes *b, const struct recipe *books, size_t count);
 
 #endif
