@@ -8,6 +8,7 @@
 #include "stack.h"
 #include "wetherstep.h"
 
+#include <stdbool.h>
 #include <stdio.h>
 #include <stdlib.h>
 #include <string.h>
@@ -113,13 +114,13 @@ static struct times measure(work *work, const struct job *job)
 
 static void head(const char *title, const char *each)
 {
-    printf("\n%-34s %8s  %10s  %10s  %s\n", title, "records", "library", "C", "library / C");
-    printf("%-34s %8s  %10s  %10s\n", "", "", each, each);
+    printf("\n%-44s %8s  %10s  %10s  %s\n", title, "records", "library", "C", "library / C");
+    printf("%-44s %8s  %10s  %10s\n", "", "", each, each);
 }
 
 static void row(const char *name, size_t records, struct times t, double parts)
 {
-    printf("%-34s %8zu  %10.1f  %10.1f  %.2f\n", name, records, t.library / parts, t.plain / parts,
+    printf("%-44s %8zu  %10.1f  %10.1f  %.2f\n", name, records, t.library / parts, t.plain / parts,
            t.library / t.plain);
     fflush(stdout);
 }
@@ -139,6 +140,11 @@ static const struct recipe books[] = {
     {"full, low heats, 8 units, 8 fuels", LOW_HEATS, 0, 8, 8},
     {"full, all hours, 8 units", ALL_HOURS, 0, 8, 0},
     {"full, dry hours, 8 units", DRY_HOURS, 0, 8, 0},
+    {"full, rising hours, 8 units", RISING_HOURS, 0, 8, 0},
+    {"full, repeated hours, 8 units", REPEATED_HOURS, 0, 8, 0},
+    {"full, all hours, 64 units", ALL_HOURS, 0, 64, 0},
+    {"full, rising hours, 64 units", RISING_HOURS, 0, 64, 0},
+    {"full, repeated hours, 64 units", REPEATED_HOURS, 0, 64, 0},
     {"full, mixed, 64 units, 64 fuels", MIXED, 0, 64, 64},
     {"small, mixed, 4 units, 4 fuels", MIXED, 1, 4, 4},
     {"small, mixed, 4 units, 4 fuels", MIXED, 10, 4, 4},
@@ -156,20 +162,53 @@ static void time_books(struct bytes *b)
     }
 }
 
+/* Whether a book is timed by wakes: a full one, of which a wake may look back. Dry hours do that as
+   wet ones do. */
+static bool is_woken(const struct recipe *recipe)
+{
+    return recipe->records == 0 && recipe->mix != ALL_FUEL && recipe->mix != LOW_HEATS &&
+           recipe->mix != DRY_HOURS;
+}
+
 static void time_wakes(struct bytes *b)
 {
     static const uint32_t budgets[] = {1, 10, 100};
     head("a full book by wakes", "ns/wake");
     for (int i = 0; i < BOOKS; i++)
-        for (int j = 0; j < 3 && books[i].mix == MIXED && books[i].records == 0; j++) {
+        for (int j = 0; j < 3 && is_woken(&books[i]); j++) {
             struct job job = begin(b, &books[i]);
             char name[64];
             size_t wakes = (b->records + budgets[j] - 1) / budgets[j];
             job.budget = budgets[j];
-            snprintf(name, sizeof name, "budget %u, %zu units, %zu fuels", (unsigned)budgets[j],
-                     books[i].units, books[i].fuels);
+            snprintf(name, sizeof name, "budget %u, %s", (unsigned)budgets[j], books[i].name);
             row(name, b->records, measure(do_wakes, &job), (double)wakes);
         }
+}
+
+/* A wake of one record, the last of its kind, which is 1 for fuel and 2 for an hour. Fuel asks for
+   nothing that stands before it, and an hour for nearly a whole book. */
+static void time_last(struct bytes *b, const struct recipe *recipe, uint8_t kind)
+{
+    struct job job = begin(b, recipe);
+    const struct job fresh = job;
+    uint32_t i = (uint32_t)b->records;
+    char name[64];
+    while (i > 0 && b->book[BOOK_LINE * (i - 1)] != kind)
+        i--;
+    if (i == 0)
+        return;
+    plain_wake(b->book, b->length, fresh.start, SIZE, i - 1, job.start, SIZE);
+    job.budget = 1;
+    snprintf(name, sizeof name, "%s, %s", kind == 1 ? "fuel" : "an hour", recipe->name);
+    row(name, i - 1, measure(do_one_wake, &job), 1);
+}
+
+static void time_lasts(struct bytes *b)
+{
+    head("one record, so many before it", "ns/wake");
+    for (int i = 0; i < BOOKS; i++)
+        for (uint8_t kind = 1; kind <= 2 && is_woken(&books[i]); kind++)
+            time_last(b, &books[i], kind);
 }
 
 static void time_opening(const struct job *job, const struct recipe *recipe, work *work,
@@ -196,8 +235,10 @@ static void time_growth(struct bytes *b)
 {
     static const size_t sizes[] = {64, 512, 0};
     head("a wake of all less a wake of none", "ns/record");
-    for (int i = 0; i < 3; i++) {
-        const struct recipe recipe = {"mixed, 8 units, 8 fuels", MIXED, sizes[i], 8, 8};
+    for (int i = 0; i < 6; i++) {
+        const struct recipe mixed = {"mixed, 8 units, 8 fuels", MIXED, sizes[i % 3], 8, 8};
+        const struct recipe hours = {"all hours, 8 units", ALL_HOURS, sizes[i % 3], 8, 0};
+        const struct recipe recipe = i < 3 ? mixed : hours;
         struct job job = begin(b, &recipe);
         struct times none = measure(do_one_wake, &job);
         job.budget = UINT32_MAX;
@@ -219,6 +260,7 @@ int main(int count, char **words)
            "before a call\n", ROUNDS);
     time_books(&b);
     time_wakes(&b);
+    time_lasts(&b);
     time_openings(&b);
     time_growth(&b);
     tell_stack(&b, books, BOOKS);
