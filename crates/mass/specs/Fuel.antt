@@ -2,6 +2,7 @@
 --
 --     HeatInReach a h x     an amount, a heat and a factor that a sound book can hold
 --     CarbonInReach a c     an amount and a carbon content that a sound book can hold
+--     perCarbon             µg of CO2 for each mg of carbon
 --     co2OfHeat a h x       CO2 by methods 1 and 2: amount × heat × CO2 factor, in µg
 --     co2OfCarbon a c       CO2 by method 3: amount × carbon × 3,664, in µg
 --     traceOfHeat a h x     CH4 or N2O under every method: amount × heat in use × factor, in ng
@@ -30,11 +31,15 @@ pub record CarbonInReach (a c : ℕ) : Type 0 where
   pub amount-le : a ≤ 100000000
   pub carbon-le : c ≤ 4000000
 
+-- 3.664, where others take 44 / 12.
+abbrev pub perCarbon : ℕ
+perCarbon = 3664
+
 unfoldable pub co2OfHeat : Amount → Heat → Co2Factor → Ug
 co2OfHeat a h x = record { 0 = a .0 * h .0 * x .0 }
 
 unfoldable pub co2OfCarbon : Amount → Carbon → Ug
-co2OfCarbon a c = record { 0 = a .0 * c .0 * 3664 }
+co2OfCarbon a c = record { 0 = a .0 * c .0 * perCarbon }
 
 unfoldable pub traceOfHeat : Amount → Heat → TraceFactor → Ng
 traceOfHeat a h x = record { 0 = a .0 * h .0 * x .0 }

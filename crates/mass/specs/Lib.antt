@@ -3,5 +3,6 @@ pub mod Rounding
 pub mod Fuel
 pub mod Units
 pub mod Hour
+pub mod Anode
 pub mod Ledger
 pub mod Figures

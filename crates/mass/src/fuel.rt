@@ -26,7 +26,7 @@ pub struct Co2Factor(pub u32);
 pub struct TraceFactor(pub u32);
 
 // µg of CO2 for each mg of carbon.
-const CO2_OF_CARBON: u64 = 3664;
+pub(crate) const CO2_OF_CARBON: u64 = 3664;
 
 // 1.11 kJ of heat for each kJ of low value, in hundredths.
 const HUNDREDTHS_OF_LOW: u32 = 111;

@@ -1,4 +1,4 @@
-// Rounding a multiple of a double to the nearest whole number, a half going to the even one.
+// Rounding to the nearest whole number, a half going to the even one: fractions, and multiples of a double.
 ghost use mathlib.Core.Path.{_≡_};
 ghost use Prim.Native.Nat.{_*_, _^_, _<_, _≤_};
 ghost use lib.Dec.{T};
@@ -32,26 +32,25 @@ pub(crate) fn round_multiple(k: u64, p: f64) -> u64
         return 0;
     }
     let digits = LEADING + bits % LEADING;
-    round_shifted(k * digits, WHOLE - exponent)
+    round_fraction(k * digits, 1u64 << (WHOLE - exponent))
 }
 
-// n / 2^places, as it is taught: divide, and hold the remainder against half of the divisor. With
-// the half asked first the compiler makes no jumps of the tests; one on whether a remainder is above
-// half would be foreseen half of the time.
-fn round_shifted(n: u64, places: u64) -> u64
+// n / d, as it is taught: divide, and hold the remainder against half of the divisor, both doubled so that
+// an odd divisor has a half too. With the half asked first the compiler makes no jumps of the tests; one on
+// whether a remainder is above half would be foreseen half of the time.
+pub(crate) fn round_fraction(n: u64, d: u64) -> u64
     requires room { ⌜ n < 2 ^ 63 ⌝ }
-    requires some { ⌜ (0 < places) × (places < 64) ⌝ }
-    ensures nearest { λ r. ⌜ r ≡ nearestTo n (2 ^ places) ⌝ }
+    requires some { ⌜ 0 < d ⌝ }
+    ensures nearest { λ r. ⌜ r ≡ nearestTo n d ⌝ }
 {
-    let divisor = 1u64 << places;
-    let quotient = n / divisor;
-    let remainder = n % divisor;
-    let half = divisor / 2;
-    if remainder == half {
+    let quotient = n / d;
+    let remainder = n % d;
+    let twice = 2 * remainder;
+    if twice == d {
         // An odd quotient goes up, an even one stays.
         return quotient + quotient % 2;
     }
-    if half < remainder {
+    if d < twice {
         return quotient + 1;
     }
     quotient

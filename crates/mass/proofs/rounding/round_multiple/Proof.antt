@@ -1,11 +1,11 @@
 -- Below the least exponent the multiple is under a half. From there on the fraction is the same in
 -- smaller numbers: k × digits is below 2^63, and 16 to 63 places are shifted. Assumes nothing.
-use Prim.Native.Nat.{ℕ, _+_, _-_, _*_, _^_, _≤_, _<_}
+use Prim.Native.Nat.{ℕ, _+_, _-_, _*_, _%_, _^_, _≤_, _<_}
 use mathlib.Core.Path.{_≡_, sym, ap, _∙_, subst}
-use native.Mathlib.Nat.{mod-lt, mul-le-mul-right}
+use native.Mathlib.Nat.{mod-lt, one-mul, mul-le-mul-right}
 use native.Mathlib.Omega.{arith}
-use lib.Dec.{T}
-use lib.Pow.{pow-pos}
+use lib.Dec.{T, lit<}
+use lib.Pow.{pow-pos, shl-exact}
 use lib.Ieee.{binary64, toBits}
 use borrow.Author.Needs.{needs}
 use Rattle.mass.specs.Rounding.{nearestTo}
@@ -46,29 +46,47 @@ returns c =
 add-digits : tie.Need-add-digits
 add-digits c = search needs
 
-mul-round-shifted : tie.Need-mul-round-shifted
-mul-round-shifted c = omega (arith, room (c .before))
+abbrev divisor : tie.Start → ℕ
+divisor c = 1 * 2 ^ (1075 - exponent (bits c)) % 2 ^ 64
 
-sub-round-shifted : tie.Need-sub-round-shifted
-sub-round-shifted c = omega (arith, at-most (c .before))
+-- No bit of it is shifted out.
+power : (c : tie.Start) → 1012 ≤ exponent (bits c) → divisor c ≡ 2 ^ (1075 - exponent (bits c))
+power c h =
+    let places = 1075 - exponent (bits c) in
+    shl-exact 1 places 64 (lit< tt) (omega arith) ∙ one-mul (2 ^ places)
 
-round-shifted-requires : tie.Need-round-shifted-requires
-round-shifted-requires c κs = (room (c .before), omega (arith, at-most (c .before)))
+mul-round-fraction : tie.Need-mul-round-fraction
+mul-round-fraction c = omega (arith, room (c .before))
+
+sub-round-fraction : tie.Need-sub-round-fraction
+sub-round-fraction c = omega (arith, at-most (c .before))
+
+shl-round-fraction : tie.Need-shl-round-fraction
+shl-round-fraction c = search needs
+
+round-fraction-requires : tie.Need-round-fraction-requires
+round-fraction-requires c κs = (
+  room (c .before),
+  omega (arith, power (c .before) (c .if1 .left), pow-pos (1075 - exponent (bits (c .before)))),
+)
 
 returns-2 : tie.Need-returns-2
 returns-2 c =
     let e = c .before in
     let s = e .before in
-    c .round-shifted .ensures
-    ∙ multiple-reduced (s .args .k) (exponent (bits s)) (digits (bits s)) (e .if1 .left) (at-most s)
-    ∙ ap (λ (u : ℕ). nearestTo (s .args .k * u) (2 ^ 1074)) (sym (units s))
+    let k = s .args .k in
+    c .round-fraction .ensures
+    ∙ ap (nearestTo (k * (2 ^ 52 + digits (bits s)))) (power s (e .if1 .left))
+    ∙ multiple-reduced k (exponent (bits s)) (digits (bits s)) (e .if1 .left) (at-most s)
+    ∙ ap (λ (u : ℕ). nearestTo (k * u) (2 ^ 1074)) (sym (units s))
 
 pub round-multiple-spec : {M : Type 1} → statement M
 round-multiple-spec = tie.close (tie.spec
     float-to-bits-bits
     returns
     add-digits
-    mul-round-shifted
-    sub-round-shifted
-    round-shifted-requires
+    mul-round-fraction
+    sub-round-fraction
+    shl-round-fraction
+    round-fraction-requires
     returns-2)
