@@ -1,7 +1,7 @@
 // A book, opened or refused.
-use crate::field;
 use crate::listing;
 use crate::listing::Sort;
+use crate::trailer;
 ghost use mathlib.Core.Path.{_≡_};
 ghost use Prim.Native.Nat.{_≤_};
 ghost use lib.ListN.{length};
@@ -67,8 +67,8 @@ pub fn open(s: &[u8]) -> Opened
     if !is_trailer_right(t, end) {
         return Opened::Wrong(Fault::Trailer);
     }
-    let units = field::unit_start(t);
-    let fuels = field::fuel_start(t);
+    let units = trailer::unit_start(t);
+    let fuels = trailer::fuel_start(t);
     if !listing::are_sound(&s[units..fuels], Sort::Unit) {
         return Opened::Wrong(Fault::Units);
     }
@@ -76,8 +76,8 @@ pub fn open(s: &[u8]) -> Opened
         return Opened::Wrong(Fault::Fuels);
     }
     let n = units / 32;
-    let year = field::year(t);
-    let warming = field::warming_set(t);
+    let year = trailer::year(t);
+    let warming = trailer::warming_set(t);
     Opened::Open(Head {
         n,
         units,
@@ -99,14 +99,14 @@ fn is_trailer_right(t: &[u8], e: usize) -> bool
     requires whole { ⌜ 32 ≤ length (now t) ⌝ }
     ensures trailer { λ r. ⌜ r ≡ trailerOk (now (t .entry)) e ⌝ }
 {
-    let signed = field::is_signed(t);
-    let version = field::version(t);
-    let gap = field::is_trailer_gap(t);
-    let starts = are_starts_right(field::unit_start(t), field::fuel_start(t), e);
-    let year = field::year(t);
-    let year_gap = field::is_year_gap(t);
-    let set = field::warming_set(t);
-    let blank = field::is_trailer_blank(t);
+    let signed = trailer::is_signed(t);
+    let version = trailer::version(t);
+    let gap = trailer::is_gap(t);
+    let starts = are_starts_right(trailer::unit_start(t), trailer::fuel_start(t), e);
+    let year = trailer::year(t);
+    let year_gap = trailer::is_year_gap(t);
+    let set = trailer::warming_set(t);
+    let blank = trailer::is_blank(t);
     signed
         & (version == 1)
         & gap

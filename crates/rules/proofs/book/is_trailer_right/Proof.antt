@@ -13,8 +13,8 @@ is-signed-requires c κs = search needs
 version-requires : tie.Need-version-requires
 version-requires c κs = search needs
 
-is-trailer-gap-requires : tie.Need-is-trailer-gap-requires
-is-trailer-gap-requires c κs = search needs
+is-gap-requires : tie.Need-is-gap-requires
+is-gap-requires c κs = search needs
 
 unit-start-requires : tie.Need-unit-start-requires
 unit-start-requires c κs = search needs
@@ -34,8 +34,8 @@ is-year-gap-requires c κs = search needs
 warming-set-requires : tie.Need-warming-set-requires
 warming-set-requires c κs = search needs
 
-is-trailer-blank-requires : tie.Need-is-trailer-blank-requires
-is-trailer-blank-requires c κs = search needs
+is-blank-requires : tie.Need-is-blank-requires
+is-blank-requires c κs = search needs
 
 returns : tie.Need-returns
 unfolding trailerOk
@@ -45,14 +45,14 @@ returns c =
     let e = named .before .before .before .before .args .e in
     let signed = named .before .before .is-signed .ensures in
     let version = named .before .version .ensures in
-    let gap = named .is-trailer-gap .ensures in
+    let gap = named .is-gap .ensures in
     let units = tested .before .before .unit-start .ensures in
     let fuels = tested .before .fuel-start .ensures in
     let starts = tested .are-starts-right .ensures ∙ λ i. startsOk (units i) (fuels i) e in
     let year = c .before .before .before .year .ensures in
     let gap-after = c .before .before .is-year-gap .ensures in
     let set = c .before .warming-set .ensures in
-    let blank = c .is-trailer-blank .ensures in
+    let blank = c .is-blank .ensures in
     both
     (both
     (both
@@ -75,12 +75,12 @@ is-trailer-right-spec =
     (tie.spec
     is-signed-requires
     version-requires
-    is-trailer-gap-requires
+    is-gap-requires
     unit-start-requires
     fuel-start-requires
     are-starts-right-requires
     year-requires
     is-year-gap-requires
     warming-set-requires
-    is-trailer-blank-requires
+    is-blank-requires
     returns)

@@ -1,8 +1,8 @@
 -- The word read is the field, so that the tests of the two are the same. Assumes nothing.
 use lib.Dec.{eqb}
 use borrow.Author.Needs.{needs}
-use Rattle.rules.proofs.field.is_signed.Statement.{statement}
-use Rattle.rules.proofs.field.is_signed.Tie as tie
+use Rattle.rules.proofs.trailer.is_signed.Statement.{statement}
+use Rattle.rules.proofs.trailer.is_signed.Tie as tie
 
 read-word-requires : tie.Need-read-word-requires
 read-word-requires c κs = search needs
