@@ -21,8 +21,8 @@ use Rattle.rules.specs.declared.record.Outcome.the-variants.{SetAside, C
 use Rattle.rules.specs.Bytes.{word, bytesOf}
 use Rattle.rules.specs.Fields.{moisture}
 use Rattle.rules.specs.Method.{methodOf}
-use Rattle.rules.specs.Entry.{measuredHeat, heatInUse, co2By, destinationBy, entryBy, fuelEntry, hourEntry}
-use Rattle.rules.specs.Record.{check, listed, fuelForm, hourForm, moistureForm, heatLimit, heatRange, carbonLimit, fuelRanges, hourRange, fuelJudged, fuelOutcome, hourRead, hourJudged, hourOutcome, outcomeOf}
+use Rattle.rules.specs.Entry.{measuredHeat, heatInUse, co2By, destinationBy, entryBy, fuelEntry, co2Alone, hourEntry}
+use Rattle.rules.specs.Record.{check, listed, fuelForm, hourForm, moistureForm, heatLimit, heatRange, carbonLimit, fuelRanges, hourRange, fuelJudged, fuelOutcome, hourRead, hourJudged, hourOutcome, unfuelledOutcome, outcomeOf}
 
 -- ---- lines
 -- a unit line by its flags and rating
@@ -93,13 +93,13 @@ fuelled {m} p q r = λ i. Counted (record { method = m; destination = Fossil; co
 
 metered : (l : List ℕ) {x : Hour} {r : Readings} {co2 : ℕ} → x ≡ Usable r
     → hourMass (record { 0 = moisture l }) r ≡ record { 0 = co2 } → hourRead l (unit 1 2500) x ≡ counted 0 co2 0 0
-unfolding bytesOf hourRead hourEntry check
+unfolding bytesOf hourRead hourEntry co2Alone check
 metered l usable weighed =
     ap (hourRead l (unit 1 2500)) usable ∙ choose-true _ _ ∙ fuelled weighed refl refl
 
 pub worked-sums : WorkedSums
 unfolding
-    outcomeOf check listed word bytesOf
+    outcomeOf unfuelledOutcome check listed word bytesOf
     fuelOutcome fuelForm fuelRanges heatRange heatLimit carbonLimit fuelJudged methodOf fuelEntry destinationBy co2By
     entryBy heatInUse measuredHeat
     hourOutcome hourForm moistureForm hourRange hourJudged

@@ -1,26 +1,31 @@
 -- What the tests of a record and of its fuel line say of the numbers that masses are made of, and how
 -- large an entry's numbers get. Assumes nothing.
 use Prim.Native.Nat.{ℕ, _≤_, zero-le}
-use mathlib.Core.Bool.{true, false}
+use mathlib.Core.Bool.{Bool, true, false, false≢true}
 use mathlib.Core.List.{List}
 use mathlib.Core.Path.{_≡_, refl, sym, _∙_}
 use native.Mathlib.Nat.{le-trans, le-of-eq}
-use lib.Dec.{eqb, lit≤}
-use borrow.Author.Tests.{leb-true}
-use Rattle.choice.proofs.TestsLaws.{also-l, also-r, choose-t, choose-f, if-choose}
+use native.Mathlib.Omega.{arith}
+use lib.Dec.{eqb, leb, lit≤}
+use borrow.Author.Tests.{leb-true, le-leb}
+use Rattle.choice.specs.Tests.{_also_}
+use Rattle.choice.proofs.Splitting.{if-test}
+use Rattle.choice.proofs.TestsLaws.{also-t, also-l, also-r, choose-t, choose-f, if-choose}
 use Rattle.mass.specs.declared.Ug.{Ug}
 use Rattle.mass.specs.declared.fuel.Heat.{Heat}
 use Rattle.mass.specs.declared.hour.Readings.{Readings}
 use Rattle.mass.specs.Fuel.{HeatInReach, CarbonInReach}
 use Rattle.mass.specs.Hour.{InRange}
+use Rattle.mass.specs.Anode.{AnodesInReach}
 use Rattle.mass.proofs.FuelLaws.{mostEach, co2OfHeat-le, co2OfCarbon-le, traceOfHeat-le, highOf-le}
 use Rattle.mass.proofs.HourLaws.{hourMass-le}
+use Rattle.mass.proofs.AnodeLaws.{co2OfAnodes-le}
 use Rattle.rules.specs.declared.entry.Entry.{Entry}
-use Rattle.rules.specs.Fields.{fuelKind, defaultHeat, co2Factor, ch4Factor, n2oFactor, heatMeasured, heatLow, amount, heat, carbon, moisture}
+use Rattle.rules.specs.Fields.{fuelKind, defaultHeat, co2Factor, ch4Factor, n2oFactor, heatMeasured, heatLow, amount, heat, carbon, moisture, month, metal, anodeUse, sulphur, ash, otherImpurities}
 use Rattle.rules.specs.Book.{fuelHeadOk, fuelOk}
 use Rattle.rules.specs.Method.{methodOf}
-use Rattle.rules.specs.Entry.{measuredHeat, heatInUse, co2By, entryBy, fuelEntry, hourEntry}
-use Rattle.rules.specs.Record.{heatLimit, heatRange, carbonLimit, fuelRanges, hourRange}
+use Rattle.rules.specs.Entry.{measuredHeat, heatInUse, co2By, entryBy, fuelEntry, co2Alone, hourEntry, impurities, anodesEntry}
+use Rattle.rules.specs.Record.{heatLimit, heatRange, carbonLimit, fuelRanges, hourRange, anodesRanges}
 use Rattle.rules.proofs.MethodLaws.{methodOf-le}
 
 -- ---- ranges
@@ -54,6 +59,40 @@ heatLimit-le l f h = heatRange-measured l f (heatRange-of-fuelRanges l f h)
 pub moisture-le : (l : List ℕ) → hourRange l ≡ true → moisture l ≤ 1000
 unfolding hourRange
 moisture-le l h = leb-true _ _ (also-r _ _ h)
+
+-- Anodes in their ranges have a month, and numbers that `mass` takes.
+pub month-in : (l : List ℕ) → anodesRanges l ≡ true → (1 ≤ month l) × (month l ≤ 12)
+unfolding anodesRanges
+month-in l h =
+    let months = also-l _ _ (also-l _ _ (also-l _ _ (also-l _ _ (also-l _ _ (also-l _ _ h))))) in
+    (leb-true _ _ (also-l _ _ months), leb-true _ _ (also-r _ _ months))
+
+pub anodes-reach : (l : List ℕ) → anodesRanges l ≡ true → AnodesInReach (metal l) (anodeUse l) (impurities l)
+unfolding anodesRanges
+anodes-reach l h =
+    let rest = also-l _ _ (also-l _ _ (also-l _ _ (also-l _ _ h))) in
+    record {
+      metal-le = leb-true _ _ (also-r _ _ (also-l _ _ rest));
+      use-le = leb-true _ _ (also-r _ _ rest);
+      impurities-le = leb-true _ _ (also-r _ _ h);
+    }
+
+same-test : (a b : Bool) → (a ≡ true → b ≡ true) → (b ≡ true → a ≡ true) → a ≡ b
+same-test a b f g =
+    if-test a (λ p. p ∙ sym (f p)) (λ p. if-test b (λ q. absurd (false≢true (sym p ∙ g q))) (λ q. p ∙ sym q))
+
+-- Where the sum of impurities is in its range, so is each of them.
+pub impurities-each : (a : Bool) (l : List ℕ) → (a also leb (impurities l) 10000)
+    ≡ (a also leb (sulphur l) 10000 also leb (ash l) 10000 also leb (otherImpurities l) 10000
+    also leb (impurities l) 10000)
+unfolding impurities
+impurities-each a l =
+    same-test _ _
+    (λ h. let sum : impurities l ≤ 10000 = leb-true _ _ (also-r _ _ h) in
+    let each = also-t (also-t (also-t (also-l _ _ h) (le-leb (sulphur l) 10000 (omega arith))) (le-leb (ash l) 10000 (omega arith)))
+    (le-leb (otherImpurities l) 10000 (omega arith)) in
+    also-t each (also-r _ _ h))
+    (λ h. also-t (also-l _ _ (also-l _ _ (also-l _ _ (also-l _ _ h)))) (also-r _ _ h))
 
 -- What `mass` asks of a heat.
 abbrev Fits : Heat → Type 0
@@ -128,11 +167,14 @@ bounded-fuelEntry l u f h k =
       n2o-le = traceOfHeat-le _ _ _ (r .by-n2o);
     }
 
+bounded-co2Alone : (x : Ug) → x .0 ≤ mostEach → Bounded (co2Alone x)
+unfolding co2Alone
+bounded-co2Alone x h = record { method-le = zero-le; co2-le = h; ch4-le = zero-le; n2o-le = zero-le }
+
 pub bounded-hourEntry : (l : List ℕ) (r : Readings) → InRange r → Bounded (hourEntry l r)
 unfolding hourEntry
-bounded-hourEntry l r h = record {
-  method-le = zero-le;
-  co2-le = le-trans (hourMass-le _ r h) (lit≤ tt);
-  ch4-le = zero-le;
-  n2o-le = zero-le;
-}
+bounded-hourEntry l r h = bounded-co2Alone _ (le-trans (hourMass-le _ r h) (lit≤ tt))
+
+pub bounded-anodesEntry : (l : List ℕ) → anodesRanges l ≡ true → Bounded (anodesEntry l)
+unfolding anodesEntry
+bounded-anodesEntry l h = bounded-co2Alone _ (co2OfAnodes-le _ _ _ (anodes-reach l h))

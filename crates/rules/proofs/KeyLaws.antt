@@ -1,4 +1,4 @@
--- A key tells kind, unit and hour, and a mask makes it of a record's first eight bytes; what stands among
+-- A key tells kind, unit and period, and a mask makes it of a record's first eight bytes; what stands among
 -- lines is found by a scan for a key. Assumes nothing.
 use Prim.Native.Nat.{ℕ, _+_, _-_, _*_, _<_, _≤_}
 use mathlib.Core.Bool.{Bool, true, false}
@@ -12,7 +12,7 @@ use Rattle.choice.specs.Tests.{_either_}
 use Rattle.choice.proofs.Splitting.{if-test}
 use Rattle.choice.proofs.TestsLaws.{either-t, either-f}
 use Rattle.rules.specs.Bytes.{line, lines}
-use Rattle.rules.specs.Fields.{kind, flags, unitNumber, fuelNumber, hour}
+use Rattle.rules.specs.Fields.{kind, flags, unitNumber, fuelNumber, period}
 use Rattle.rules.specs.Repeat.{isOf, stands, standsAmong}
 use Rattle.rules.specs.Key.{key, Start, Keyed}
 use Rattle.rules.proofs.BytesLaws.{lines-start, lines-next, lines-end}
@@ -52,27 +52,27 @@ keyed l s = record {
   kind-lt = s .kind-lt;
   unit-lt = s .unit-lt;
   key-is = ap (λ (x : ℕ). bitAnd x 0xFFFF0000FFFF00FF) (s .start)
-      ∙ masked (kind l) (flags l) (unitNumber l) (fuelNumber l) (hour l)
-      (s .kind-lt) (s .flags-lt) (s .unit-lt) (s .fuel-lt) (s .hour-lt);
+      ∙ masked (kind l) (flags l) (unitNumber l) (fuelNumber l) (period l)
+      (s .kind-lt) (s .flags-lt) (s .unit-lt) (s .fuel-lt) (s .period-lt);
 }
 
 -- ---- a record l, and an earlier one e
 module _ {r q : ℕ} (l e : List ℕ) (a : Keyed l r) (b : Keyed e q) where
-  pub isOf-same : q ≡ r → isOf (kind l) (unitNumber l) (hour l) e ≡ true
+  pub isOf-same : q ≡ r → isOf (kind l) (unitNumber l) (period l) e ≡ true
   unfolding key
   isOf-same h =
       let x = a .key-is in
       let y = b .key-is in
-      isOf-is _ _ _ e (record { kind-is = omega arith; unit-is = omega arith; hour-is = omega arith })
+      isOf-is _ _ _ e (record { kind-is = omega arith; unit-is = omega arith; period-is = omega arith })
 
-  pub isOf-other : (q ≡ r → ⊥) → isOf (kind l) (unitNumber l) (hour l) e ≡ false
+  pub isOf-other : (q ≡ r → ⊥) → isOf (kind l) (unitNumber l) (period l) e ≡ false
   unfolding key
   isOf-other h =
-      if-test (isOf (kind l) (unitNumber l) (hour l) e)
-      (λ t. let is = is-isOf (kind l) (unitNumber l) (hour l) e t in
+      if-test (isOf (kind l) (unitNumber l) (period l) e)
+      (λ t. let is = is-isOf (kind l) (unitNumber l) (period l) e t in
       absurd (h (b .key-is
-      ∙ ap₂ (λ (k u : ℕ). k + 65536 * u + 281474976710656 * hour e) (is .kind-is) (is .unit-is)
-      ∙ ap (λ (w : ℕ). kind l + 65536 * unitNumber l + 281474976710656 * w) (is .hour-is)
+      ∙ ap₂ (λ (k u : ℕ). k + 65536 * u + 281474976710656 * period e) (is .kind-is) (is .unit-is)
+      ∙ ap (λ (w : ℕ). kind l + 65536 * unitNumber l + 281474976710656 * w) (is .period-is)
       ∙ sym (a .key-is))))
       (λ f. f)
 
@@ -89,7 +89,7 @@ module _ (l s : List ℕ) (n : ℕ) where
   scan-end i h = ap (standsAmong l) (lines-end n i (drop (32 * i) s) h)
 
   module _ {r q : ℕ} (i : ℕ) (h : i < n) (a : Keyed l r) (b : Keyed (line i s) q) where
-    one : standsFrom l n i s ≡ (isOf (kind l) (unitNumber l) (hour l) (line i s) either standsFrom l n (i + 1) s)
+    one : standsFrom l n i s ≡ (isOf (kind l) (unitNumber l) (period l) (line i s) either standsFrom l n (i + 1) s)
     unfolding standsAmong stands
     one = ap (standsAmong l) (lines-next n i s h)
 

@@ -11,6 +11,7 @@ pub mod HintsLaws
 pub mod RepeatLaws
 pub mod KeyLaws
 pub mod BitLaws
+pub mod RowLaws
 pub mod TableLaws
 pub mod NotedLaws
 pub mod MethodLaws

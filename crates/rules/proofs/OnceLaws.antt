@@ -1,28 +1,52 @@
--- The table tells a repeat wherever the record would count: such an hour is one of the year, of a listed
--- unit, and of those a table shows whether they stand. Assumes nothing.
+-- The table tells a repeat wherever the record would count: its period is in range and its unit listed, and
+-- of those a table shows whether they stand. Assumes nothing.
 use Prim.Native.Nat.{ℕ}
-use mathlib.Core.Bool.{Bool, true, false}
+use mathlib.Core.Bool.{Bool, true, false, false≢true}
 use mathlib.Core.List.{List}
-use mathlib.Core.Path.{_≡_, refl, sym, ap, _∙_, subst}
+use mathlib.Core.Path.{_≡_, refl, sym, ap, ap₂, _∙_, subst}
 use native.Mathlib.Omega.{arith}
-use borrow.Author.Tests.{eq-eqb, ne-eqb}
+use lib.Dec.{eqb}
+use borrow.Author.Tests.{eq-eqb, ne-eqb, eqb-true, leb-true}
 use Rattle.choice.proofs.Splitting.{if-test}
-use Rattle.choice.proofs.TestsLaws.{also-t, also-f, also-l, also-r, choose-f, if-choose}
+use Rattle.choice.proofs.TestsLaws.{also-t, also-f, also-l, also-r, either-t, either-f, choose-t, choose-f, if-choose}
 use Rattle.rules.specs.declared.listing.Found.{Found}
 use Rattle.rules.specs.declared.listing.Found.the-variants.{At, Nothing}
 use Rattle.rules.specs.declared.record.Outcome.{Outcome}
 use Rattle.rules.specs.declared.record.Outcome.the-variants.{SetAside, Counted}
 use Rattle.rules.specs.Bytes.{line, linesIn}
-use Rattle.rules.specs.Fields.{kind, unitNumber, hour}
-use Rattle.rules.specs.Repeat.{stands, standsAmong, repeated}
-use Rattle.rules.specs.Record.{hourForm, moistureForm, hourRange, hourJudged, hourOutcome, outcomeOf, unlessRepeated, outcomeAfter}
+use Rattle.rules.specs.Fields.{kind, unitNumber, period}
+use Rattle.rules.specs.Repeat.{stands, standsAmong, repeatable, repeated}
+use Rattle.rules.specs.Record.{check, listed, hourForm, anodesForm, moistureForm, hourRange, anodesRanges, fuelOutcome, hourJudged, hourOutcome, anodesOutcome, unfuelledOutcome, outcomeOf, unlessRepeated, outcomeAfter}
 use Rattle.rules.specs.Place.{place}
 use Rattle.rules.specs.Listing.{Rising}
 use Rattle.rules.specs.Table.{hasBit, bitOf, noted, isTable, noting, Known}
 use Rattle.rules.specs.Marks.{markedAt, wasNoted}
 use Rattle.rules.proofs.ListingLaws.{listed-at, listed-nothing, place-lt, place-number}
+use Rattle.rules.proofs.EntryLaws.{month-in}
 use Rattle.rules.proofs.RecordLaws.{check-t, check-f}
+use Rattle.rules.proofs.RowLaws.{hasBit-hour, hasBit-month, hasBit-fuel}
 use Rattle.rules.proofs.TableLaws.{Shows, shows-known}
+
+-- ---- what can be a repeat
+repeatable-hour : (l : List ℕ) → kind l ≡ 2 → repeatable l ≡ true
+unfolding repeatable
+repeatable-hour l hourly = either-t _ (eq-eqb _ _ hourly)
+
+repeatable-anodes : (l : List ℕ) → kind l ≡ 4 → repeatable l ≡ true
+unfolding repeatable
+repeatable-anodes l used = either-f (ne-eqb (kind l) 2 (λ e. omega arith)) (eq-eqb (kind l) 4 used)
+
+hasBit-hourRange : (l : List ℕ) → kind l ≡ 2 → hourRange l ≡ true → hasBit (kind l) (period l) ≡ true
+unfolding hourRange
+hasBit-hourRange l hourly h =
+    hasBit-hour _ _ hourly (leb-true _ _ (also-l _ _ (also-l _ _ h))) (leb-true _ _ (also-r _ _ (also-l _ _ h)))
+
+hasBit-anodesRanges : (l : List ℕ) → kind l ≡ 4 → anodesRanges l ≡ true → hasBit (kind l) (period l) ≡ true
+hasBit-anodesRanges l used h = let m = month-in l h in hasBit-month _ _ used (m .0) (m .1)
+
+-- What has no bit isn't in its range.
+unfit : {b : Bool} (t : Bool) → b ≡ false → (t ≡ true → b ≡ true) → t ≡ false
+unfit t none has = if-test t (λ yes. absurd (false≢true (sym none ∙ has yes))) (λ no. no)
 
 -- What is set aside already stays so.
 aside : {o : Outcome} {k : ℕ} (a b : Bool) → o ≡ SetAside k → unlessRepeated a o ≡ unlessRepeated b o
@@ -36,48 +60,70 @@ module _ (l units t : List ℕ) (before : List (List ℕ)) (so-far : Shows befor
   abbrev Agree : Outcome → Type 0
   Agree o = unlessRepeated (wasNoted l units t) o ≡ unlessRepeated (repeated l before) o
 
-  module _ (hourly : kind l ≡ 2) where
-    -- An hour of the year, of a listed unit.
-    was-repeated : {j : ℕ} → hourRange l ≡ true → found ≡ At j → wasNoted l units t ≡ repeated l before
-    unfolding hourRange hasBit wasNoted markedAt repeated standsAmong
-    was-repeated {j} h at =
-        let has : hasBit (kind l) (hour l) ≡ true =
-        also-t (also-t (eq-eqb _ _ hourly) (also-l _ _ (also-l _ _ h))) (also-r _ _ (also-l _ _ h)) in
-        also-t has (ap (λ (x : Found). markedAt x (bitOf (hour l)) t) at)
-        ∙ so-far .shows (kind l) (hour l) j has (place-lt (unitNumber l) units refl at)
-        ∙ ap (λ (u : ℕ). stands (kind l) u (hour l) before) (place-number (unitNumber l) units refl at)
-        ∙ sym (also-t (eq-eqb (kind l) 2 hourly) refl)
+  -- A record of a listed unit, whose period has a bit.
+  was-repeated : {j : ℕ} → repeatable l ≡ true → hasBit (kind l) (period l) ≡ true → found ≡ At j
+      → wasNoted l units t ≡ repeated l before
+  unfolding wasNoted markedAt repeated standsAmong
+  was-repeated {j} once has at =
+      also-t has (ap (λ (x : Found). markedAt x (bitOf (kind l) (period l)) t) at)
+      ∙ so-far .shows (kind l) (period l) j has (place-lt (unitNumber l) units refl at)
+      ∙ ap (λ (u : ℕ). stands (kind l) u (period l) before) (place-number (unitNumber l) units refl at)
+      ∙ sym (also-t once refl)
 
-    out-of-range : (u : List ℕ) → hourRange l ≡ false → Agree (hourJudged l u)
-    unfolding hourJudged
-    out-of-range u h =
-        if-test (moistureForm l u)
-        (λ told. aside _ _ (check-t 1 told (check-f 4 _ h)))
-        (λ told. aside _ _ (check-f 1 _ told))
+  -- It is enough that a record whose period has no bit is set aside.
+  agree-listed : (formed : Bool) (rest : List ℕ → Outcome) → repeatable l ≡ true
+      → ((u : List ℕ) → hasBit (kind l) (period l) ≡ false → Agree (rest u))
+      → Agree (check formed 1 (listed (unitNumber l) (linesIn units) 2 rest))
+  agree-listed formed rest once out =
+      if-test formed (λ right. go right found refl) (λ wrong. aside _ _ (check-f 1 _ wrong))
+    where
+      whole : Outcome
+      whole = check formed 1 (listed (unitNumber l) (linesIn units) 2 rest)
 
-    agree-hour : Agree (hourOutcome l (linesIn units))
-    unfolding hourOutcome
-    agree-hour =
-        if-test (hourForm l) (λ formed. go formed found refl) (λ formed. aside _ _ (check-f 1 _ formed))
-      where
-        go : hourForm l ≡ true → (r : Found) → r ≡ found → Agree (hourOutcome l (linesIn units))
-        go formed Nothing e = aside _ _ (check-t 1 formed (listed-nothing (unitNumber l) 2 _ units e refl refl))
-        go formed (At j) e =
-            if-test (hourRange l)
-            (λ h. ap (λ (b : Bool). unlessRepeated b (hourOutcome l (linesIn units))) (was-repeated h (sym e)))
-            (λ h. subst Agree (sym (check-t 1 formed (listed-at (unitNumber l) 2 _ units e refl refl .1)))
-            (out-of-range (line j units) h))
+      go : formed ≡ true → (r : Found) → r ≡ found → Agree whole
+      go right Nothing e = aside _ _ (check-t 1 right (listed-nothing (unitNumber l) 2 rest units e refl refl))
+      go right (At j) e =
+          if-test (hasBit (kind l) (period l))
+          (λ has. ap (λ (b : Bool). unlessRepeated b whole) (was-repeated once has (sym e)))
+          (λ none. subst Agree (sym (check-t 1 right (listed-at (unitNumber l) 2 rest units e refl refl .1)))
+          (out (line j units) none))
 
--- What the code gives of an hour, by a table of the lines before it.
+  -- An hour past the year, and anodes of no month, are set aside.
+  out-of-year : kind l ≡ 2 → (u : List ℕ) → hasBit (kind l) (period l) ≡ false → Agree (hourJudged l u)
+  unfolding hourJudged
+  out-of-year hourly u none =
+      if-test (moistureForm l u)
+      (λ told. aside _ _ (check-t 1 told (check-f 4 _ (unfit (hourRange l) none (hasBit-hourRange l hourly)))))
+      (λ told. aside _ _ (check-f 1 _ told))
+
+  agree-hour : kind l ≡ 2 → Agree (hourOutcome l (linesIn units))
+  unfolding hourOutcome
+  agree-hour hourly = agree-listed (hourForm l) (hourJudged l) (repeatable-hour l hourly) (out-of-year hourly)
+
+  agree-anodes : kind l ≡ 4 → Agree (anodesOutcome l (linesIn units))
+  unfolding anodesOutcome
+  agree-anodes used =
+      agree-listed (anodesForm l) _ (repeatable-anodes l used) (λ u none.
+      aside _ _ (check-f 4 _ (unfit (anodesRanges l) none (hasBit-anodesRanges l used))))
+
+  agree-unfuelled : Agree (unfuelledOutcome l (linesIn units))
+  unfolding unfuelledOutcome
+  agree-unfuelled =
+      if-choose Agree (eqb (kind l) 2) (λ hourly. agree-hour (eqb-true _ _ hourly)) (λ no-hour.
+      if-test (eqb (kind l) 4)
+      (λ used. subst Agree (sym (check-t 1 used refl)) (agree-anodes (eqb-true _ _ used)))
+      (λ other. aside _ _ (check-f 1 _ other)))
+
+-- What the code gives of a record of no fuel, by a table of the lines before it.
 pub unlessRepeated-noted : {was : Bool} {o r : Outcome} {m : List ℕ} (before : List (List ℕ)) (l units t : List ℕ) → Rising units
-    → Known before units t → isTable units t ≡ true → kind l ≡ 2 → m ≡ l → was ≡ wasNoted m units t
-    → o ≡ hourOutcome l (linesIn units) → r ≡ unlessRepeated was o
-    → r ≡ unlessRepeated (repeated l before) (hourOutcome l (linesIn units))
-unlessRepeated-noted {was} before l units t rising so-far table hourly at told judged made =
+    → Known before units t → isTable units t ≡ true → m ≡ l → was ≡ wasNoted m units t
+    → o ≡ unfuelledOutcome l (linesIn units) → r ≡ unlessRepeated was o
+    → r ≡ unlessRepeated (repeated l before) (unfuelledOutcome l (linesIn units))
+unlessRepeated-noted {was} before l units t rising so-far table at told judged made =
     made
     ∙ ap (unlessRepeated was) judged
-    ∙ ap (λ (b : Bool). unlessRepeated b (hourOutcome l (linesIn units))) (told ∙ ap (λ (x : List ℕ). wasNoted x units t) at)
-    ∙ agree-hour l units t before (shows-known units rising before t table so-far) hourly
+    ∙ ap (λ (b : Bool). unlessRepeated b (unfuelledOutcome l (linesIn units))) (told ∙ ap (λ (x : List ℕ). wasNoted x units t) at)
+    ∙ agree-unfuelled l units t before (shows-known units rising before t table so-far)
 
 -- ---- a record by its kind
 first : (o : Outcome) → unlessRepeated false o ≡ o
@@ -86,23 +132,23 @@ first (SetAside k) = refl
 first (Counted e) = check-t 8 refl refl
 
 module _ (before : List (List ℕ)) (l : List ℕ) (units fuels : List (List ℕ)) where
-  pub outcomeAfter-hour : kind l ≡ 2
-      → outcomeAfter before l units fuels ≡ unlessRepeated (repeated l before) (hourOutcome l units)
-  unfolding outcomeAfter outcomeOf
-  outcomeAfter-hour hourly =
-      ap (unlessRepeated (repeated l before))
-      (choose-f _ (ne-eqb (kind l) 1 (λ e. omega arith)) (check-t 1 (eq-eqb (kind l) 2 hourly) refl))
+  -- No fuel record is repeated.
+  pub outcomeAfter-fuel : kind l ≡ 1 → outcomeAfter before l units fuels ≡ fuelOutcome l units fuels
+  unfolding outcomeAfter outcomeOf repeated repeatable
+  outcomeAfter-fuel fuel =
+      ap₂ unlessRepeated
+      (also-f _ (either-f (ne-eqb (kind l) 2 (λ e. omega arith)) (ne-eqb (kind l) 4 (λ e. omega arith))))
+      (choose-t _ (eq-eqb (kind l) 1 fuel) refl)
+      ∙ first (fuelOutcome l units fuels)
 
-  -- Nothing but an hour is repeated.
-  pub outcomeAfter-other : (kind l ≡ 2 → ⊥) → outcomeAfter before l units fuels ≡ outcomeOf l units fuels
-  unfolding outcomeAfter repeated
-  outcomeAfter-other other =
-      ap (λ (b : Bool). unlessRepeated b (outcomeOf l units fuels)) (also-f _ (ne-eqb (kind l) 2 other))
-      ∙ first (outcomeOf l units fuels)
+  pub outcomeAfter-unfuelled : (kind l ≡ 1 → ⊥)
+      → outcomeAfter before l units fuels ≡ unlessRepeated (repeated l before) (unfuelledOutcome l units)
+  unfolding outcomeAfter outcomeOf
+  outcomeAfter-unfuelled other = ap (unlessRepeated (repeated l before)) (choose-f _ (ne-eqb (kind l) 1 other) refl)
 
 -- It has no bit either.
-pub noting-other : (l units t : List ℕ) → (kind l ≡ 2 → ⊥) → noting l units t ≡ t
-unfolding noting noted hasBit
-noting-other l units t other =
-    let none : noted l units t ≡ t = choose-f _ (also-f _ (also-f _ (ne-eqb (kind l) 2 other))) refl in
+pub noting-fuel : (l units t : List ℕ) → kind l ≡ 1 → noting l units t ≡ t
+unfolding noting noted
+noting-fuel l units t fuel =
+    let none : noted l units t ≡ t = choose-f _ (hasBit-fuel (kind l) (period l) fuel) refl in
     if-choose (λ (x : List ℕ). x ≡ t) (isTable units t) (λ table. none) (λ no-table. refl)

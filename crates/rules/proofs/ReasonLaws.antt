@@ -5,7 +5,7 @@ use mathlib.Core.Bool.{true, not}
 use mathlib.Core.List.{List}
 use mathlib.Core.Path.{_≡_, refl, sym, ap, _∙_, subst}
 use native.Mathlib.Omega.{arith}
-use borrow.Author.Tests.{eq-eqb, eqb-true, not-true, not-false}
+use borrow.Author.Tests.{not-true, not-false}
 use Rattle.choice.proofs.Splitting.{if-lt}
 use Rattle.choice.proofs.TestsLaws.{also-t, also-l, also-r, if-choose}
 use Rattle.rules.specs.declared.book.Head.{Head}
@@ -13,11 +13,11 @@ use Rattle.rules.specs.declared.entry.Entry.{Entry}
 use Rattle.rules.specs.declared.record.Outcome.{Outcome}
 use Rattle.rules.specs.declared.record.Outcome.the-variants.{SetAside, Counted}
 use Rattle.rules.specs.Bytes.{line, lines, linesIn}
-use Rattle.rules.specs.Fields.{kind, unitNumber, hour}
+use Rattle.rules.specs.Fields.{kind, unitNumber, period}
 use Rattle.rules.specs.Book.{unitOk, fuelOk, linesSound, unitLines, fuelLines, opened, accepted}
 use Rattle.rules.specs.Repeat.{standsAmong, repeated}
 use Rattle.rules.specs.Record.{lastReason, check, unlessRepeated, outcomeAfter, outcomeAt}
-use Rattle.rules.specs.Reason.{MonitorHour, Applies, Reasons}
+use Rattle.rules.specs.Reason.{Applies, Reasons}
 use Rattle.rules.proofs.BookLaws.{accepted-facts}
 use Rattle.rules.proofs.RepeatLaws.{stands-among, if-stands}
 use Rattle.rules.proofs.ListedLaws.{once-linesOk}
@@ -32,15 +32,13 @@ module _ (before : List (List ℕ)) (l : List ℕ) (units fuels : List (List ℕ
   sent-repeated : repeated l before ≡ true → Applies before l units fuels lastReason
   unfolding repeated standsAmong
   sent-repeated h =
-      let hourly : MonitorHour l = eqb-true _ _ (also-l _ _ h) in
-      if-stands (kind l) (unitNumber l) (hour l) before (also-r _ _ h)
-      (λ e i is. Applies.sentBefore e hourly i (is .kind-is ∙ hourly) (is .unit-is) (is .hour-is))
+      if-stands (kind l) (unitNumber l) (period l) before (also-r _ _ h)
+      (λ e i is. Applies.sentBefore e (also-l _ _ h) i (is .kind-is) (is .unit-is) (is .period-is))
 
   repeated-sent : Applies before l units fuels lastReason → repeated l before ≡ true
   unfolding repeated standsAmong
   repeated-sent (Applies.sentBefore e p i q u w) =
-      also-t (eq-eqb _ _ p)
-      (stands-among _ _ _ before e i (record { kind-is = q ∙ sym p; unit-is = u; hour-is = w }))
+      also-t p (stands-among _ _ _ before e i (record { kind-is = q; unit-is = u; period-is = w }))
 
   decided-unlessRepeated : (o : Outcome) → Alone before l units fuels o
       → Decided before l units fuels (lastReason + 1) (unlessRepeated (repeated l before) o)
@@ -53,6 +51,7 @@ module _ (before : List (List ℕ)) (l : List ℕ) (units fuels : List (List ℕ
             (λ a. clash (repeated-sent a) (not-true _ first));
         by-fuel = d .by-fuel;
         by-hour = d .by-hour;
+        by-anodes = d .by-anodes;
       })
       (λ again. (sent-repeated (not-false _ again), d .clear))
 
@@ -73,12 +72,14 @@ module _ (before : List (List ℕ)) (l : List ℕ) (units fuels : List (List ℕ
     counts = (λ q. absurd (unlike m (q .0) (q .1)), λ none. absurd (none m (d .0)));
     gives-fuel = λ e u f q. absurd (unlike m e q);
     gives-hour = λ e r q. absurd (unlike m e q);
+    gives-anodes = λ e q. absurd (unlike m e q);
   }
   reasons-decided (Counted x) d = record {
     set-aside = λ k. (λ q. absurd (unlike k x (sym q)), λ a. absurd (none-clear (d .clear) k (a .0)));
     counts = (λ q. none-clear (d .clear), λ none. (x, refl));
     gives-fuel = λ e u f q p i j. let same : x ≡ e = cc in sym same ∙ d .by-fuel u f p i j;
     gives-hour = λ e r q p h. let same : x ≡ e = cc in sym same ∙ d .by-hour r p h;
+    gives-anodes = λ e q p. let same : x ≡ e = cc in sym same ∙ d .by-anodes p;
   }
 
 -- Record i of an accepted book.

@@ -18,9 +18,9 @@ use Rattle.rules.specs.Fields.{number, monitored, kind, unitNumber, fuel
 use Rattle.rules.specs.Book.{unitOk, fuelOk, linesOk, linesSound, unitLines, fuelLines, opened, accepted}
 use Rattle.rules.specs.Method.{methodOf}
 use Rattle.rules.specs.Entry.{heatInUse}
-use Rattle.rules.specs.Record.{lastReason, check, listed, fuelForm, hourForm, moistureForm, fuelRanges, hourRange, fuelJudged, fuelOutcome, hourRead, hourJudged, hourOutcome, outcomeOf, unlessRepeated, outcomeAfter, outcomeAt}
+use Rattle.rules.specs.Record.{lastReason, check, listed, fuelForm, hourForm, anodesForm, moistureForm, fuelRanges, hourRange, anodesRanges, fuelJudged, fuelOutcome, hourRead, hourJudged, hourOutcome, anodesOutcome, unfuelledOutcome, outcomeOf, unlessRepeated, outcomeAfter, outcomeAt}
 use Rattle.rules.proofs.BookLaws.{accepted-facts}
-use Rattle.rules.proofs.EntryLaws.{Bounded, bounded-fuelEntry, bounded-hourEntry}
+use Rattle.rules.proofs.EntryLaws.{Bounded, bounded-fuelEntry, bounded-hourEntry, bounded-anodesEntry}
 
 -- ---- one test
 pub check-t : {t : Bool} {x r : Outcome} (k : ℕ) → t ≡ true → x ≡ r → check t k x ≡ r
@@ -91,11 +91,20 @@ module _ (l units fuels : List ℕ) (U : linesSound unitOk units ≡ true) (F : 
       within-listed unitOk (unitNumber l) 2 0 (linesIn units) _ (lit≤ tt) (lit≤ tt) (also-r _ _ U) (λ u unit.
       within-hourJudged l u))
 
+  within-anodesOutcome : Within (anodesOutcome l (linesIn units))
+  unfolding anodesOutcome linesSound
+  within-anodesOutcome =
+      within-check (anodesForm l) 1 _ (lit≤ tt) (lit≤ tt) (λ formed.
+      within-listed unitOk (unitNumber l) 2 0 (linesIn units) _ (lit≤ tt) (lit≤ tt) (also-r _ _ U) (λ u unit.
+      within-check (anodesRanges l) 4 _ (lit≤ tt) (lit≤ tt) (λ ranges.
+      bounded-anodesEntry l ranges)))
+
   pub within-outcomeOf : Within (outcomeOf l (linesIn units) (linesIn fuels))
-  unfolding outcomeOf
+  unfolding outcomeOf unfuelledOutcome
   within-outcomeOf =
       chosen _ _ (eqb (kind l) 1) within-fuelOutcome
-      (within-check (eqb (kind l) 2) 1 _ (lit≤ tt) (lit≤ tt) (λ measured. within-hourOutcome))
+      (chosen _ _ (eqb (kind l) 2) within-hourOutcome
+      (within-check (eqb (kind l) 4) 1 _ (lit≤ tt) (lit≤ tt) (λ used. within-anodesOutcome)))
 
 within-unlessRepeated : (b : Bool) (o : Outcome) → Within o → Within (unlessRepeated b o)
 unfolding unlessRepeated

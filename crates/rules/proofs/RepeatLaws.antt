@@ -7,26 +7,26 @@ use borrow.Author.Tests.{eq-eqb, eqb-true}
 use Rattle.choice.specs.Tests.{_either_}
 use Rattle.choice.proofs.Splitting.{if-test}
 use Rattle.choice.proofs.TestsLaws.{also-t, also-l, also-r, either-t, either-f}
-use Rattle.rules.specs.Fields.{kind, unitNumber, hour}
+use Rattle.rules.specs.Fields.{kind, unitNumber, period}
 use Rattle.rules.specs.Repeat.{isOf, stands}
 
 -- ---- one line
 pub record Is (k u w : ℕ) (l : List ℕ) : Type 0 where
   pub kind-is : kind l ≡ k
   pub unit-is : unitNumber l ≡ u
-  pub hour-is : hour l ≡ w
+  pub period-is : period l ≡ w
 
 module _ (k u w : ℕ) (l : List ℕ) where
   pub isOf-is : Is k u w l → isOf k u w l ≡ true
   unfolding isOf
-  isOf-is is = also-t (also-t (eq-eqb _ _ (is .kind-is)) (eq-eqb _ _ (is .unit-is))) (eq-eqb _ _ (is .hour-is))
+  isOf-is is = also-t (also-t (eq-eqb _ _ (is .kind-is)) (eq-eqb _ _ (is .unit-is))) (eq-eqb _ _ (is .period-is))
 
   pub is-isOf : isOf k u w l ≡ true → Is k u w l
   unfolding isOf
   is-isOf h = record {
     kind-is = eqb-true _ _ (also-l _ _ (also-l _ _ h));
     unit-is = eqb-true _ _ (also-r _ _ (also-l _ _ h));
-    hour-is = eqb-true _ _ (also-r _ _ h);
+    period-is = eqb-true _ _ (also-r _ _ h);
   }
 
 -- ---- one line more

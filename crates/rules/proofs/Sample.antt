@@ -11,7 +11,7 @@ use Rattle.choice.proofs.TestsLaws.{choose-true, worked-out}
 use Rattle.rules.specs.declared.book.Head.{Head}
 use Rattle.rules.specs.Bytes.{word, bytesOf, line, lines, linesIn}
 use Rattle.rules.specs.Book.{lengthOk, startsOk, trailerOk, unitHeadOk, unitOk, kindClassOk, fuelHeadOk, fuelOk, linesOk, linesSound, headOf, accepted, opened, SetApart}
-use Rattle.rules.specs.Repeat.{repeated}
+use Rattle.rules.specs.Repeat.{repeatable, repeated}
 use Rattle.rules.specs.Record.{check, unlessRepeated, outcomeAfter, outcomeAt}
 use Rattle.rules.proofs.ApartLaws.{naming, opened-apart}
 use Rattle.rules.proofs.Cases.{counted, worked-sums}
@@ -40,7 +40,7 @@ opened-sampleBook = simp worked-out
 
 -- A fuel record repeats nothing.
 first-sampleBook : repeated (line 0 sampleBook) (lines 0 sampleBook) ≡ false
-unfolding sampleBook repeated
+unfolding sampleBook repeated repeatable
 first-sampleBook = simp worked-out
 
 pub outcomeAt-sampleBook : outcomeAt sampleHead sampleBook 0 ≡ counted 1 1900000000000 34200000000 3420000000

@@ -1,4 +1,4 @@
--- A table of lines shows which unit and hour stands among them. Assumes nothing.
+-- A table of lines shows which unit and period stands among them. Assumes nothing.
 use Prim.Native.Nat.{ℕ, _+_, _-_, _*_, _/_, _%_, _<_, _≤_}
 use mathlib.Core.Bool.{true, false, false≢true}
 use mathlib.Core.List.{List, [], _∷_, _++_, append-nil, append-assoc}
@@ -6,7 +6,7 @@ use mathlib.Core.Path.{_≡_, refl, sym, ap, ap₂, _∙_, subst}
 use native.Mathlib.Omega.{arith}
 use lib.Dec.{leb}
 use lib.ListN.{length, getD, drop, replicate, length-replicate, length-take, getD-replicate, List·getD-eq-default}
-use borrow.Author.Tests.{ne-eqb, eqb-true, leb-true, le-leb}
+use borrow.Author.Tests.{ne-eqb, leb-true, le-leb}
 use Rattle.choice.specs.Tests.{_also_}
 use Rattle.choice.proofs.Splitting.{if-test, if-lt}
 use Rattle.choice.proofs.TestsLaws.{also-t, also-l, also-r, either-t, either-f, choose-t, choose-f, if-choose}
@@ -14,7 +14,7 @@ use Rattle.rules.specs.declared.book.Head.{Head}
 use Rattle.rules.specs.declared.listing.Found.{Found}
 use Rattle.rules.specs.declared.listing.Found.the-variants.{At, Nothing}
 use Rattle.rules.specs.Bytes.{line, lines, linesIn}
-use Rattle.rules.specs.Fields.{kind, unitNumber, hour}
+use Rattle.rules.specs.Fields.{kind, unitNumber, period}
 use Rattle.rules.specs.Book.{unitLines}
 use Rattle.rules.specs.Repeat.{isOf, stands}
 use Rattle.rules.specs.Place.{place}
@@ -24,21 +24,8 @@ use Rattle.rules.specs.Marks.{bitAt, marked}
 use Rattle.rules.proofs.BytesLaws.{lines-snoc}
 use Rattle.rules.proofs.ListingLaws.{place-mid, place-number}
 use Rattle.rules.proofs.BitLaws.{bitAt-zero, length-withMark, marked-same, marked-other}
+use Rattle.rules.proofs.RowLaws.{bitOf-lt, bitOf-inj, row-there}
 use Rattle.rules.proofs.RepeatLaws.{Is, isOf-is, is-isOf, stands-snoc}
-
--- ---- bits
-pub record Bitted (k w : ℕ) : Type 0 where
-  pub is-hour : k ≡ 2
-  pub first : 1 ≤ w
-  pub last : w ≤ 8784
-
-pub bitted : (k w : ℕ) → hasBit k w ≡ true → Bitted k w
-unfolding hasBit
-bitted k w h = record {
-  is-hour = eqb-true k 2 (also-l _ _ (also-l _ _ h));
-  first = leb-true 1 w (also-r _ _ (also-l _ _ h));
-  last = leb-true w 8784 (also-r _ _ h);
-}
 
 -- ---- what is a table
 pub record Roomy (units t : List ℕ) : Type 0 where
@@ -53,61 +40,54 @@ pub isTable-length : (units s t : List ℕ) → length s ≡ length t → isTabl
 unfolding isTable
 isTable-length units s t e i = leb 1 (e i) also leb (rowWords * (length units / 32)) (e i)
 
--- The bits of row j are there.
-pub row-there : (u n j c : ℕ) → rowWords * u ≤ n → j < u → c < 8832 → rowWords * j + c / 64 < n
-row-there u n j c h l m = omega arith
-
--- ---- what a table shows: of each unit line and hour, whether a record of them stands among the lines
+-- ---- what a table shows: of each unit line and period, whether a record of them stands among the lines
 pub record Shows (ls : List (List ℕ)) (units t : List ℕ) : Type 0 where
   pub rows : rowWords * (length units / 32) ≤ length t
   pub shows : (k w j : ℕ) → hasBit k w ≡ true → j < length units / 32
-      → marked t j (bitOf w) ≡ stands k (numberAt j units) w ls
+      → marked t j (bitOf k w) ≡ stands k (numberAt j units) w ls
 
 pub length-noted : (l units t : List ℕ) → length (noted l units t) ≡ length t
 unfolding noted withMarkAt
 length-noted l units t =
-    if-choose (λ (x : List ℕ). length x ≡ length t) (hasBit (kind l) (hour l))
+    if-choose (λ (x : List ℕ). length x ≡ length t) (hasBit (kind l) (period l))
     (λ has. go (place (unitNumber l) 0 (linesIn units))) (λ none. refl)
   where
-    go : (r : Found) → length (withMarkAt r (bitOf (hour l)) t) ≡ length t
-    go (At j) = length-withMark t j (bitOf (hour l))
+    go : (r : Found) → length (withMarkAt r (bitOf (kind l) (period l)) t) ≡ length t
+    go (At j) = length-withMark t j (bitOf (kind l) (period l))
     go Nothing = refl
 
 module _ (units : List ℕ) (rising : Rising units) where
   module _ (l t : List ℕ) (ls : List (List ℕ)) (so-far : Shows ls units t) where
     module _ (k w j : ℕ) (has : hasBit k w ≡ true) (there : j < length units / 32) where
-      abbrev in-row : bitOf w < 8832
-      in-row = let b = bitted k w has in omega arith
-
-      -- The record is of this kind, unit and hour: its bit is set.
-      set-now : Is k (numberAt j units) w l → marked (noted l units t) j (bitOf w) ≡ true
+      -- The record is of this kind, unit and period: its bit is set.
+      set-now : Is k (numberAt j units) w l → marked (noted l units t) j (bitOf k w) ≡ true
       unfolding noted withMarkAt
       set-now is =
           let at : At j ≡ place (unitNumber l) 0 (linesIn units) =
           place-mid units (unitNumber l) j (numberAt j units) rising there refl (sym (is .unit-is)) in
-          let has-l : hasBit (kind l) (hour l) ≡ true = ap₂ hasBit (is .kind-is) (is .hour-is) ∙ has in
-          ap (λ (x : List ℕ). marked x j (bitOf w))
-          (choose-t _ has-l (ap₂ (λ (r : Found) (v : ℕ). withMarkAt r (bitOf v) t) (sym at) (is .hour-is)))
-          ∙ marked-same t j (bitOf w) (row-there _ _ j (bitOf w) (so-far .rows) there in-row)
+          let has-l : hasBit (kind l) (period l) ≡ true = ap₂ hasBit (is .kind-is) (is .period-is) ∙ has in
+          ap (λ (x : List ℕ). marked x j (bitOf k w))
+          (choose-t _ has-l (ap₂ (λ (r : Found) (c : ℕ). withMarkAt r c t) (sym at) (ap₂ bitOf (is .kind-is) (is .period-is))))
+          ∙ marked-same t j (bitOf k w) (row-there _ _ j (bitOf k w) (so-far .rows) there (bitOf-lt k w has))
 
       -- It isn't: the bit is as it was.
-      kept : (Is k (numberAt j units) w l → ⊥) → marked (noted l units t) j (bitOf w) ≡ marked t j (bitOf w)
+      kept : (Is k (numberAt j units) w l → ⊥) → marked (noted l units t) j (bitOf k w) ≡ marked t j (bitOf k w)
       unfolding noted withMarkAt
       kept no-is =
-          if-choose (λ (x : List ℕ). marked x j (bitOf w) ≡ marked t j (bitOf w)) (hasBit (kind l) (hour l))
+          if-choose (λ (x : List ℕ). marked x j (bitOf k w) ≡ marked t j (bitOf k w)) (hasBit (kind l) (period l))
           (λ has-l. go has-l (place (unitNumber l) 0 (linesIn units)) refl) (λ none. refl)
         where
-          go : hasBit (kind l) (hour l) ≡ true → (r : Found) → r ≡ place (unitNumber l) 0 (linesIn units)
-              → marked (withMarkAt r (bitOf (hour l)) t) j (bitOf w) ≡ marked t j (bitOf w)
+          go : hasBit (kind l) (period l) ≡ true → (r : Found) → r ≡ place (unitNumber l) 0 (linesIn units)
+              → marked (withMarkAt r (bitOf (kind l) (period l)) t) j (bitOf k w) ≡ marked t j (bitOf k w)
           go has-l Nothing e = refl
           go has-l (At p) e =
-              let a = bitted k w has in
-              let b = bitted (kind l) (hour l) has-l in
-              marked-other t p (bitOf (hour l)) j (bitOf w) (omega arith) in-row (λ same-row same-bit.
+              let mine = bitOf (kind l) (period l) in
+              marked-other t p mine j (bitOf k w) (bitOf-lt _ _ has-l) (bitOf-lt k w has) (λ same-row same-bit.
+              let same = bitOf-inj k w (kind l) (period l) has has-l (sym same-bit) in
               no-is (record {
-                kind-is = b .is-hour ∙ sym (a .is-hour);
+                kind-is = same .kind-is;
                 unit-is = sym (place-number (unitNumber l) units e refl) ∙ ap (λ (i : ℕ). numberAt i units) (sym same-row);
-                hour-is = omega (arith, same-bit, a .first, b .first);
+                period-is = same .period-is;
               }))
 
     shows-noted : Shows (ls ++ (l ∷ [])) units (noted l units t)
@@ -146,7 +126,7 @@ module _ (units : List ℕ) (rising : Rising units) where
   unfolding stands
   shows-blank n h = record {
     rows = subst (λ (m : ℕ). rowWords * (length units / 32) ≤ m) (sym (length-replicate n 0)) h;
-    shows = λ k w j has there. marked-blank n j (bitOf w);
+    shows = λ k w j has there. marked-blank n j (bitOf k w);
   }
 
   pub shows-known : (ls : List (List ℕ)) (t : List ℕ) → isTable units t ≡ true → Known ls units t → Shows ls units t

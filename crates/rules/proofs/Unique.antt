@@ -15,7 +15,7 @@ use Rattle.rules.proofs.book.open.Reads as book-open
 use Rattle.rules.proofs.book.number_fault.Reads as number-fault
 use Rattle.rules.proofs.hints.note_units.Reads as note-units
 use Rattle.rules.proofs.hints.note_fuels.Reads as note-fuels
-use Rattle.rules.proofs.record.is_hour.Reads as is-hour
+use Rattle.rules.proofs.record.is_repeatable.Reads as is-repeatable
 use Rattle.rules.proofs.record.judge.Reads as judge
 use Rattle.rules.proofs.record.judge_next.Reads as judge-next
 use Rattle.rules.proofs.table.note_records.Reads as note-records
@@ -46,8 +46,9 @@ pub note-fuels-unique : (κs : _) (a : _) (r s : _) (x y : _)
     → note-fuels.Post κs a r x → note-fuels.Post κs a s y → r ≡ s
 note-fuels-unique κs a r s x y p q = p ∙ sym q
 
-pub is-hour-unique : (κs : _) (a : _) (r s : _) (x y : _) → is-hour.Post κs a r x → is-hour.Post κs a s y → r ≡ s
-is-hour-unique κs a r s x y p q = p ∙ sym q
+pub is-repeatable-unique : (κs : _) (a : _) (r s : _) (x y : _)
+    → is-repeatable.Post κs a r x → is-repeatable.Post κs a s y → r ≡ s
+is-repeatable-unique κs a r s x y p q = p ∙ sym q
 
 pub judge-unique : (κs : _) (a : _) (r s : _) (x y : _) → judge.Post κs a r x → judge.Post κs a s y → r ≡ s
 judge-unique κs a r s x y p q = p ∙ sym q
@@ -72,14 +73,15 @@ look-unique κs a r s x y p q = sight-inj r s (p ∙ sym q)
 pub take-step-unique : (κs : _) (a : _) (r s : _) (x y : _)
     → take-step.Post κs a r x → take-step.Post κs a s y → r ≡ s
 take-step-unique κs a r s x y p q =
-    let next : r .next ≡ s .next = p .1 .0 ∙ sym (q .1 .0) in
+    let next : r .next ≡ s .next = p .1 .1 .0 ∙ sym (q .1 .1 .0) in
     let seen : r .seen ≡ s .seen = sight-inj (r .seen) (s .seen) (p .0 ∙ sym (q .0)) in
-    let left : r .left ≡ s .left = p .1 .1 .0 ∙ ap (leftFrom _) next ∙ sym (q .1 .1 .0) in
-    λ i. record { seen = seen i; next = next i; left = left i }
+    let kind : r .kind ≡ s .kind = p .1 .0 ∙ sym (q .1 .0) in
+    let left : r .left ≡ s .left = p .1 .1 .1 .0 ∙ ap (leftFrom _) next ∙ sym (q .1 .1 .1 .0) in
+    λ i. record { seen = seen i; kind = kind i; next = next i; left = left i }
 
 pub take-step-table-unique : (κs : _) (a : _) (r s : _) (x y : _)
     → take-step.Post κs a r x → take-step.Post κs a s y → now (x .1 .1 .0) ≡ now (y .1 .1 .0)
-take-step-table-unique κs a r s x y p q = p .1 .1 .1 ∙ sym (q .1 .1 .1)
+take-step-table-unique κs a r s x y p q = p .1 .1 .1 .1 ∙ sym (q .1 .1 .1 .1)
 
 -- Where two facts hold side by side, so does what follows from them.
 both : {M : Type 1} (𝓤 : URA M) (P Q R : Type 0) → (P → Q → R)

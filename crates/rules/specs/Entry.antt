@@ -1,4 +1,5 @@
--- What a record that counts gives to the ledgers. RULES, "Fuel", "Monitor hours" and "Ledgers".
+-- What a record that counts gives to the ledgers. RULES, "Fuel", "Monitor hours",
+-- "Anodes" and "Ledgers".
 --
 --     measuredHeat l         the heat that the record gives: 1.11 times it where it is a low value
 --     heatInUse l f          the measured heat if flagged, else the fuel's default
@@ -6,10 +7,13 @@
 --     destinationBy m f      the ledger that this CO2 goes to
 --     entryBy m l f          what the record l of the fuel f gives by method m
 --     fuelEntry l u f        what a fuel record gives
---     hourEntry l r          what the hour l gives by its usable readings r; it has no method, told as 0
+--     co2Alone x             what a record of no fuel gives: x to the fossil ledger. It has no method, told as 0
+--     hourEntry l r          what the hour l gives by its usable readings r
+--     impurities l           what of the anodes l isn't carbon, in hundredths of a percent
+--     anodesEntry l          what the anodes l give
 --
 -- Laws: proofs/EntryLaws.antt. Definitions only.
-use Prim.Native.Nat.{ℕ}
+use Prim.Native.Nat.{ℕ, _+_}
 use mathlib.Core.List.{List}
 use lib.Dec.{eqb}
 use Rattle.choice.specs.Tests.{choose}
@@ -19,10 +23,11 @@ use Rattle.mass.specs.declared.fuel.Heat.{Heat}
 use Rattle.mass.specs.declared.hour.Readings.{Readings}
 use Rattle.mass.specs.Fuel.{co2OfHeat, co2OfCarbon, traceOfHeat, highOf}
 use Rattle.mass.specs.Hour.{hourMass}
+use Rattle.mass.specs.Anode.{co2OfAnodes}
 use Rattle.rules.specs.declared.entry.Destination.{Destination}
 use Rattle.rules.specs.declared.entry.Destination.the-variants.{Fossil, Biomass, Nowhere}
 use Rattle.rules.specs.declared.entry.Entry.{Entry}
-use Rattle.rules.specs.Fields.{fuelClass, defaultHeat, co2Factor, ch4Factor, n2oFactor, heatMeasured, heatLow, amount, heat, carbon, moisture}
+use Rattle.rules.specs.Fields.{fuelClass, defaultHeat, co2Factor, ch4Factor, n2oFactor, heatMeasured, heatLow, amount, heat, carbon, moisture, metal, anodeUse, sulphur, ash, otherImpurities}
 use Rattle.rules.specs.Method.{methodOf}
 
 unfoldable pub measuredHeat : List ℕ → Heat
@@ -56,11 +61,21 @@ entryBy m l f = record {
 unfoldable pub fuelEntry : List ℕ → List ℕ → List ℕ → Entry
 fuelEntry l u f = entryBy (methodOf l u f) l f
 
-unfoldable pub hourEntry : List ℕ → Readings → Entry
-hourEntry l r = record {
+unfoldable pub co2Alone : Ug → Entry
+co2Alone x = record {
   method = 0;
   destination = Fossil;
-  co2 = hourMass (record { 0 = moisture l }) r;
+  co2 = x;
   ch4 = record { 0 = 0 };
   n2o = record { 0 = 0 };
 }
+
+unfoldable pub hourEntry : List ℕ → Readings → Entry
+hourEntry l r = co2Alone (hourMass (record { 0 = moisture l }) r)
+
+unfoldable pub impurities : List ℕ → ℕ
+impurities l = sulphur l + ash l + otherImpurities l
+
+unfoldable pub anodesEntry : List ℕ → Entry
+anodesEntry l =
+    co2Alone (co2OfAnodes (record { 0 = metal l }) (record { 0 = anodeUse l }) (record { 0 = impurities l }))

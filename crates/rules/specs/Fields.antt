@@ -6,9 +6,10 @@
 --     unit line u       number, unitFlags, monitored, dry, rating; unitGap, unitBlank
 --     fuel line f       number, fuelKind, fuelClass, defaultHeat, co2Factor, ch4Factor, n2oFactor;
 --                       fuelBlank
---     record l          kind, flags, unitNumber, fuelNumber
+--     record l          kind, flags, unitNumber, fuelNumber, period
 --     fuel record l     heatMeasured, carbonMeasured, heatLow, month, amount, heat, carbon; fuelRecordBlank
 --     monitor hour l    hour, percentBits, flowBits, moisture; hourBlank
+--     anodes l          month, metal, anodeUse, sulphur, ash, otherImpurities; anodesBlank
 --
 -- A gap or a blank is made of the bytes that no field names, and says that they are 0.
 -- Definitions only.
@@ -109,7 +110,11 @@ unitNumber l = word l 2 2
 abbrev pub fuelNumber : List ℕ → ℕ
 fuelNumber l = word l 4 2
 
--- ---- a fuel record l
+-- Its month or, of a monitor hour, its hour of the year.
+abbrev pub period : List ℕ → ℕ
+period l = word l 6 2
+
+-- ---- a fuel record l; the month is that of anodes too
 abbrev pub heatMeasured : List ℕ → Bool
 heatMeasured l = eqb (flags l % 2) 1
 
@@ -121,7 +126,7 @@ abbrev pub heatLow : List ℕ → Bool
 heatLow l = eqb (flags l / 4 % 2) 1
 
 abbrev pub month : List ℕ → ℕ
-month l = word l 6 2
+month l = period l
 
 abbrev pub amount : List ℕ → ℕ
 amount l = word l 8 4
@@ -137,7 +142,7 @@ fuelRecordBlank l = zeros l 20 12
 
 -- ---- a monitor hour l, its readings by their bit patterns
 abbrev pub hour : List ℕ → ℕ
-hour l = word l 6 2
+hour l = period l
 
 abbrev pub percentBits : List ℕ → ℕ
 percentBits l = word l 8 4
@@ -151,3 +156,25 @@ moisture l = word l 16 2
 
 abbrev pub hourBlank : List ℕ → Bool
 hourBlank l = zeros l 18 14
+
+-- ---- anodes l
+-- It is in kg.
+abbrev pub metal : List ℕ → ℕ
+metal l = word l 8 4
+
+-- It is in g for each kg of metal.
+abbrev pub anodeUse : List ℕ → ℕ
+anodeUse l = word l 12 4
+
+-- They are in hundredths of a percent of the anodes.
+abbrev pub sulphur : List ℕ → ℕ
+sulphur l = word l 16 2
+
+abbrev pub ash : List ℕ → ℕ
+ash l = word l 18 2
+
+abbrev pub otherImpurities : List ℕ → ℕ
+otherImpurities l = word l 20 2
+
+abbrev pub anodesBlank : List ℕ → Bool
+anodesBlank l = zeros l 22 10

@@ -1,7 +1,7 @@
--- Kind, unit and hour of a record as one number, so that two records are compared at once. The bytes
+-- Kind, unit and period of a record as one number, so that two records are compared at once. The bytes
 -- between them are masked out of the record's first eight.
 --
---     key l        the number of kind, unit and hour
+--     key l        the number of kind, unit and period
 --     Start l r    r is the number of the first eight bytes of l, told by its fields
 --     Keyed l r    r is the key of l, whose fields don't run into each other
 --
@@ -9,18 +9,18 @@
 use Prim.Native.Nat.{ℕ, _+_, _*_, _<_}
 use mathlib.Core.List.{List}
 use mathlib.Core.Path.{_≡_}
-use Rattle.rules.specs.Fields.{kind, flags, unitNumber, fuelNumber, hour}
+use Rattle.rules.specs.Fields.{kind, flags, unitNumber, fuelNumber, period}
 
 unfoldable pub key : List ℕ → ℕ
-key l = kind l + 65536 * unitNumber l + 281474976710656 * hour l
+key l = kind l + 65536 * unitNumber l + 281474976710656 * period l
 
 pub record Start (l : List ℕ) (r : ℕ) : Type 0 where
   pub kind-lt : kind l < 256
   pub flags-lt : flags l < 256
   pub unit-lt : unitNumber l < 65536
   pub fuel-lt : fuelNumber l < 65536
-  pub hour-lt : hour l < 65536
-  pub start : r ≡ kind l + 256 * flags l + 65536 * unitNumber l + 4294967296 * fuelNumber l + 281474976710656 * hour l
+  pub period-lt : period l < 65536
+  pub start : r ≡ kind l + 256 * flags l + 65536 * unitNumber l + 4294967296 * fuelNumber l + 281474976710656 * period l
 
 pub record Keyed (l : List ℕ) (r : ℕ) : Type 0 where
   pub kind-lt : kind l < 256

@@ -3,7 +3,7 @@
 --     bitAt v b            bit b of v
 --     marked t j c         bit c of row j of t is set
 --     markedAt r c t       bit c is set in the row of the unit found at r
---     wasNoted l units t   the unit and hour of the record l are marked in t
+--     wasNoted l units t   the unit and period of the record l are marked in t
 --
 -- Laws: proofs/BitLaws.antt, proofs/NotedLaws.antt. Definitions only.
 use Prim.Native.Nat.{ℕ, _+_, _*_, _/_, _%_, _^_}
@@ -15,7 +15,7 @@ use Rattle.choice.specs.Tests.{_also_}
 use Rattle.rules.specs.declared.listing.Found.{Found}
 use Rattle.rules.specs.declared.listing.Found.the-variants.{At, Nothing}
 use Rattle.rules.specs.Bytes.{linesIn}
-use Rattle.rules.specs.Fields.{kind, unitNumber, hour}
+use Rattle.rules.specs.Fields.{kind, unitNumber, period}
 use Rattle.rules.specs.Place.{place}
 use Rattle.rules.specs.Table.{rowWords, hasBit, bitOf}
 
@@ -31,4 +31,5 @@ markedAt Nothing c t = false
 
 unfoldable pub wasNoted : List ℕ → List ℕ → List ℕ → Bool
 wasNoted l units t =
-    hasBit (kind l) (hour l) also markedAt (place (unitNumber l) 0 (linesIn units)) (bitOf (hour l)) t
+    hasBit (kind l) (period l)
+    also markedAt (place (unitNumber l) 0 (linesIn units)) (bitOf (kind l) (period l)) t

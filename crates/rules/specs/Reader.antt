@@ -3,13 +3,14 @@
 --     sightBy a s i    the same as `sightAt`, of bytes s that were answered by a
 --     sightAt s i      the number that refuses s; or that it has no record i; or what becomes of it
 --     sight r          the number or outcome that r stands for
+--     kindAt s i       the kind of record i, whatever becomes of it; 0 where s has no such line
 --     leftBy a i       the same as `leftFrom`, of bytes that were answered by a
 --     leftFrom s i     how many records there are from place i on; none of bytes that are refused
 --     placeAfter s i   the place after i; from the length of s on, i itself
 --     advanced r       r at the place after its next
 --
 -- Definitions only.
-use Prim.Native.Nat.{ℕ, _+_, _-_}
+use Prim.Native.Nat.{ℕ, _+_, _-_, _/_}
 use mathlib.Core.List.{List}
 use lib.Dec.{ltb}
 use lib.ListN.{length}
@@ -19,6 +20,8 @@ use Rattle.rules.specs.declared.reader.Reader.{Reader}
 use Rattle.rules.specs.declared.reader.Seen.{Seen}
 use Rattle.rules.specs.declared.reader.Seen.the-variants.{Refused, Missing, Record}
 use Rattle.rules.specs.declared.record.Outcome.{Outcome}
+use Rattle.rules.specs.Bytes.{line}
+use Rattle.rules.specs.Fields.{kind}
 use Rattle.rules.specs.Book.{Answer, refused, accepted, opened, faultNumber}
 use Rattle.rules.specs.Record.{outcomeAt}
 
@@ -38,6 +41,9 @@ unfoldable pub sight : Seen → Sight
 sight (Refused x) = turnedAway (faultNumber x)
 sight Missing = missing
 sight (Record o) = shown o
+
+unfoldable pub kindAt : List ℕ → ℕ → ℕ
+kindAt s i = choose (ltb i (length s / 32)) (kind (line i s)) 0
 
 unfoldable pub leftBy : Answer → ℕ → ℕ
 leftBy (refused n) i = 0

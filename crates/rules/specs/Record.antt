@@ -5,16 +5,20 @@
 --     check t k rest               rest if t passes, else the record is set aside with reason k
 --     listed x ls k rest           rest of the first line of ls with number x; set aside with reason k
 --                                  if there is none
---     fuelForm l, hourForm l       reason 1 doesn't apply, the moisture of an hour aside
+--     fuelForm l, hourForm l, anodesForm l
+--                                  reason 1 doesn't apply, the moisture of an hour aside
 --     moistureForm l u             nor does it by the moisture: only a dry unit's hour has one
 --     heatLimit l, carbonLimit f   the most heat and carbon that the record may give
 --     heatRange l f                the heat is in its range, if it was measured
---     fuelRanges l f, hourRange l  reason 4 doesn't apply, the readings of an hour aside
+--     fuelRanges l f, hourRange l, anodesRanges l
+--                                  reason 4 doesn't apply, the readings of an hour aside
 --     fuelJudged l u f             what becomes of a fuel record once unit and fuel are known
 --     fuelOutcome l units fuels    what becomes of a fuel record
 --     hourRead l u x               what becomes of an hour with its readings judged
 --     hourJudged l u               what becomes of an hour once its unit is known
 --     hourOutcome l units          what becomes of a monitor hour
+--     anodesOutcome l units        what becomes of anodes
+--     unfuelledOutcome l units     what becomes of a record that isn't one of fuel
 --     outcomeOf l units fuels      what becomes of a record by its own line, whatever stands before it
 --     unlessRepeated b o           o; but a record that would count is set aside if it is repeated
 --     outcomeAfter before l units fuels
@@ -34,10 +38,10 @@ use Rattle.rules.specs.declared.book.Head.{Head}
 use Rattle.rules.specs.declared.record.Outcome.{Outcome}
 use Rattle.rules.specs.declared.record.Outcome.the-variants.{SetAside, Counted}
 use Rattle.rules.specs.Bytes.{line, lines, linesIn}
-use Rattle.rules.specs.Fields.{number, monitored, dry, fuelKind, fuelClass, kind, flags, unitNumber, fuelNumber, heatMeasured, carbonMeasured, heatLow, month, amount, heat, carbon, fuelRecordBlank, hour, percentBits, flowBits, moisture, hourBlank}
+use Rattle.rules.specs.Fields.{number, monitored, dry, fuelKind, fuelClass, kind, flags, unitNumber, fuelNumber, heatMeasured, carbonMeasured, heatLow, month, amount, heat, carbon, fuelRecordBlank, hour, percentBits, flowBits, moisture, hourBlank, metal, anodeUse, sulphur, ash, otherImpurities, anodesBlank}
 use Rattle.rules.specs.Book.{unitLines, fuelLines}
 use Rattle.rules.specs.Method.{methodOf}
-use Rattle.rules.specs.Entry.{heatInUse, fuelEntry, hourEntry}
+use Rattle.rules.specs.Entry.{heatInUse, fuelEntry, hourEntry, impurities, anodesEntry}
 use Rattle.rules.specs.Repeat.{repeated}
 
 abbrev pub lastReason : ℕ
@@ -62,6 +66,9 @@ fuelForm l =
 
 unfoldable pub hourForm : List ℕ → Bool
 hourForm l = eqb (flags l) 0 also eqb (fuelNumber l) 0 also hourBlank l
+
+unfoldable pub anodesForm : List ℕ → Bool
+anodesForm l = eqb (flags l) 0 also eqb (fuelNumber l) 0 also anodesBlank l
 
 unfoldable pub moistureForm : List ℕ → List ℕ → Bool
 moistureForm l u = dry u either eqb (moisture l) 0
@@ -90,6 +97,18 @@ fuelRanges l f =
 
 unfoldable pub hourRange : List ℕ → Bool
 hourRange l = leb 1 (hour l) also leb (hour l) 8784 also leb (moisture l) 1000
+
+-- All of the anodes may be impurities, and no more.
+unfoldable pub anodesRanges : List ℕ → Bool
+anodesRanges l =
+    leb 1 (month l)
+    also leb (month l) 12
+    also leb (metal l) 100000000
+    also leb (anodeUse l) 1000
+    also leb (sulphur l) 10000
+    also leb (ash l) 10000
+    also leb (otherImpurities l) 10000
+    also leb (impurities l) 10000
 
 -- ---- fuel records
 unfoldable pub fuelJudged : List ℕ → List ℕ → List ℕ → Outcome
@@ -123,13 +142,25 @@ hourOutcome l units =
     (listed (unitNumber l) units 2 (λ u.
     hourJudged l u))
 
--- ---- a record by itself
-unfoldable pub outcomeOf : List ℕ → List (List ℕ) → List (List ℕ) → Outcome
-outcomeOf l units fuels =
-    choose (eqb (kind l) 1) (fuelOutcome l units fuels)
-    (check (eqb (kind l) 2) 1 (hourOutcome l units))
+-- ---- anodes
+-- Any listed unit will do.
+unfoldable pub anodesOutcome : List ℕ → List (List ℕ) → Outcome
+anodesOutcome l units =
+    check (anodesForm l) 1
+    (listed (unitNumber l) units 2 (λ u.
+    check (anodesRanges l) 4
+    (Counted (anodesEntry l))))
 
--- ---- reason 8: the same hour twice
+-- ---- a record by itself
+unfoldable pub unfuelledOutcome : List ℕ → List (List ℕ) → Outcome
+unfuelledOutcome l units =
+    choose (eqb (kind l) 2) (hourOutcome l units)
+    (check (eqb (kind l) 4) 1 (anodesOutcome l units))
+
+unfoldable pub outcomeOf : List ℕ → List (List ℕ) → List (List ℕ) → Outcome
+outcomeOf l units fuels = choose (eqb (kind l) 1) (fuelOutcome l units fuels) (unfuelledOutcome l units)
+
+-- ---- reason 8: the same hour or month twice
 unfoldable pub unlessRepeated : Bool → Outcome → Outcome
 unlessRepeated b (SetAside k) = SetAside k
 unlessRepeated b (Counted e) = check (not b) 8 (Counted e)

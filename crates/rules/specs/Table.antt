@@ -1,13 +1,14 @@
--- Which hours stand in records already: a row of words for each unit line, with a bit for each hour of a
--- year. A record's outcome doesn't hang on it, so that neither RULES nor the definitions of a record need
--- it.
+-- Which hours and months stand in records already: a row of words for each unit line, with a bit for each
+-- hour of a year, and then for each month. A record's outcome doesn't hang on it, so that neither RULES
+-- nor the definitions of a record need it.
 --
 --     rowWords             how many words a row has, of 64 bits each
 --     withMark t j c       t with bit c of its row j set
---     hasBit k w           the hour w of a record of kind k has a bit
---     bitOf w              which one
+--     lastPeriod k         the last hour or month that a record of kind k can have; 0 for other kinds
+--     hasBit k w           the period w of a record of kind k has a bit
+--     bitOf k w            which one
 --     withMarkAt r c t     t with bit c set in the row of the unit found at r
---     noted l units t      t with the unit and hour of the record l marked
+--     noted l units t      t with the unit and period of the record l marked
 --     notedAll ls units t  t with those of each line of ls marked
 --     isTable units t      t has a row for each unit line; no words at all are no table
 --     noting l units t     the same as `noted`, if t is a table
@@ -29,7 +30,7 @@ use Rattle.rules.specs.declared.book.Head.{Head}
 use Rattle.rules.specs.declared.listing.Found.{Found}
 use Rattle.rules.specs.declared.listing.Found.the-variants.{At, Nothing}
 use Rattle.rules.specs.Bytes.{line, lines, linesIn}
-use Rattle.rules.specs.Fields.{kind, unitNumber, hour}
+use Rattle.rules.specs.Fields.{kind, unitNumber, period}
 use Rattle.rules.specs.Book.{unitLines, Answer, refused, accepted, opened}
 use Rattle.rules.specs.Place.{place}
 
@@ -39,11 +40,15 @@ rowWords = 138
 unfoldable pub withMark : List ℕ → ℕ → ℕ → List ℕ
 withMark t j c = set t (rowWords * j + c / 64) (bitOr (getD t (rowWords * j + c / 64) 0) (2 ^ (c % 64)))
 
-unfoldable pub hasBit : ℕ → ℕ → Bool
-hasBit k w = eqb k 2 also leb 1 w also leb w 8784
+unfoldable pub lastPeriod : ℕ → ℕ
+lastPeriod k = choose (eqb k 2) 8784 (choose (eqb k 4) 12 0)
 
-abbrev pub bitOf : ℕ → ℕ
-bitOf w = w - 1
+unfoldable pub hasBit : ℕ → ℕ → Bool
+hasBit k w = leb 1 w also leb w (lastPeriod k)
+
+-- A month's bit comes after those of the hours.
+unfoldable pub bitOf : ℕ → ℕ → ℕ
+bitOf k w = choose (eqb k 4) (8784 + w - 1) (w - 1)
 
 unfoldable pub withMarkAt : Found → ℕ → List ℕ → List ℕ
 withMarkAt (At j) c t = withMark t j c
@@ -51,7 +56,9 @@ withMarkAt Nothing c t = t
 
 unfoldable pub noted : List ℕ → List ℕ → List ℕ → List ℕ
 noted l units t =
-    choose (hasBit (kind l) (hour l)) (withMarkAt (place (unitNumber l) 0 (linesIn units)) (bitOf (hour l)) t) t
+    choose (hasBit (kind l) (period l))
+    (withMarkAt (place (unitNumber l) 0 (linesIn units)) (bitOf (kind l) (period l)) t)
+    t
 
 unfoldable pub notedAll : List (List ℕ) → List ℕ → List ℕ → List ℕ
 notedAll [] units t = t

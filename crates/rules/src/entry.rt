@@ -2,6 +2,10 @@
 use crate::field;
 use mass::Ng;
 use mass::Ug;
+use mass::anode;
+use mass::anode::AnodeUse;
+use mass::anode::Impurities;
+use mass::anode::Metal;
 use mass::fuel;
 use mass::fuel::Amount;
 use mass::fuel::Carbon;
@@ -15,8 +19,8 @@ ghost use Prim.Native.Nat.{_≤_};
 ghost use lib.ListN.{length};
 ghost use Rattle.rules.specs.Fields.{heat};
 ghost use Rattle.rules.specs.Book.{fuelOk};
-ghost use Rattle.rules.specs.Record.{heatLimit, fuelRanges};
-ghost use Rattle.rules.specs.Entry.{measuredHeat, heatInUse, co2By, destinationBy, entryBy};
+ghost use Rattle.rules.specs.Record.{heatLimit, fuelRanges, anodesRanges};
+ghost use Rattle.rules.specs.Entry.{measuredHeat, heatInUse, co2By, destinationBy, entryBy, co2Alone, impurities, anodesEntry};
 
 // The ledger that a record's CO2 goes to. CH4 and N2O have one each.
 pub enum Destination {
@@ -27,7 +31,7 @@ pub enum Destination {
 }
 
 pub struct Entry {
-    // 1 to 4, or 0 for a monitor hour.
+    // 1 to 4, or 0 for a record of no fuel.
     pub method: u8,
     pub destination: Destination,
     pub co2: Ug,
@@ -110,4 +114,39 @@ fn weigh_co2(method: u8, h: Heat, l: &[u8], f: &[u8]) -> Ug
         return fuel::weigh_by_carbon(a, Carbon(field::carbon(l)));
     }
     fuel::weigh_by_heat(a, h, Co2Factor(field::co2_factor(f)))
+}
+
+// What a record of no fuel gives.
+pub(crate) fn give_co2(co2: Ug) -> Entry
+    ensures entry { λ r. ⌜ r ≡ co2Alone co2 ⌝ }
+{
+    Entry {
+        method: 0,
+        destination: Destination::Fossil,
+        co2,
+        ch4: Ng(0),
+        n2o: Ng(0),
+    }
+}
+
+pub(crate) fn make_anodes_entry(l: &[u8]) -> Entry
+    requires whole { ⌜ 32 ≤ length (now l) ⌝ }
+    requires ranges { ⌜ anodesRanges (now l) ≡ true ⌝ }
+    ensures entry { λ r. ⌜ r ≡ anodesEntry (now (l .entry)) ⌝ }
+{
+    let metal = Metal(field::metal(l));
+    let used = AnodeUse(field::anode_use(l));
+    let impurities = Impurities(sum_impurities(l));
+    give_co2(anode::weigh(metal, used, impurities))
+}
+
+// Three fields of two bytes add up to more than two bytes hold.
+pub(crate) fn sum_impurities(l: &[u8]) -> u32
+    requires whole { ⌜ 32 ≤ length (now l) ⌝ }
+    ensures sum { λ r. ⌜ r ≡ impurities (now (l .entry)) ⌝ }
+{
+    let sulphur = field::sulphur(l);
+    let ash = field::ash(l);
+    let other = field::other_impurities(l);
+    (sulphur + ash + other) as u32
 }

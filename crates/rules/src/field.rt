@@ -1,7 +1,7 @@
 // The fields of unit lines, fuel lines and records, each read in one place.
 use crate::bytes;
 ghost use mathlib.Core.Path.{_≡_};
-ghost use Prim.Native.Nat.{_≤_};
+ghost use Prim.Native.Nat.{_<_, _≤_};
 ghost use lib.ListN.{length};
 ghost use Rattle.rules.specs.Fields as fields;
 
@@ -121,6 +121,14 @@ pub(crate) fn fuel_number(l: &[u8]) -> u64
     bytes::read_word(l, 4, 2)
 }
 
+// The month or, of a monitor hour, the hour of the year.
+pub(crate) fn period(l: &[u8]) -> u64
+    requires whole { ⌜ 32 ≤ length (now l) ⌝ }
+    ensures field { λ r. ⌜ r ≡ fields.period (now (l .entry)) ⌝ }
+{
+    bytes::read_word(l, 6, 2)
+}
+
 // ---- a fuel record
 pub(crate) fn is_heat_measured(l: &[u8]) -> bool
     requires whole { ⌜ 32 ≤ length (now l) ⌝ }
@@ -141,13 +149,6 @@ pub(crate) fn is_heat_low(l: &[u8]) -> bool
     ensures field { λ r. ⌜ r ≡ fields.heatLow (now (l .entry)) ⌝ }
 {
     l[1] / 4 % 2 == 1
-}
-
-pub(crate) fn month(l: &[u8]) -> u64
-    requires whole { ⌜ 32 ≤ length (now l) ⌝ }
-    ensures field { λ r. ⌜ r ≡ fields.month (now (l .entry)) ⌝ }
-{
-    bytes::read_word(l, 6, 2)
 }
 
 pub(crate) fn amount(l: &[u8]) -> u32
@@ -179,13 +180,6 @@ pub(crate) fn is_fuel_record_blank(l: &[u8]) -> bool
 }
 
 // ---- a monitor hour
-pub(crate) fn hour(l: &[u8]) -> u64
-    requires whole { ⌜ 32 ≤ length (now l) ⌝ }
-    ensures field { λ r. ⌜ r ≡ fields.hour (now (l .entry)) ⌝ }
-{
-    bytes::read_word(l, 6, 2)
-}
-
 pub(crate) fn percent_bits(l: &[u8]) -> u32
     requires whole { ⌜ 32 ≤ length (now l) ⌝ }
     ensures field { λ r. ⌜ r ≡ fields.percentBits (now (l .entry)) ⌝ }
@@ -212,4 +206,50 @@ pub(crate) fn is_hour_blank(l: &[u8]) -> bool
     ensures field { λ r. ⌜ r ≡ fields.hourBlank (now (l .entry)) ⌝ }
 {
     bytes::are_zero(l, 18, 32)
+}
+
+// ---- anodes
+pub(crate) fn metal(l: &[u8]) -> u32
+    requires whole { ⌜ 32 ≤ length (now l) ⌝ }
+    ensures field { λ r. ⌜ r ≡ fields.metal (now (l .entry)) ⌝ }
+{
+    bytes::read_word(l, 8, 4) as u32
+}
+
+pub(crate) fn anode_use(l: &[u8]) -> u32
+    requires whole { ⌜ 32 ≤ length (now l) ⌝ }
+    ensures field { λ r. ⌜ r ≡ fields.anodeUse (now (l .entry)) ⌝ }
+{
+    bytes::read_word(l, 12, 4) as u32
+}
+
+pub(crate) fn sulphur(l: &[u8]) -> u64
+    requires whole { ⌜ 32 ≤ length (now l) ⌝ }
+    ensures field { λ r. ⌜ r ≡ fields.sulphur (now (l .entry)) ⌝ }
+    ensures below { λ r. ⌜ r < 65536 ⌝ }
+{
+    bytes::read_word(l, 16, 2)
+}
+
+pub(crate) fn ash(l: &[u8]) -> u64
+    requires whole { ⌜ 32 ≤ length (now l) ⌝ }
+    ensures field { λ r. ⌜ r ≡ fields.ash (now (l .entry)) ⌝ }
+    ensures below { λ r. ⌜ r < 65536 ⌝ }
+{
+    bytes::read_word(l, 18, 2)
+}
+
+pub(crate) fn other_impurities(l: &[u8]) -> u64
+    requires whole { ⌜ 32 ≤ length (now l) ⌝ }
+    ensures field { λ r. ⌜ r ≡ fields.otherImpurities (now (l .entry)) ⌝ }
+    ensures below { λ r. ⌜ r < 65536 ⌝ }
+{
+    bytes::read_word(l, 20, 2)
+}
+
+pub(crate) fn is_anodes_blank(l: &[u8]) -> bool
+    requires whole { ⌜ 32 ≤ length (now l) ⌝ }
+    ensures field { λ r. ⌜ r ≡ fields.anodesBlank (now (l .entry)) ⌝ }
+{
+    bytes::are_zero(l, 22, 32)
 }

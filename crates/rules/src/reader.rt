@@ -3,12 +3,14 @@ use crate::book;
 use crate::book::Fault;
 use crate::book::Head;
 use crate::book::Opened;
+use crate::bytes;
+use crate::field;
 use crate::record;
 use crate::record::Outcome;
 ghost use mathlib.Core.Path.{_≡_};
 ghost use Prim.Native.Nat.{_-_};
 ghost use Rattle.rules.specs.Book.{opened, accepted};
-ghost use Rattle.rules.specs.Reader.{sightBy, sightAt, sight, leftFrom, placeAfter, advanced};
+ghost use Rattle.rules.specs.Reader.{sightBy, sightAt, sight, kindAt, leftFrom, placeAfter, advanced};
 ghost use Rattle.rules.specs.Table.{notingBy, notingAt, KnownAt};
 
 pub enum Seen {
@@ -30,6 +32,8 @@ pub struct Reader<'a> {
 pub struct Step {
     // What is seen at the place.
     pub seen: Seen,
+    // The kind of the record there, whatever becomes of it; 0 where there is none.
+    pub kind: u8,
     // The place after it.
     pub next: usize,
     // How many records are left from there on.
@@ -88,6 +92,15 @@ fn look_noted_in(book: &[u8], h: Head, i: usize, table: &mut [u64]) -> Seen
     Seen::Missing
 }
 
+fn find_kind(book: &[u8], i: usize) -> u8
+    ensures kind { λ r. ⌜ r ≡ kindAt (now (book .entry)) i ⌝ }
+{
+    if i < book.len() / 32 {
+        return field::kind(bytes::take_line(book, i));
+    }
+    0
+}
+
 // How many records there are from place i on; none of a book that is refused.
 pub(crate) fn count_from(book: &[u8], i: usize) -> usize
     ensures left { λ r. ⌜ r ≡ leftFrom (now (book .entry)) i ⌝ }
@@ -144,14 +157,17 @@ pub fn advance<'a>(r: Reader<'a>) -> Reader<'a>
 pub fn take_step(book: &[u8], at: usize, table: &mut [u64]) -> Step
     requires known { ⌜ KnownAt (now book) at (now table) ⌝ }
     ensures shown { λ r. ⌜ sight (r .seen) ≡ sightAt (now (book .entry)) at ⌝ }
+    ensures kind { λ r. ⌜ r .kind ≡ kindAt (now (book .entry)) at ⌝ }
     ensures after { λ r. ⌜ r .next ≡ placeAfter (now (book .entry)) at ⌝ }
     ensures left { λ r. ⌜ r .left ≡ leftFrom (now (book .entry)) (r .next) ⌝ }
     ensures noted { λ _. ⌜ now (table .exit) ≡ notingAt (now (book .entry)) at (now (table .entry)) ⌝ }
 {
     let seen = look_noted(book, at, table);
+    let kind = find_kind(book, at);
     let onward = go_past(book, at);
     Step {
         seen,
+        kind,
         next: onward.next,
         left: onward.left,
     }

@@ -1,4 +1,4 @@
-// What becomes of an hour that was sent before, and whether it was, by a look at each earlier record.
+// What becomes of a record that was sent before, and whether it was, by a look at each earlier one.
 use crate::bytes;
 use crate::field;
 use crate::record::Outcome;
@@ -6,14 +6,14 @@ ghost use mathlib.Core.Path.{_≡_};
 ghost use Prim.Native.Nat.{_/_, _<_, _≤_};
 ghost use lib.ListN.{length};
 ghost use Rattle.rules.specs.Bytes.{line, lines};
-ghost use Rattle.rules.specs.Repeat.{standsAmong, repeated};
+ghost use Rattle.rules.specs.Repeat.{standsAmong, repeatable, repeated};
 ghost use Rattle.rules.specs.Record.{unlessRepeated};
 ghost use Rattle.rules.specs.Key.{Start, Keyed};
 
-// Kind, unit and hour in the first eight bytes of a record.
+// Kind, unit and period in the first eight bytes of a record.
 const MASK: u64 = 0xFFFF_0000_FFFF_00FF;
 
-// The outcome of record i, that of its own line being o. Only an hour that would count is looked for.
+// The outcome of record i, that of its own line being o. Only one that would count is looked for.
 pub(crate) fn look_back(book: &[u8], i: usize, o: Outcome) -> Outcome
     requires there { ⌜ i < length (now book) / 32 ⌝ }
     ensures outcome { λ r. ⌜ r ≡ unlessRepeated (repeated (line i (now (book .entry))) (lines i (now (book .entry)))) o ⌝ }
@@ -38,18 +38,27 @@ pub(crate) fn withhold(o: Outcome, repeated: bool) -> Outcome
     }
 }
 
-// Whether record i is an hour whose unit and number stand in an earlier record.
+// Whether a unit has one such record for each hour, or for each month.
+pub(crate) fn is_repeatable(l: &[u8]) -> bool
+    requires whole { ⌜ 32 ≤ length (now l) ⌝ }
+    ensures repeatable { λ r. ⌜ r ≡ repeatable (now (l .entry)) ⌝ }
+{
+    let kind = field::kind(l);
+    (kind == 2) | (kind == 4)
+}
+
+// Whether record i is one of those and stands in an earlier record.
 fn is_repeated(book: &[u8], i: usize) -> bool
     requires there { ⌜ i < length (now book) / 32 ⌝ }
     ensures repeated { λ r. ⌜ r ≡ repeated (line i (now (book .entry))) (lines i (now (book .entry))) ⌝ }
 {
-    if field::kind(bytes::take_line(book, i)) != 2 {
+    if !is_repeatable(bytes::take_line(book, i)) {
         return false;
     }
     does_stand(book, i)
 }
 
-// Whether kind, unit and hour of record i stand in an earlier one.
+// Whether kind, unit and period of record i stand in an earlier one.
 fn does_stand(book: &[u8], i: usize) -> bool
     requires there { ⌜ i < length (now book) / 32 ⌝ }
     ensures stands { λ r. ⌜ r ≡ standsAmong (line i (now (book .entry))) (lines i (now (book .entry))) ⌝ }
@@ -82,6 +91,6 @@ fn read_start(l: &[u8]) -> u64
     let flags = bytes::widen(l[1]);
     let unit = bytes::read_word(l, 2, 2);
     let fuel = bytes::read_word(l, 4, 2);
-    let hour = bytes::read_word(l, 6, 2);
-    kind + 256 * flags + 65536 * unit + 4294967296 * fuel + 281474976710656 * hour
+    let period = bytes::read_word(l, 6, 2);
+    kind + 256 * flags + 65536 * unit + 4294967296 * fuel + 281474976710656 * period
 }

@@ -1,5 +1,5 @@
-// Which hours stand in records already: a row of words for each unit line, with a bit for each hour of a
-// year. By one look a record is then told to be a repeat or not, however many stand before it.
+// Which hours and months stand in records already: a row of words for each unit line, with a bit for each
+// hour of a year, and then for each month. By one look a record is then told to be a repeat or not, however many stand before it.
 use crate::book::Head;
 use crate::bytes;
 use crate::field;
@@ -17,7 +17,7 @@ ghost use Rattle.rules.specs.Listing.{Rising};
 ghost use Rattle.rules.specs.Table as spec;
 ghost use Rattle.rules.specs.Marks as marks;
 
-// How many words a row has: 138 × 64 bits for 8,784 hours.
+// How many words a row has: 138 × 64 bits for 8,784 hours and 12 months.
 pub const ROW: usize = 138;
 
 // How many words a table has that serves any book, whose unit lines are at most 64.
@@ -62,15 +62,15 @@ fn note_line(l: &[u8], units: &[u8], hints: &[u8], table: &mut [u64])
     requires table { ⌜ spec.isTable (now units) (now table) ≡ true ⌝ }
     ensures noted { λ _. ⌜ now (table .exit) ≡ spec.noted (now (l .entry)) (now (units .entry)) (now (table .entry)) ⌝ }
 {
-    // Most records of some books are no hours, and need no unit.
-    if !has_bit(field::kind(l), field::hour(l)) {
+    // Most records of some books can't be repeats, and need no unit.
+    if !has_bit(field::kind(l), field::period(l)) {
         return;
     }
     let unit = listing::find(units, hints, field::unit_number(l));
     let _was = note(l, units, unit, table);
 }
 
-// Notes the unit and hour of the record l, the unit's place being found, and tells whether they were
+// Notes the unit and period of the record l, the unit's place being found, and tells whether they were
 // noted before.
 pub(crate) fn note(l: &[u8], units: &[u8], unit: Found, table: &mut [u64]) -> bool
     requires whole { ⌜ 32 ≤ length (now l) ⌝ }
@@ -79,23 +79,48 @@ pub(crate) fn note(l: &[u8], units: &[u8], unit: Found, table: &mut [u64]) -> bo
     ensures was { λ r. ⌜ r ≡ marks.wasNoted (now (l .entry)) (now (units .entry)) (now (table .entry)) ⌝ }
     ensures noted { λ _. ⌜ now (table .exit) ≡ spec.noted (now (l .entry)) (now (units .entry)) (now (table .entry)) ⌝ }
 {
-    let hour = field::hour(l);
-    if !has_bit(field::kind(l), hour) {
+    let kind = field::kind(l);
+    let period = field::period(l);
+    if !has_bit(kind, period) {
         return false;
     }
     let Found::At(j) = unit else {
         return false;
     };
-    let bit = (hour - 1) as usize;
+    let bit = find_bit(kind, period);
     let was = is_marked(table, j, bit);
     mark(table, j, bit);
     was
 }
 
-fn has_bit(kind: u8, hour: u64) -> bool
-    ensures bit { λ r. ⌜ r ≡ spec.hasBit kind hour ⌝ }
+fn has_bit(kind: u8, period: u64) -> bool
+    ensures bit { λ r. ⌜ r ≡ spec.hasBit kind period ⌝ }
 {
-    (kind == 2) & (1 <= hour) & (hour <= 8784)
+    let last = find_last_period(kind);
+    (1 <= period) & (period <= last)
+}
+
+fn find_last_period(kind: u8) -> u64
+    ensures last { λ r. ⌜ r ≡ spec.lastPeriod kind ⌝ }
+{
+    if kind == 2 {
+        return 8784;
+    }
+    if kind == 4 {
+        return 12;
+    }
+    0
+}
+
+// A month's bit comes after those of the hours.
+fn find_bit(kind: u8, period: u64) -> usize
+    requires has { ⌜ spec.hasBit kind period ≡ true ⌝ }
+    ensures bit { λ r. ⌜ r ≡ spec.bitOf kind period ⌝ }
+{
+    if kind == 4 {
+        return (8784 + period - 1) as usize;
+    }
+    (period - 1) as usize
 }
 
 // Whether a bit of row j is set.

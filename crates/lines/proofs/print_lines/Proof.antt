@@ -42,13 +42,13 @@ returns c = search needs
 loop-less : tie.Need-loop-less Inv-loop μ-loop
 loop-less c =
     let step = c .before .before .before .before .before .before .before .before .take-step .ensures in
-    leftFrom-placeAfter-lt _ _ (step .1 .0) (step .1 .1 .0) (c .before .before .if1 .left)
+    leftFrom-placeAfter-lt _ _ (step .1 .1 .0) (step .1 .1 .1 .0) (c .before .before .if1 .left)
 
 loop-again : tie.Need-loop-again Inv-loop μ-loop
 loop-again c =
     let took = c .before .before .before .before .before .before .before .before in
     let at = took .before .before .loop in (
-      knownAt-placeAfter _ (at .at) (at .table) (took .take-step .ensures .1 .0) (took .take-step .ensures .1 .1 .1) (at .inv .0),
+      knownAt-placeAfter _ (at .at) (at .table) (took .take-step .ensures .1 .1 .0) (took .take-step .ensures .1 .1 .1 .1) (at .inv .0),
       took .take-step .kept .1 .1 .0 ∙ at .inv .1,
     )
 

@@ -1,4 +1,4 @@
--- The mask leaves kind, unit and hour of the first eight bytes. Assumes nothing.
+-- The mask leaves kind, unit and period of the first eight bytes. Assumes nothing.
 use borrow.Author.Needs.{needs}
 use Rattle.rules.proofs.KeyLaws.{keyed}
 use Rattle.rules.proofs.repeat.read_key.Statement.{statement}

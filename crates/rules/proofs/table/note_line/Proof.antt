@@ -1,4 +1,4 @@
--- A record whose hour has no bit leaves the table as it was. Assumes nothing.
+-- A record whose period has no bit leaves the table as it was. Assumes nothing.
 use Prim.Native.Nat.{ℕ}
 use mathlib.Core.Path.{ap, ap₂, _∙_}
 use borrow.Author.Needs.{needs}
@@ -13,8 +13,8 @@ use Rattle.rules.proofs.table.note_line.Tie as tie
 kind-requires : tie.Need-kind-requires
 kind-requires c κs = search needs
 
-hour-requires : tie.Need-hour-requires
-hour-requires c κs = search needs
+period-requires : tie.Need-period-requires
+period-requires c κs = search needs
 
 has-bit-requires : tie.Need-has-bit-requires
 has-bit-requires c κs = search needs
@@ -22,7 +22,7 @@ has-bit-requires c κs = search needs
 returns : tie.Need-returns
 returns c =
     let told = c .before in
-    noted-out _ _ _ (is-not (told .has-bit .ensures ∙ ap₂ hasBit (told .before .before .kind .ensures) (told .before .hour .ensures))
+    noted-out _ _ _ (is-not (told .has-bit .ensures ∙ ap₂ hasBit (told .before .before .kind .ensures) (told .before .period .ensures))
     (c .if1 .taken)) .now-noted
 
 unit-number-requires : tie.Need-unit-number-requires
@@ -53,7 +53,7 @@ note-line-spec =
     tie.close
     (tie.spec
     kind-requires
-    hour-requires
+    period-requires
     has-bit-requires
     returns
     unit-number-requires
