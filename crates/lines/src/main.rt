@@ -29,7 +29,10 @@ fn print_lines(book: &[u8]) -> Ended {
     loop {
         let step = reader::take_step(book, at, &mut table);
         let seen = step.seen;
-        let printed = files::print_page(b"standard output", lines::tell_record(at, seen));
+        let printed = files::print_page(
+            b"standard output",
+            lines::tell_record(at, step.kind, seen),
+        );
         if step.left == 0 || !ended::is_done(printed) {
             return printed;
         }

@@ -23,37 +23,45 @@ use Rattle.text.specs.Lines.{methodText, ledgerText, massesText, outcome
 use Rattle.text.proofs.WordsLaws.{AtMost, append-le, choose-le, word-le, field-le, wider}
 use Rattle.text.proofs.ReportLaws.{refusedText-le}
 
-pub methodText-hour : (m : ℕ) → m ≡ 0 → methodText m ≡ ascii " hour"
-unfolding methodText
-methodText-hour m e = choose-t _ (eq-eqb m 0 e) refl
+module _ (k m : ℕ) where
+  pub methodText-fuel : (m ≡ 0 → ⊥) → methodText k m ≡ field (ascii " method ") m
+  unfolding methodText
+  methodText-fuel e = choose-f _ (ne-eqb m 0 e) refl
 
-pub methodText-fuel : (m : ℕ) → (m ≡ 0 → ⊥) → methodText m ≡ field (ascii " method ") m
-unfolding methodText
-methodText-fuel m e = choose-f _ (ne-eqb m 0 e) refl
+  pub methodText-anodes : m ≡ 0 → k ≡ 4 → methodText k m ≡ ascii " anodes"
+  unfolding methodText
+  methodText-anodes e used = choose-t _ (eq-eqb m 0 e) (choose-t _ (eq-eqb k 4 used) refl)
 
-pub outcomeText-setAside : {o : Outcome} (k : ℕ) → o ≡ SetAside k → outcomeText o ≡ field (ascii " reason ") k
+  pub methodText-hour : m ≡ 0 → (k ≡ 4 → ⊥) → methodText k m ≡ ascii " hour"
+  unfolding methodText
+  methodText-hour e other = choose-t _ (eq-eqb m 0 e) (choose-f _ (ne-eqb k 4 other) refl)
+
+pub outcomeText-setAside : {o : Outcome} (k r : ℕ) → o ≡ SetAside r → outcomeText k o ≡ field (ascii " reason ") r
 unfolding outcomeText
-outcomeText-setAside k e = ap outcomeText e
+outcomeText-setAside k r e = ap (outcomeText k) e
 
 -- ---- what was seen
-module _ (i : ℕ) {r : Seen} where
-  pub lineText-refused : (x : Fault) → r ≡ Refused x → lineText i (sight r) ≡ refusedText (faultNumber x) []
+module _ (i k : ℕ) {r : Seen} where
+  pub lineText-refused : (x : Fault) → r ≡ Refused x → lineText i k (sight r) ≡ refusedText (faultNumber x) []
   unfolding lineText
-  lineText-refused x e = ap (λ (s : Seen). lineText i (sight s)) e ∙ ap (lineText i) (sight-refused x)
+  lineText-refused x e = ap (λ (s : Seen). lineText i k (sight s)) e ∙ ap (lineText i k) (sight-refused x)
 
-  pub lineText-missing : r ≡ Missing → lineText i (sight r) ≡ []
+  pub lineText-missing : r ≡ Missing → lineText i k (sight r) ≡ []
   unfolding lineText
-  lineText-missing e = ap (λ (s : Seen). lineText i (sight s)) e ∙ ap (lineText i) sight-missing
+  lineText-missing e = ap (λ (s : Seen). lineText i k (sight s)) e ∙ ap (lineText i k) sight-missing
 
   pub lineText-record : (o : Outcome) → r ≡ Record o
-      → lineText i (sight r) ≡ field (ascii "record ") i ++ outcomeText o ++ newline
+      → lineText i k (sight r) ≡ field (ascii "record ") i ++ outcomeText k o ++ newline
   unfolding lineText
-  lineText-record o e = ap (λ (s : Seen). lineText i (sight s)) e ∙ ap (lineText i) (sight-record o)
+  lineText-record o e = ap (λ (s : Seen). lineText i k (sight s)) e ∙ ap (lineText i k) (sight-record o)
 
 -- ---- how long a line is at most
-methodText-le : (m : ℕ) → AtMost 28 (methodText m)
+methodText-le : (k m : ℕ) → AtMost 28 (methodText k m)
 unfolding methodText
-methodText-le m = choose-le (eqb m 0) (wider (word-le (ascii " hour")) (omega arith)) (field-le (ascii " method ") m)
+methodText-le k m =
+    choose-le (eqb m 0)
+    (choose-le (eqb k 4) (wider (word-le (ascii " anodes")) (omega arith)) (wider (word-le (ascii " hour")) (omega arith)))
+    (field-le (ascii " method ") m)
 
 ledgerText-le : (d : Destination) → AtMost 8 (ledgerText d)
 ledgerText-le Fossil = wider (word-le (ascii " fossil")) (omega arith)
@@ -66,15 +74,15 @@ massesText-le e =
     append-le (append-le (field-le (ascii " co2-ug ") (e .co2 .0)) (field-le (ascii " ch4-ng ") (e .ch4 .0)))
     (field-le (ascii " n2o-ng ") (e .n2o .0))
 
-outcomeText-le : (o : Outcome) → AtMost 120 (outcomeText o)
+outcomeText-le : (k : ℕ) (o : Outcome) → AtMost 120 (outcomeText k o)
 unfolding outcomeText
-outcomeText-le (SetAside k) = wider (field-le (ascii " reason ") k) (omega arith)
-outcomeText-le (Counted e) =
-    append-le (append-le (methodText-le (e .method)) (ledgerText-le (e .destination))) (massesText-le e)
+outcomeText-le k (SetAside r) = wider (field-le (ascii " reason ") r) (omega arith)
+outcomeText-le k (Counted e) =
+    append-le (append-le (methodText-le k (e .method)) (ledgerText-le (e .destination))) (massesText-le e)
 
-pub lineText-le : (i : ℕ) (x : Sight) → AtMost 148 (lineText i x)
+pub lineText-le : (i k : ℕ) (x : Sight) → AtMost 148 (lineText i k x)
 unfolding lineText
-lineText-le i (turnedAway n) = wider (refusedText-le n []) (omega arith)
-lineText-le i missing = wider (word-le []) (omega arith)
-lineText-le i (shown o) =
-    append-le (append-le (field-le (ascii "record ") i) (outcomeText-le o)) (word-le newline)
+lineText-le i k (turnedAway n) = wider (refusedText-le n []) (omega arith)
+lineText-le i k missing = wider (word-le []) (omega arith)
+lineText-le i k (shown o) =
+    append-le (append-le (field-le (ascii "record ") i) (outcomeText-le k o)) (word-le newline)

@@ -156,10 +156,11 @@ refusesSight (turnedAway n) = true
 refusesSight missing = false
 refusesSight (shown o) = false
 
-plain-methodText : (m : ℕ) → Plain (methodText m)
+plain-methodText : (k m : ℕ) → Plain (methodText k m)
 unfolding methodText
-plain-methodText m =
-    plain-choose (eqb m 0) (plain-word (ascii " hour") (simp worked-out))
+plain-methodText k m =
+    plain-choose (eqb m 0)
+    (plain-choose (eqb k 4) (plain-word (ascii " anodes") (simp worked-out)) (plain-word (ascii " hour") (simp worked-out)))
     (plain-field (ascii " method ") m (simp worked-out))
 
 plain-ledgerText : (d : Destination) → Plain (ledgerText d)
@@ -174,21 +175,21 @@ plain-massesText e =
     let ch4 = plain-field (ascii " ch4-ng ") (e .ch4 .0) (simp worked-out) in
     plain-append (plain-append co2 ch4) (plain-field (ascii " n2o-ng ") (e .n2o .0) (simp worked-out))
 
-plain-outcomeText : (o : Outcome) → Plain (outcomeText o)
+plain-outcomeText : (k : ℕ) (o : Outcome) → Plain (outcomeText k o)
 unfolding outcomeText
-plain-outcomeText (SetAside k) = plain-field (ascii " reason ") k (simp worked-out)
-plain-outcomeText (Counted e) =
-    plain-append (plain-append (plain-methodText (e .method)) (plain-ledgerText (e .destination))) (plain-massesText e)
+plain-outcomeText k (SetAside r) = plain-field (ascii " reason ") r (simp worked-out)
+plain-outcomeText k (Counted e) =
+    plain-append (plain-append (plain-methodText k (e .method)) (plain-ledgerText (e .destination))) (plain-massesText e)
 
 hasRefusal-nil : hasRefusal [] ≡ false
 unfolding hasRefusal tells
 hasRefusal-nil = refl
 
-pub hasRefusal-lineText : (i : ℕ) (x : Sight) → hasRefusal (lineText i x) ≡ refusesSight x
+pub hasRefusal-lineText : (i k : ℕ) (x : Sight) → hasRefusal (lineText i k x) ≡ refusesSight x
 unfolding lineText
-hasRefusal-lineText i (turnedAway n) = hasRefusal-refusedText n []
-hasRefusal-lineText i missing = hasRefusal-nil
-hasRefusal-lineText i (shown o) =
+hasRefusal-lineText i k (turnedAway n) = hasRefusal-refusedText n []
+hasRefusal-lineText i k missing = hasRefusal-nil
+hasRefusal-lineText i k (shown o) =
     hasRefusal-quiet _
-    (quiet-ended (field (ascii "record ") i ++ outcomeText o)
-    (other-append (other-field (ascii "record ") i (simp worked-out) (simp worked-out)) (plain-outcomeText o)))
+    (quiet-ended (field (ascii "record ") i ++ outcomeText k o)
+    (other-append (other-field (ascii "record ") i (simp worked-out) (simp worked-out)) (plain-outcomeText k o)))

@@ -1,10 +1,10 @@
 -- What `lines` prints: a line for each record, or the one line of a refused book. RULES, "Programs".
 --
---     methodText m     the method of an entry
+--     methodText k m   the method m of a record of kind k
 --     ledgerText d     the ledger that its CO2 goes to
 --     massesText e     its masses
---     outcomeText o    what became of a record
---     lineText i x     what is printed of what was seen at index i
+--     outcomeText k o  what became of a record of kind k
+--     lineText i k x   what is printed of what was seen at index i, of a record of kind k
 --
 -- Laws: proofs/LinesLaws.antt. Definitions only.
 use Prim.Native.Nat.{ℕ}
@@ -20,9 +20,11 @@ use Rattle.rules.specs.Reader.{Sight, turnedAway, missing, shown}
 use Rattle.text.specs.Words.{ascii, newline, field}
 use Rattle.text.specs.Report.{refusedText}
 
--- A monitor hour has no method of fuel.
-unfoldable pub methodText : ℕ → List ℕ
-methodText m = choose (eqb m 0) (ascii " hour") (field (ascii " method ") m)
+-- Records of no fuel have none, and are told by their kind.
+unfoldable pub methodText : ℕ → ℕ → List ℕ
+methodText k m =
+    choose (eqb m 0) (choose (eqb k 4) (ascii " anodes") (ascii " hour"))
+    (field (ascii " method ") m)
 
 abbrev pub ledgerText : Destination → List ℕ
 ledgerText Fossil = ascii " fossil"
@@ -35,11 +37,11 @@ massesText e =
     ++ field (ascii " ch4-ng ") (e .ch4 .0)
     ++ field (ascii " n2o-ng ") (e .n2o .0)
 
-unfoldable pub outcomeText : Outcome → List ℕ
-outcomeText (SetAside k) = field (ascii " reason ") k
-outcomeText (Counted e) = methodText (e .method) ++ ledgerText (e .destination) ++ massesText e
+unfoldable pub outcomeText : ℕ → Outcome → List ℕ
+outcomeText k (SetAside r) = field (ascii " reason ") r
+outcomeText k (Counted e) = methodText k (e .method) ++ ledgerText (e .destination) ++ massesText e
 
-unfoldable pub lineText : ℕ → Sight → List ℕ
-lineText i (turnedAway n) = refusedText n []
-lineText i missing = []
-lineText i (shown o) = field (ascii "record ") i ++ outcomeText o ++ newline
+unfoldable pub lineText : ℕ → ℕ → Sight → List ℕ
+lineText i k (turnedAway n) = refusedText n []
+lineText i k missing = []
+lineText i k (shown o) = field (ascii "record ") i ++ outcomeText k o ++ newline

@@ -28,10 +28,10 @@ say-entry-requires c κs = search needs
 returns : tie.Need-returns
 returns c =
     c .say-field .ensures
-    ∙ ap (extended _) (sym (outcomeText-setAside _ (c .before .before .before .o .given .1)))
+    ∙ ap (extended _) (sym (outcomeText-setAside _ _ (c .before .before .before .o .given .1)))
 
 returns-2 : tie.Need-returns-2
-returns-2 c = c .say-entry .ensures ∙ ap (extended _) (sym (ap outcomeText (c .before .before .o2 .given .1)))
+returns-2 c = c .say-entry .ensures ∙ ap (extended _) (sym (ap (outcomeText _) (c .before .before .o2 .given .1)))
 
 pub say-outcome-spec : {M : Type 1} → statement M
 say-outcome-spec =

@@ -24,17 +24,17 @@ say-record-requires c κs = search needs
 returns : tie.Need-returns
 returns c =
     c .say-fault .ensures
-    ∙ ap (extended _) (sym (lineText-refused _ _ (c .before .before .seen .given .1)))
+    ∙ ap (extended _) (sym (lineText-refused _ _ _ (c .before .before .seen .given .1)))
 
 returns-2 : tie.Need-returns-2
 unfolding extended
 returns-2 c =
-    sym (ap (extended (c .before .before .args .p)) (lineText-missing (c .before .before .args .i) (c .enum-told .given .1)))
+    sym (ap (extended (c .before .before .args .p)) (lineText-missing (c .before .before .args .i) (c .before .before .args .kind) (c .enum-told .given .1)))
 
 returns-3 : tie.Need-returns-3
 returns-3 c =
     c .say-record .ensures
-    ∙ ap (extended _) (sym (lineText-record _ _ (c .before .before .seen2 .given .1)))
+    ∙ ap (extended _) (sym (lineText-record _ _ _ (c .before .before .seen2 .given .1)))
 
 pub say-seen-spec : {M : Type 1} → statement M
 say-seen-spec =

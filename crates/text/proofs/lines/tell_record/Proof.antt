@@ -16,7 +16,7 @@ say-seen-requires c κs = search needs
 returns : tie.Need-returns
 returns c =
     extended-blank _ (c .before .take-blank .ensures) (c .say-seen .ensures)
-    (wider (lineText-le (c .before .before .args .i) _) (omega arith) .le)
+    (wider (lineText-le (c .before .before .args .i) (c .before .before .args .kind) _) (omega arith) .le)
 
 pub tell-record-spec : {M : Type 1} → statement M
 tell-record-spec = tie.close (tie.spec take-blank-requires say-seen-requires returns)
