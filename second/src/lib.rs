@@ -7,7 +7,7 @@ pub mod answer;
 pub mod book;
 pub mod bytes;
 pub mod checkpoint;
-pub mod earlier_hours;
+pub mod earlier_records;
 pub mod fuel_record;
 pub mod hour;
 pub mod ledger;

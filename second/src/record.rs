@@ -1,7 +1,7 @@
 //! One record: what it adds, or the reason why it is set aside.
 
 use crate::book::Book;
-use crate::earlier_hours::EarlierHours;
+use crate::earlier_records::EarlierRecords;
 use crate::{fuel_record, hour};
 
 /// Why a record is set aside; the values are the requirements', "first that
@@ -16,7 +16,7 @@ pub enum Reason {
     HourWithoutMonitor = 5,
     NoPermittedMethod = 6,
     NoHeatInUse = 7,
-    HourRepeated = 8,
+    Repeated = 8,
 }
 
 /// Where the CO2 of a record goes; the values are those of an answer's byte 3.
@@ -47,11 +47,11 @@ pub const MONITOR_HOUR: u8 = 2;
 
 /// Each record from `place` on, by itself and by what stands before it.
 pub fn judged_from<'a>(book: &'a Book<'a>, place: u32) -> impl Iterator<Item = Judged> + 'a {
-    let mut earlier = EarlierHours::before(book, place);
+    let mut earlier = EarlierRecords::before(book, place);
     book.records().skip(place as usize).map(move |line| {
         let is_repeated = earlier.go_through(line);
         judge(book, line).and_then(|addition| match is_repeated {
-            true => Err(Reason::HourRepeated),
+            true => Err(Reason::Repeated),
             false => Ok(addition),
         })
     })

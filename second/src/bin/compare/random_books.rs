@@ -2,7 +2,7 @@
 
 use second::book::Book;
 use second::bytes::u16_at;
-use second::earlier_hours::EarlierHours;
+use second::earlier_records::EarlierRecords;
 use second::record::judge;
 
 use crate::draft::{
@@ -52,7 +52,7 @@ pub fn book(rng: &mut Random) -> Draft {
 pub fn counted_records(rng: &mut Random, listing: &Draft, count: usize) -> Vec<Line> {
     let bytes = listing.bytes();
     let book = Book::read(&bytes).expect("the listing is sound");
-    let mut earlier = EarlierHours::default();
+    let mut earlier = EarlierRecords::default();
     let mut records = Vec::new();
     while records.len() < count {
         let record = good_record(rng, listing);

@@ -6,7 +6,7 @@ use second::answer::{answer, Answer, Call, Frame};
 use second::book::Book;
 use second::bytes::{u16_at, u32_at};
 use second::checkpoint::Checkpoint;
-use second::earlier_hours::EarlierHours;
+use second::earlier_records::EarlierRecords;
 use second::record::{judge, Addition, Co2Ledger, Judged, Reason};
 
 use crate::draft::put;
@@ -15,12 +15,12 @@ use crate::draft::put;
 /// sees rightly.
 pub(super) fn judging(frame: &Frame, wrong: impl Fn(&Book, &[u8]) -> Judged) -> Answer {
     judging_ranges(frame, |book, range| {
-        let mut earlier = EarlierHours::before(book, range.start as u32);
+        let mut earlier = EarlierRecords::before(book, range.start as u32);
         let lines = book.records().take(range.end).skip(range.start);
         let judged = lines.map(|line| {
             let is_repeated = earlier.go_through(line);
             wrong(book, line).and_then(|addition| match is_repeated {
-                true => Err(Reason::HourRepeated),
+                true => Err(Reason::Repeated),
                 false => Ok(addition),
             })
         });

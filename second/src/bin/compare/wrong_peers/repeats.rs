@@ -90,7 +90,7 @@ fn repeating(frame: &Frame, wrong: impl Fn(&Place) -> bool) -> Answer {
     judging_places(frame, |place| {
         let addition = judge(place.book, place.line())?;
         match is_hour(place.line()) && wrong(place) {
-            true => Err(Reason::HourRepeated),
+            true => Err(Reason::Repeated),
             false => Ok(addition),
         }
     })

@@ -5,7 +5,7 @@ use second::answer::{Answer, Call};
 use second::book::Book;
 use second::bytes::u32_at;
 use second::checkpoint::Checkpoint;
-use second::earlier_hours::EarlierHours;
+use second::earlier_records::EarlierRecords;
 use second::record::{judged_from, Reason};
 
 use super::super::{Made, Question, Rows};
@@ -41,12 +41,12 @@ impl<'a> Wake<'a> {
             across: Vec::new(),
             begins_with_one: false,
         };
-        let mut in_wake = EarlierHours::default();
+        let mut in_wake = EarlierRecords::default();
         let lines = book.records().skip(wake.begun);
         let judged = judged_from(book, done).take(moved);
         for (place, (line, judged)) in lines.zip(judged).enumerate() {
             let stands_in_wake = in_wake.go_through(line);
-            if judged != Err(Reason::HourRepeated) {
+            if judged != Err(Reason::Repeated) {
                 continue;
             }
             wake.begins_with_one |= place == 0;
@@ -85,7 +85,7 @@ impl<'a> Wake<'a> {
         })?;
         let former = Book::read(&made.book).expect("the checkpoint was made");
         let standing = |book: &Book| {
-            let mut earlier = EarlierHours::before(book, self.begun as u32);
+            let mut earlier = EarlierRecords::before(book, self.begun as u32);
             let lines = self.book.records().skip(self.begun).take(self.moved);
             lines.map(move |line| earlier.go_through(line)).collect()
         };

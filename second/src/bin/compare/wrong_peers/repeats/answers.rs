@@ -22,7 +22,7 @@ fn of_repeats(frame: &Frame, wrong: impl Fn(Judged, &[u8]) -> Judged) -> Answer 
 fn asking_before(frame: &Frame, reasons: &[Reason]) -> Answer {
     of_repeats(frame, |judged, _| match judged {
         Err(reason) if !reasons.contains(&reason) => Err(reason),
-        _ => Err(Reason::HourRepeated),
+        _ => Err(Reason::Repeated),
     })
 }
 
@@ -61,7 +61,7 @@ pub fn asks_for_repeats_before_moisture_on_a_wet_unit(frame: &Frame) -> Answer {
         let is_repeated = is_hour(place.line()) && place.is_among(place.earlier());
         match (judge(place.book, place.line()), judge(place.book, &without)) {
             (judged, Err(Reason::Form)) => judged,
-            (Err(Reason::Form) | Ok(_), _) if is_repeated => Err(Reason::HourRepeated),
+            (Err(Reason::Form) | Ok(_), _) if is_repeated => Err(Reason::Repeated),
             (judged, _) => judged,
         }
     })
@@ -97,7 +97,7 @@ pub fn turns_away_a_checkpoint_that_names_8(frame: &Frame) -> Answer {
 pub fn reports_in_spite_of_repeats(frame: &Frame) -> Answer {
     let answered = answer(frame);
     let [number, reason, ..] = answered.head;
-    if frame.call != Call::Report || (number, reason) != (41, Reason::HourRepeated as u8) {
+    if frame.call != Call::Report || (number, reason) != (41, Reason::Repeated as u8) {
         return answered;
     }
     let mut checkpoint = frame.checkpoint.to_vec();

@@ -86,7 +86,7 @@ fn by_memory(frame: &Frame) -> Answer {
             let judged = lines.map(|line| {
                 let is_known = is_hour(line) && !gone_through.insert(key(line));
                 judge(book, line).and_then(|addition| match is_known {
-                    true => Err(Reason::HourRepeated),
+                    true => Err(Reason::Repeated),
                     false => Ok(addition),
                 })
             });

@@ -7,16 +7,16 @@ use crate::record::MONITOR_HOUR;
 /// Unit and number of each monitor hour among the records gone through, "whether or
 /// not that earlier one was itself set aside": a record stands by its byte 0 alone.
 #[derive(Debug, Default)]
-pub struct EarlierHours {
+pub struct EarlierRecords {
     standing: Vec<u32>,
 }
 
-impl EarlierHours {
+impl EarlierRecords {
     /// Those of the records before `place`, from the book itself: a checkpoint
     /// tells nothing of them.
-    pub fn before(book: &Book, place: u32) -> EarlierHours {
+    pub fn before(book: &Book, place: u32) -> EarlierRecords {
         let lines = book.records().take(place as usize);
-        EarlierHours {
+        EarlierRecords {
             standing: lines.filter_map(unit_and_number).collect(),
         }
     }
@@ -54,7 +54,7 @@ mod tests {
 
     #[test]
     fn kind_unit_and_hour_number_alone_tell_hours_apart() {
-        let mut earlier = EarlierHours::default();
+        let mut earlier = EarlierRecords::default();
         let records = [
             (line(1, 1, 1), false),
             (line(2, 1, 1), false),
@@ -77,7 +77,7 @@ mod tests {
     fn no_other_byte_tells_hours_apart() {
         let other_bytes = [1, 4, 5].into_iter().chain(8..LINE);
         for place in other_bytes {
-            let mut earlier = EarlierHours::default();
+            let mut earlier = EarlierRecords::default();
             let mut other = line(2, 7, 8_784);
             earlier.go_through(&other);
             other[place] = 0;
