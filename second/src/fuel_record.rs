@@ -9,7 +9,7 @@ use crate::record::{Addition, Co2Ledger, Judged, Reason};
 /// 250.0 MMBtu/h, in tenths.
 const LARGE_UNIT_ABOVE: u32 = 2_500;
 /// Carbon becomes CO2 by 3.664; with carbon in mg the thousandfold gives µg.
-const UG_CO2_PER_MG_CARBON: u64 = 3_664;
+pub const UG_CO2_PER_MG_CARBON: u64 = 3_664;
 
 struct FuelRecord {
     month: u16,

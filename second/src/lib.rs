@@ -3,6 +3,7 @@
 //! whole nanograms in 128 bits, and tonnes appear only where bytes are written.
 
 pub mod annual;
+pub mod anodes;
 pub mod answer;
 pub mod book;
 pub mod bytes;

@@ -2,7 +2,7 @@
 
 use crate::book::Book;
 use crate::earlier_records::EarlierRecords;
-use crate::{fuel_record, hour};
+use crate::{anodes, fuel_record, hour};
 
 /// Why a record is set aside; the values are the requirements', "first that
 /// applies".
@@ -32,7 +32,7 @@ pub enum Co2Ledger {
 /// What a sound record adds.
 #[derive(Clone, Copy, Debug, PartialEq, Eq)]
 pub struct Addition {
-    /// 1 to 4, or 0 for a monitor hour.
+    /// 1 to 4, or 0 for a monitor hour and for anodes.
     pub method: u8,
     pub ledger: Co2Ledger,
     pub co2_ug: u64,
@@ -44,6 +44,7 @@ pub type Judged = Result<Addition, Reason>;
 
 const FUEL_RECORD: u8 = 1;
 pub const MONITOR_HOUR: u8 = 2;
+pub const ANODES: u8 = 4;
 
 /// Each record from `place` on, by itself and by what stands before it.
 pub fn judged_from<'a>(book: &'a Book<'a>, place: u32) -> impl Iterator<Item = Judged> + 'a {
@@ -63,6 +64,7 @@ pub fn judge(book: &Book, line: &[u8]) -> Judged {
     match line[0] {
         FUEL_RECORD => fuel_record::judge(book, line),
         MONITOR_HOUR => hour::judge(book, line),
+        ANODES => anodes::judge(book, line),
         _ => Err(Reason::Form),
     }
 }

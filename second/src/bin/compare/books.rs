@@ -1,5 +1,6 @@
 //! Group 2: books at every edge that the requirements draw, and random ones.
 
+mod anodes;
 mod decisions;
 mod every_call;
 mod limits;
@@ -11,6 +12,8 @@ mod repeats;
 mod sizes;
 mod warming;
 
+pub use repeats::full_books;
+
 use crate::exchange::{Exchange, Outcome};
 use crate::random::Random;
 use crate::random_books;
@@ -21,10 +24,11 @@ pub fn run(exchange: &mut Exchange, rng: &mut Random) -> Outcome<()> {
     repeats::run(exchange, rng)?;
     low_heat::run(exchange, rng)?;
     moisture::run(exchange, rng)?;
+    anodes::run(exchange, rng)?;
     decisions::run(exchange, rng)?;
     warming::run(exchange, rng)?;
     readings::run(exchange, rng)?;
     sizes::run(exchange, rng)?;
-    repeats::full_books(exchange, rng)?;
+    full_books(exchange, rng)?;
     random_books::run(exchange, rng)
 }

@@ -1,5 +1,6 @@
 //! What was compared and found equal, counted by what the requirements tell apart.
 
+mod anodes;
 mod low_heat;
 mod moisture;
 mod repeats;
@@ -10,11 +11,16 @@ use second::answer::{Answer, Call, NO_SUCH_RECORD};
 use second::bytes::u32_at;
 use second::replay::FRAME_HEAD;
 
+pub use moisture::flags_of;
+
 use crate::draft::LINE;
+use crate::repeats::{Kind, KINDS};
 use crate::run::Run;
 use crate::specials::{class, is_usable, CLASSES, FLOW_LIMIT, PERCENT_LIMIT};
+use anodes::AnodeCounts;
 use low_heat::LowHeatCounts;
 use moisture::MoistureCounts;
+use repeats::asked::Asked;
 use repeats::RepeatCounts;
 use rounding::RoundingCounts;
 use warming::WarmingCounts;
@@ -24,7 +30,6 @@ const NUMBERS: [u8; 10] = [0, 20, 21, 22, 23, 30, 31, 32, 40, 41];
 const NUMBERS_OF_LEFT: [u8; 7] = [0, 20, 21, 22, 23, 30, 31];
 const METHODS: [u8; 6] = [0, 1, 2, 3, 4, NO_SUCH_RECORD];
 const FUEL_RECORD: u8 = 1;
-const HOUR: u8 = 2;
 const UNIT_LINES_WRONG: u8 = 22;
 const SET_ASIDE: u8 = 41;
 
@@ -42,6 +47,7 @@ pub struct Counts {
     ledgers: [u64; 3],
     percents: [u64; CLASSES.len()],
     flows: [u64; CLASSES.len()],
+    anodes: AnodeCounts,
     low_heat: LowHeatCounts,
     moisture: MoistureCounts,
     repeats: RepeatCounts,
@@ -130,10 +136,22 @@ impl Counts {
         if line[0] == FUEL_RECORD {
             self.low_heat.count(book, line, answer);
         }
-        if line[0] == HOUR {
-            self.moisture.count_hour(book, line, answer);
-            self.repeats.count_hour(book, index, reason);
-            self.count_readings(line, reason);
+        let asked = Asked {
+            book,
+            index,
+            reason,
+        };
+        match KINDS.into_iter().find(|kind| kind.byte_0() == line[0]) {
+            Some(Kind::Hours) => {
+                self.moisture.count_hour(book, line, answer);
+                self.repeats.count_record(Kind::Hours, &asked);
+                self.count_readings(line, reason);
+            }
+            Some(Kind::Anodes) => {
+                self.anodes.count(&asked);
+                self.repeats.count_record(Kind::Anodes, &asked);
+            }
+            None => {}
         }
     }
 
@@ -161,7 +179,7 @@ impl Counts {
         };
         let numbers = NUMBERS.iter().map(u8::to_string).zip(self.numbers);
         let reasons = ["1", "2", "3", "4", "5", "6", "7", "8"];
-        let methods = ["0 (hour)", "1", "2", "3", "4", "none (no such record)"];
+        let methods = ["0 (no fuel)", "1", "2", "3", "4", "none (no such record)"];
         let calls = ["fresh", "wake", "report", "one record"];
         let mut table = vec![
             ("call", named(&calls, &self.calls)),
@@ -182,6 +200,7 @@ impl Counts {
         ];
         table.extend(self.rounding.table());
         table.extend(self.moisture.table());
+        table.extend(self.anodes.table());
         table.extend(self.repeats.table());
         table.extend(self.warming.table());
         if asks_left {

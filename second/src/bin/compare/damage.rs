@@ -49,12 +49,11 @@ pub fn run(exchange: &mut Exchange, rng: &mut Random) -> Outcome<()> {
     draft.records[1][6] = 13;
     let with_one_set_aside = sound(exchange, draft, 2)?;
     let with_low_heat = sound(exchange, small_book_with_low_heat(), 2)?;
-    let with_repeats = repeats::sound_run(exchange, rng)?;
     exchange.case("every value of every byte of an hour with moisture");
     single_bytes_of_line(exchange, rng, &whole, HOUR_WITH_MOISTURE)?;
     exchange.case("every value of every byte of a fuel record with a low heat value");
     single_bytes_of_line(exchange, rng, &with_low_heat, 0)?;
-    repeats::run(exchange, rng, &with_repeats)?;
+    repeats::run(exchange, rng)?;
     let lines = 0..whole.book.len() / LINE;
     for line in lines.filter(|&line| line != HOUR_WITH_MOISTURE) {
         exchange.case(format!(

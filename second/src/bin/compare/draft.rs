@@ -32,10 +32,22 @@ pub const DRY: u8 = 2;
 pub const MOISTURE_PLACE: usize = 16;
 pub const MOST_MOISTURE: u16 = 1_000;
 
-/// Byte 0 of an hour, where it has its number, and the greatest.
+/// Byte 0 of an hour, and the greatest number.
 pub const HOUR: u8 = 2;
-pub const HOUR_PLACE: usize = 6;
 pub const LAST_HOUR: u16 = 8_784;
+
+/// Byte 0 of an anode record, where it has its three impurities, and the greatest
+/// month, metal, use, and sum of impurities.
+pub const ANODES: u8 = 4;
+pub const IMPURITY_PLACES: [usize; 3] = [16, 18, 20];
+pub const LAST_MONTH: u16 = 12;
+pub const MOST_METAL: u32 = 100_000_000;
+pub const MOST_USE: u32 = 1_000;
+pub const MOST_IMPURITY: u16 = 10_000;
+
+/// Where records of any kind have their unit and their month or number.
+pub const UNIT_PLACE: usize = 2;
+pub const NUMBER_PLACE: usize = 6;
 
 pub type Line = [u8; LINE];
 
@@ -69,6 +81,16 @@ pub struct Burnt {
     pub heat: Option<u32>,
     pub heat_is_low: bool,
     pub carbon: Option<u32>,
+}
+
+#[derive(Clone, Copy)]
+pub struct Anodes {
+    pub unit: u16,
+    pub month: u16,
+    pub metal: u32,
+    pub net_use: u32,
+    /// Sulphur, ash and others.
+    pub impurities: [u16; 3],
 }
 
 impl Draft {
@@ -165,7 +187,7 @@ pub fn hour(unit: u16, hour: u16, percent: u32, flow: u32) -> Line {
     let mut line = [0; LINE];
     line[0] = HOUR;
     put(&mut line, 2, &unit.to_le_bytes());
-    put(&mut line, HOUR_PLACE, &hour.to_le_bytes());
+    put(&mut line, NUMBER_PLACE, &hour.to_le_bytes());
     put(&mut line, 8, &percent.to_le_bytes());
     put(&mut line, 12, &flow.to_le_bytes());
     line
@@ -178,17 +200,32 @@ pub fn with_moisture(hour: Line, moisture: u16) -> Line {
     line
 }
 
+impl Anodes {
+    pub fn line(&self) -> Line {
+        let mut line = [0; LINE];
+        line[0] = ANODES;
+        put(&mut line, UNIT_PLACE, &self.unit.to_le_bytes());
+        put(&mut line, NUMBER_PLACE, &self.month.to_le_bytes());
+        put(&mut line, 8, &self.metal.to_le_bytes());
+        put(&mut line, 12, &self.net_use.to_le_bytes());
+        for (place, impurity) in IMPURITY_PLACES.into_iter().zip(self.impurities) {
+            put(&mut line, place, &impurity.to_le_bytes());
+        }
+        line
+    }
+}
+
 /// The records with new numbers for the hours of each unit, from the last down,
 /// so that none repeats another. A number out of range is there to be seen, and
 /// stays.
 pub fn numbered_apart(mut records: Vec<Line>) -> Vec<Line> {
     let mut next_numbers = HashMap::new();
     for record in records.iter_mut().filter(|record| record[0] == HOUR) {
-        let number = u16::from_le_bytes([record[HOUR_PLACE], record[HOUR_PLACE + 1]]);
+        let number = u16::from_le_bytes([record[NUMBER_PLACE], record[NUMBER_PLACE + 1]]);
         if (1..=LAST_HOUR).contains(&number) {
             let unit = [record[2], record[3]];
             let next = next_numbers.entry(unit).or_insert(LAST_HOUR);
-            put(record, HOUR_PLACE, &next.to_le_bytes());
+            put(record, NUMBER_PLACE, &next.to_le_bytes());
             *next -= 1;
         }
     }

@@ -7,6 +7,8 @@ mod made_up;
 mod repeats;
 mod smallest;
 
+pub use repeats::full_books;
+
 use std::collections::BTreeMap;
 
 use crate::draft::{put, Draft};
@@ -43,7 +45,7 @@ pub fn run(exchange: &mut Exchange, rng: &mut Random) -> Outcome<()> {
     }
     made_up::run(exchange, rng)?;
     changed_set::run(exchange, rng)?;
-    repeats::full_books(exchange, rng)
+    full_books(exchange, rng)
 }
 
 fn budget(rng: &mut Random) -> u32 {

@@ -5,6 +5,7 @@
 //! in 2d, and in a product such parts add up. This holds for what a source
 //! prints and for the whole numbers of a book alike.
 
+mod anodes_000;
 mod dry_gas;
 mod factors_002;
 mod low_heat_000;
@@ -39,6 +40,7 @@ pub fn run(exchange: &mut Exchange, rng: &mut Random) -> Outcome<()> {
         source_000::figures(),
         low_heat_000::figures(),
         dry_gas::figures(),
+        anodes_000::figures(),
     ];
     for figure in groups.into_iter().flatten() {
         exchange.case(figure.source);

@@ -1,13 +1,18 @@
 //! Random books, biased to the edges of what the requirements allow.
 
+mod anodes;
+mod echo;
+
+pub use echo::echo;
+
 use second::book::Book;
 use second::bytes::u16_at;
 use second::earlier_records::EarlierRecords;
 use second::record::judge;
 
 use crate::draft::{
-    dry_unit, hour, put, unit, with_moisture, Burnt, Draft, FuelLine, Line, DRY, HOUR, LINE,
-    MOISTURE_PLACE, MONITORED, MOST_LOW_HEAT, MOST_MOISTURE, NATURAL_GAS, SETS,
+    dry_unit, hour, unit, with_moisture, Burnt, Draft, FuelLine, Line, DRY, LINE, MOISTURE_PLACE,
+    MONITORED, MOST_LOW_HEAT, MOST_MOISTURE, NATURAL_GAS, SETS,
 };
 use crate::exchange::{Exchange, Outcome};
 use crate::job;
@@ -27,7 +32,7 @@ pub fn run(exchange: &mut Exchange, rng: &mut Random) -> Outcome<()> {
 
 /// A book of up to 40 records. Half of the books have only records that are
 /// counted, so that reports with figures are as common as refusals; half of the
-/// others have hours again that stand in earlier records.
+/// others have hours and anodes again that stand in earlier records.
 pub fn book(rng: &mut Random) -> Draft {
     let mut draft = listing(rng);
     let count = rng.index(40);
@@ -124,6 +129,10 @@ pub fn good_record(rng: &mut Random, draft: &Draft) -> Line {
         let unit = rng.pick(&monitored);
         return good_hour(rng, unit);
     }
+    if rng.one_in(4) {
+        let unit = u16_at(&rng.pick(&draft.units), 0);
+        return anodes::good(rng, unit);
+    }
     let fuel = rng.pick(&draft.fuels);
     let heat_is_low = fuel[3] == NATURAL_GAS && rng.one_in(2);
     let heat = match heat_is_low {
@@ -172,57 +181,37 @@ fn low_heat(rng: &mut Random) -> u32 {
     }
 }
 
-/// A record after one of these hours, if there is one: the same hour in the same
-/// bytes or with something else in the others, or one that is near to it.
-pub fn echo(rng: &mut Random, records: &[Line]) -> Option<Line> {
-    let hours = records.iter().copied().filter(|record| record[0] == HOUR);
-    let hours: Vec<Line> = hours.collect();
-    if hours.is_empty() {
-        return None;
-    }
-    let mut line = rng.pick(&hours);
-    match rng.below(6) {
-        0 => line[0] = rng.pick(&[0, 1, 3]),
-        1 => line[rng.pick(&[2, 3, 6, 7])] ^= 1 << rng.below(8),
-        2 => line[rng.pick(&[1, 4, 5, MOISTURE_PLACE, LINE - 1])] ^= 1 << rng.below(8),
-        3 => put(
-            &mut line,
-            8,
-            &rng.pick(&singles(PERCENT_LIMIT)).to_le_bytes(),
-        ),
-        4 => put(&mut line, 12, &0x3F80_0000u32.to_le_bytes()),
-        _ => {}
-    }
-    Some(line)
-}
-
 /// A record with anything at or past its edges.
 pub fn wild_record(rng: &mut Random, draft: &Draft) -> Line {
     let unit = u16_at(&rng.pick(&draft.units), 0) + u16::from(rng.one_in(10));
-    let mut line = if rng.one_in(2) {
-        wild_hour(rng, unit)
-    } else {
-        let record = Burnt {
-            unit,
-            fuel: u16_at(&rng.pick(&draft.fuels), 0) + u16::from(rng.one_in(10)),
-            month: rng.edgy(12) as u16,
-            amount: rng.edgy(100_000_000),
-            heat: rng.one_in(2).then(|| {
-                let most = rng.pick(&[MOST_LOW_HEAT, 200_000]);
-                rng.edgy(most)
-            }),
-            heat_is_low: rng.one_in(3),
-            carbon: rng.one_in(2).then(|| {
-                let most = rng.pick(&[1_000_000, 4_000_000]);
-                rng.edgy(most)
-            }),
-        };
-        record.line()
+    let mut line = match rng.below(5) {
+        0 | 1 => wild_hour(rng, unit),
+        2 => anodes::wild(rng, unit),
+        _ => wild_fuel(rng, unit, draft),
     };
     if rng.one_in(12) {
         line[rng.index(LINE)] = rng.byte();
     }
     line
+}
+
+fn wild_fuel(rng: &mut Random, unit: u16, draft: &Draft) -> Line {
+    let record = Burnt {
+        unit,
+        fuel: u16_at(&rng.pick(&draft.fuels), 0) + u16::from(rng.one_in(10)),
+        month: rng.edgy(12) as u16,
+        amount: rng.edgy(100_000_000),
+        heat: rng.one_in(2).then(|| {
+            let most = rng.pick(&[MOST_LOW_HEAT, 200_000]);
+            rng.edgy(most)
+        }),
+        heat_is_low: rng.one_in(3),
+        carbon: rng.one_in(2).then(|| {
+            let most = rng.pick(&[1_000_000, 4_000_000]);
+            rng.edgy(most)
+        }),
+    };
+    record.line()
 }
 
 /// Half of them without moisture, which on most units is reason 1 and leaves no

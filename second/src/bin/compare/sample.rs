@@ -1,8 +1,8 @@
 //! A small sound book that has every kind of line.
 
 use crate::draft::{
-    dry_unit, hour, put, unit, with_moisture, Burnt, Draft, FuelLine, Line, FIRST_SET, HOUR_PLACE,
-    LAST_HOUR,
+    dry_unit, hour, put, unit, with_moisture, Anodes, Burnt, Draft, FuelLine, Line, FIRST_SET,
+    LAST_HOUR, NUMBER_PLACE,
 };
 
 const UNMEASURED: Burnt = Burnt {
@@ -79,7 +79,38 @@ pub fn small_book_with_repeats() -> Draft {
         hour
     };
     let [wet, mut dry] = [3, 4].map(|place| draft.records[place]);
-    put(&mut dry, HOUR_PLACE, &LAST_HOUR.to_le_bytes());
+    put(&mut dry, NUMBER_PLACE, &LAST_HOUR.to_le_bytes());
     draft.records = vec![with_25_percent(wet), wet, with_25_percent(dry), wet, dry];
+    draft
+}
+
+/// 1,234 kg of metal x 431 g x 97.31 percent x 3.664 is 1,896,292,674,793.6 µg. 431 is
+/// 256 + 175, so another upper byte alone makes the use 943 or 1,199.
+const ANODES: Anodes = Anodes {
+    unit: 1,
+    month: 7,
+    metal: 1_234,
+    net_use: 431,
+    impurities: [201, 52, 16],
+};
+
+/// The same, but with anodes in the place of fuel, one month of the plain unit three
+/// times and one of the wet unit, whose hour has the number of that month.
+pub fn small_book_with_anodes() -> Draft {
+    let mut draft = small_book();
+    let of_wet_unit = Anodes { unit: 2, ..ANODES };
+    let of_more_metal = Anodes {
+        metal: 1_235,
+        ..ANODES
+    };
+    let mut hour = draft.records[3];
+    put(&mut hour, NUMBER_PLACE, &ANODES.month.to_le_bytes());
+    draft.records = vec![
+        of_more_metal.line(),
+        ANODES.line(),
+        of_wet_unit.line(),
+        ANODES.line(),
+        hour,
+    ];
     draft
 }

@@ -1,6 +1,7 @@
 //! Group 1: every sum that the requirements work by hand ("Sums worked by hand"),
 //! with the result that the document prints, and others worked from its rules.
 
+mod anodes;
 mod low_heat;
 mod moisture;
 mod repeats;
@@ -148,7 +149,8 @@ fn hour_sums() -> Vec<Sum> {
 fn sums() -> impl Iterator<Item = Sum> {
     let of_the_document = fuel_sums().into_iter().chain(hour_sums());
     let others = low_heat::sums().chain(rounding::sums());
-    of_the_document.chain(others).chain(moisture::sums())
+    let others = others.chain(moisture::sums()).chain(anodes::sums());
+    of_the_document.chain(others)
 }
 
 /// P10 to P12: T and biomass in tonnes, and whether the site must report. They

@@ -1,5 +1,6 @@
 //! Other programs that are wrong on purpose, to show that each group can fail.
 
+mod anodes;
 mod calls;
 mod low_heat;
 mod moisture;
@@ -9,6 +10,7 @@ mod rounding;
 mod unit_flags;
 mod warming;
 
+pub use anodes::*;
 pub use calls::*;
 pub use low_heat::*;
 pub use moisture::*;

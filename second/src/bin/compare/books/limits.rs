@@ -4,7 +4,7 @@ use crate::draft::{put, Draft, Line, LINE, LONGEST_BOOK};
 use crate::exchange::{Exchange, Outcome};
 use crate::job;
 use crate::random::Random;
-use crate::sample::{small_book, small_book_with_low_heat};
+use crate::sample::{small_book, small_book_with_anodes, small_book_with_low_heat};
 use crate::specials::{FLOW_LIMIT, PERCENT_LIMIT};
 
 /// A field: where it lies, how many bytes it has, and the ends of its range.
@@ -78,6 +78,20 @@ const HOUR: [Field; 10] = [
     field(28, 4, &[0]),
 ];
 
+const ANODES: [Field; 11] = [
+    field(0, 1, &[2, 4]),
+    field(1, 1, &[0]),
+    field(2, 2, &[0, 1, 2, 3, 4, 65_535]),
+    field(4, 2, &[0]),
+    field(6, 2, &[1, 7, 12, 256, 65_535]),
+    field(8, 4, &[0, 100_000_000, u32::MAX]),
+    field(12, 4, &[0, 1_000, 65_536, u32::MAX]),
+    field(16, 2, &[0, 10_000, 65_535]),
+    field(18, 2, &[0, 10_000, 65_535]),
+    field(20, 2, &[0, 10_000, 65_535]),
+    field(22, 4, &[0]),
+];
+
 impl Field {
     /// The ends themselves and their neighbours on either side.
     fn values(&self) -> impl Iterator<Item = u32> {
@@ -118,7 +132,14 @@ pub fn run(exchange: &mut Exchange, rng: &mut Random) -> Outcome<()> {
     exchange.case("limits in a fuel record with a low heat value");
     vary(exchange, rng, &with_low_heat, &FUEL_RECORD, 0)?;
     exchange.case("every pair of limits in a fuel record with a low heat value");
-    pairs(exchange, &with_low_heat, &FUEL_RECORD, 0)
+    pairs(exchange, &with_low_heat, &FUEL_RECORD, 0)?;
+    let with_anodes = small_book_with_anodes();
+    exchange.case("limits in anode records");
+    for line in 0..4 {
+        vary(exchange, rng, &with_anodes, &ANODES, line)?;
+    }
+    exchange.case("every pair of limits in an anode record");
+    pairs(exchange, &with_anodes, &ANODES, 0)
 }
 
 fn vary(

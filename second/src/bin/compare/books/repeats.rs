@@ -1,8 +1,9 @@
-//! Hours that stand in an earlier record: of every sort, of any unit and number,
-//! next to each other and as far apart as a book allows.
+//! Hours and anodes that stand in an earlier record: of every sort, of any unit and
+//! number, next to each other and as far apart as a book allows.
 
 mod ends;
 mod full;
+mod kinds;
 mod many;
 mod near_misses;
 mod sorts;
@@ -13,22 +14,25 @@ use crate::draft::Line;
 use crate::exchange::{Exchange, Outcome};
 use crate::job::{self, CHECKPOINT};
 use crate::random::Random;
-use crate::repeats::{self, of_reason, Judged, Key};
+use crate::repeats::{self, of_reason, Judged, Key, Kind, KINDS};
 
 pub fn run(exchange: &mut Exchange, rng: &mut Random) -> Outcome<()> {
     sorts::run(exchange, rng)?;
-    near_misses::run(exchange, rng)?;
-    ends::run(exchange, rng)?;
-    many::run(exchange, rng)
+    for kind in KINDS {
+        near_misses::run(exchange, rng, kind)?;
+        ends::run(exchange, rng, kind)?;
+        many::run(exchange, rng, kind)?;
+    }
+    kinds::run(exchange, rng)
 }
 
-fn held_hours(exchange: &mut Exchange, rng: &mut Random, keys: &[Key]) -> Outcome<()> {
-    let records = repeats::judged(keys);
+fn held_keys(exchange: &mut Exchange, rng: &mut Random, kind: Kind, keys: &[Key]) -> Outcome<()> {
+    let records = repeats::judged(kind, keys);
     held(exchange, rng, &repeats::units_of(keys), &records)
 }
 
 /// Every record by itself, and the job in two wakes, the first of which ends anywhere.
-fn held(
+pub fn held(
     exchange: &mut Exchange,
     rng: &mut Random,
     units: &[Line],

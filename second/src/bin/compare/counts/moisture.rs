@@ -145,7 +145,8 @@ fn unit_lines(book: &[u8]) -> Range<usize> {
     start..end
 }
 
-fn flags_of(book: &[u8], number: u16) -> Option<u8> {
+/// Of a unit, if it is listed.
+pub fn flags_of(book: &[u8], number: u16) -> Option<u8> {
     let mut units = book[unit_lines(book)].chunks(LINE);
     let unit = units.find(|unit| u16_at(unit, 0) == number);
     unit.map(|unit| unit[2])

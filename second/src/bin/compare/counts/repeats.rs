@@ -1,39 +1,60 @@
-//! What was compared of hours that stand in an earlier record.
+//! What was compared of hours and anodes that stand in an earlier record.
 
-mod asked;
+mod anodes;
+pub mod asked;
 mod hours;
 mod reasons;
+mod records;
+mod wake;
 mod wakes;
 
 use second::answer::Answer;
 
 use super::{Made, Question, Rows};
-use hours::HourCounts;
+use crate::repeats::Kind;
+use asked::Asked;
 use reasons::ReasonCounts;
+use records::RecordCounts;
 use wakes::WakeCounts;
 
-#[derive(Default)]
 pub struct RepeatCounts {
-    hours: HourCounts,
-    wakes: WakeCounts,
+    hours: RecordCounts,
+    anodes: RecordCounts,
+    wakes: [WakeCounts; 2],
     reasons: ReasonCounts,
 }
 
+impl Default for RepeatCounts {
+    fn default() -> RepeatCounts {
+        RepeatCounts {
+            hours: RecordCounts::new(&hours::TABLES),
+            anodes: RecordCounts::new(&anodes::TABLES),
+            wakes: [Kind::Hours, Kind::Anodes].map(WakeCounts::new),
+            reasons: ReasonCounts::default(),
+        }
+    }
+}
+
 impl RepeatCounts {
-    /// Counts an hour, the record of this index.
-    pub fn count_hour(&mut self, book: &[u8], index: usize, reason: u8) {
-        self.hours.count(book, index, reason);
+    pub fn count_record(&mut self, kind: Kind, asked: &Asked) {
+        match kind {
+            Kind::Hours => self.hours.count(asked),
+            Kind::Anodes => self.anodes.count(asked),
+        }
     }
 
     /// Counts a call, before what it made is the latest.
     pub fn count(&mut self, question: &Question, answer: &Answer, latest: Option<&Made>) {
-        self.wakes.count(question, answer, latest);
+        for wakes in &mut self.wakes {
+            wakes.count(question, answer, latest);
+        }
         self.reasons.count(question, answer);
     }
 
     pub fn table(&self) -> Vec<(&'static str, Rows)> {
         let mut table = self.hours.table();
-        table.push(("repeats", self.wakes.rows()));
+        table.extend(self.anodes.table());
+        table.extend(self.wakes.iter().map(WakeCounts::rows));
         table.push(("checkpoint that names", self.reasons.rows()));
         table
     }

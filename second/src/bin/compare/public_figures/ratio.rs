@@ -49,6 +49,11 @@ impl Ratio {
         self.times(Ratio::new(other.under, other.over))
     }
 
+    pub fn plus(self, other: Ratio) -> Ratio {
+        let under = self.under * other.under;
+        Ratio::new(self.over * other.under + other.over * self.under, under)
+    }
+
     /// Less `other`, which is not more.
     pub fn minus(self, other: Ratio) -> Ratio {
         let under = self.under * other.under;
@@ -81,5 +86,6 @@ mod tests {
         assert_eq!(product.nearest(), 3);
         assert_eq!(product.per(Ratio::whole(5)), Ratio::new(1, 2));
         assert_eq!(product.minus(Ratio::new(1, 3)), Ratio::new(13, 6));
+        assert_eq!(product.plus(Ratio::new(1, 3)), Ratio::new(17, 6));
     }
 }

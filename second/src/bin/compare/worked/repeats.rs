@@ -1,5 +1,7 @@
-//! Hours that are uploaded twice, worked by hand: the reason of each record, and
-//! what the fossil ledger holds at the end.
+//! Hours and anodes that are uploaded twice, worked by hand: the reason of each record,
+//! and what the fossil ledger holds at the end.
+
+mod anodes;
 
 use super::{FUEL_1, PLAIN};
 use crate::draft::{dry_unit, hour, unit, with_moisture, Burnt, Draft, Line, FIRST_SET};
@@ -157,7 +159,7 @@ fn uploads() -> impl Iterator<Item = Upload> {
         set_aside_alike(),
         not_the_same(),
     ];
-    groups.into_iter().flatten()
+    groups.into_iter().chain(anodes::uploads()).flatten()
 }
 
 fn book(records: &[Judged]) -> Vec<u8> {

@@ -9,7 +9,7 @@ use second::checkpoint::Checkpoint;
 use second::earlier_records::EarlierRecords;
 use second::record::{judge, Addition, Co2Ledger, Judged, Reason};
 
-use crate::draft::put;
+use crate::draft::{put, HOUR};
 
 /// A job done with a wrong judge of single records; which hours are repeated it
 /// sees rightly.
@@ -86,7 +86,7 @@ pub fn takes_minus_zero_for_less_than_zero(frame: &Frame) -> Answer {
     judging(frame, |book, line| {
         let minus_zero = |place: usize| line[place..place + 4] == [0, 0, 0, 0x80];
         match judge(book, line) {
-            Ok(hour) if hour.method == 0 && (minus_zero(8) || minus_zero(12)) => {
+            Ok(_) if line[0] == HOUR && (minus_zero(8) || minus_zero(12)) => {
                 Err(Reason::OutOfRange)
             }
             judged => judged,

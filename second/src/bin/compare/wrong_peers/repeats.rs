@@ -1,10 +1,12 @@
-//! Programs that are wrong about hours that stand in an earlier record.
+//! Programs that are wrong about hours, or about anodes, that stand in an earlier record.
 
+mod anodes;
 mod answers;
 mod keys;
 mod standing;
 mod wakes;
 
+pub use anodes::*;
 pub use answers::*;
 pub use keys::*;
 pub use standing::*;
@@ -16,7 +18,8 @@ use second::bytes::u16_at;
 use second::record::{judge, Judged, Reason};
 
 use super::records::judging_ranges;
-use crate::draft::HOUR;
+use crate::draft::{NUMBER_PLACE, UNIT_PLACE};
+use crate::repeats::{Kind, KINDS};
 
 /// A record and what a program may see from there.
 struct Place<'a> {
@@ -51,20 +54,25 @@ impl<'a> Place<'a> {
     }
 
     fn is_among(&self, lines: &[&[u8]]) -> bool {
-        lines.iter().any(|other| is_same_hour(other, self.line()))
+        lines.iter().any(|other| is_same(other, self.line()))
+    }
+
+    fn is_of(&self, kind: Kind) -> bool {
+        is_of(self.line(), kind)
     }
 }
 
-fn is_hour(line: &[u8]) -> bool {
-    line[0] == HOUR
+fn is_of(line: &[u8], kind: Kind) -> bool {
+    line[0] == kind.byte_0()
 }
 
 fn key(line: &[u8]) -> (u16, u16) {
-    (u16_at(line, 2), u16_at(line, 6))
+    (u16_at(line, UNIT_PLACE), u16_at(line, NUMBER_PLACE))
 }
 
-fn is_same_hour(one: &[u8], other: &[u8]) -> bool {
-    is_hour(one) && is_hour(other) && key(one) == key(other)
+fn is_same(one: &[u8], other: &[u8]) -> bool {
+    let is_of_one_kind = |kind| is_of(one, kind) && is_of(other, kind);
+    key(one) == key(other) && KINDS.into_iter().any(is_of_one_kind)
 }
 
 /// Each record of a job judged at its place.
@@ -85,11 +93,16 @@ fn judging_places(frame: &Frame, wrong: impl Fn(&Place) -> Judged) -> Answer {
     })
 }
 
-/// Hours that have no reason by themselves are repeated where `wrong` says so.
-fn repeating(frame: &Frame, wrong: impl Fn(&Place) -> bool) -> Answer {
+/// Records of a kind that have no reason by themselves are repeated where `wrong` says
+/// so; those of the other kind are seen rightly.
+fn repeating(frame: &Frame, kind: Kind, wrong: impl Fn(&Place) -> bool) -> Answer {
     judging_places(frame, |place| {
         let addition = judge(place.book, place.line())?;
-        match is_hour(place.line()) && wrong(place) {
+        let is_repeated = match place.is_of(kind) {
+            true => wrong(place),
+            false => place.is_among(place.earlier()),
+        };
+        match is_repeated {
             true => Err(Reason::Repeated),
             false => Ok(addition),
         }

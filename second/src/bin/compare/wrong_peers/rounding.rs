@@ -7,13 +7,14 @@ use second::record::{judge, Addition};
 use second::single::Product;
 
 use super::records::judging;
+use crate::draft::HOUR;
 
 /// Hours with a wrong R of the readings in their line.
 fn with_r(frame: &Frame, wrong: impl Fn(&[u8]) -> u64) -> Answer {
     judging(frame, |book, line| {
         let judged = judge(book, line)?;
-        match judged.method {
-            0 => Ok(Addition {
+        match line[0] {
+            HOUR => Ok(Addition {
                 co2_ug: 518 * wrong(line),
                 ..judged
             }),

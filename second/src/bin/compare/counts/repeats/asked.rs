@@ -1,11 +1,12 @@
-//! An hour that was asked for by itself, and what of it and of the records before it is
-//! told apart.
+//! An hour or anode record that was asked for by itself, and what of it and of the
+//! records before it is told apart.
 
 use second::book::Book;
 use second::bytes::{u16_at, u32_at};
 use second::record::judge;
 
-use crate::draft::{HOUR, LINE, MOISTURE_PLACE};
+use crate::counts::flags_of;
+use crate::draft::{HOUR, IMPURITY_PLACES, LINE, MOISTURE_PLACE, NUMBER_PLACE, UNIT_PLACE};
 use crate::specials::{class, CLASSES, FLOW_LIMIT, PERCENT_LIMIT};
 
 /// The record of this index, and the reason that it was given.
@@ -24,11 +25,10 @@ impl<'a> Asked<'a> {
         self.book[..LINE * self.index].chunks(LINE)
     }
 
-    /// The same hour in earlier records.
+    /// The same in earlier records.
     pub fn same(&self) -> impl Iterator<Item = &'a [u8]> {
         let line = self.line();
-        self.earlier()
-            .filter(move |other| is_same_hour(other, line))
+        self.earlier().filter(move |other| is_same(other, line))
     }
 
     /// How many records back the latest of them stands.
@@ -36,7 +36,7 @@ impl<'a> Asked<'a> {
         let line = self.line();
         let back = self.book[..LINE * self.index].chunks(LINE).rev();
         let mut distances = (1..).zip(back);
-        let latest = distances.find(|(_, other)| is_same_hour(other, line));
+        let latest = distances.find(|(_, other)| is_same(other, line));
         latest.map(|(distance, _)| distance)
     }
 
@@ -63,21 +63,27 @@ impl<'a> Asked<'a> {
         self.earlier().any(|other| is_so(other, self.line()))
     }
 
+    /// Those of its unit, if it is listed.
+    pub fn flags(&self) -> Option<u8> {
+        flags_of(self.book, unit(self.line()))
+    }
+
     pub fn resembles_hour(&self, is_so: impl Fn(&[u8], &[u8]) -> bool) -> bool {
         self.resembles(|other, line| other[0] == HOUR && is_so(other, line))
     }
 }
 
 pub fn unit(line: &[u8]) -> u16 {
-    u16_at(line, 2)
+    u16_at(line, UNIT_PLACE)
 }
 
 pub fn number(line: &[u8]) -> u16 {
-    u16_at(line, 6)
+    u16_at(line, NUMBER_PLACE)
 }
 
-pub fn is_same_hour(one: &[u8], other: &[u8]) -> bool {
-    one[0] == HOUR && other[0] == HOUR && key(one) == key(other)
+/// As records of one kind, which both of those asked of are.
+fn is_same(one: &[u8], other: &[u8]) -> bool {
+    one[0] == other[0] && key(one) == key(other)
 }
 
 pub fn key(line: &[u8]) -> [u16; 2] {
@@ -86,6 +92,10 @@ pub fn key(line: &[u8]) -> [u16; 2] {
 
 pub fn moisture(line: &[u8]) -> u16 {
     u16_at(line, MOISTURE_PLACE)
+}
+
+pub fn impurities(line: &[u8]) -> [u32; 3] {
+    IMPURITY_PLACES.map(|place| u32::from(u16_at(line, place)))
 }
 
 pub fn has_nan(line: &[u8]) -> bool {

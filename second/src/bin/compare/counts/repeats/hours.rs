@@ -1,199 +1,138 @@
-//! What was compared of hours by themselves: what stood in an earlier record, what the
-//! hour itself is, and what only resembles a repeat.
+//! What was compared of hours and the records before them.
 
 use second::bytes::u16_at;
 
-use super::super::Rows;
-use super::asked::{has_nan, is_in_form, key, moisture, number, unit, Asked};
-use crate::draft::{HOUR, LAST_HOUR, LONGEST_BOOK, MOST_MOISTURE};
+use super::asked::{has_nan, is_in_form, key, moisture, number, unit};
+use super::records::Tables;
+use crate::draft::{ANODES, HOUR, LAST_HOUR, LONGEST_BOOK, MOST_MOISTURE};
 
-const REPEATED: u8 = 8;
-
-type Row = (&'static str, fn(&Asked) -> bool);
-
-/// Asked of hours with reason 8.
-const REPEATS: [Row; 23] = [
-    ("of one that counted", |asked| {
-        asked.stands_in_one(0, |_| true)
-    }),
-    ("of one with a flag, reason 1", |asked| {
-        asked.stands_in_one(1, |line| line[1] > 0)
-    }),
-    ("of one with a fuel number, reason 1", |asked| {
-        asked.stands_in_one(1, |line| u16_at(line, 4) > 0)
-    }),
-    ("of one with a byte after its moisture, reason 1", |asked| {
-        asked.stands_in_one(1, |line| line[18..].iter().any(|&byte| byte > 0))
-    }),
-    ("of one with moisture on a wet unit, reason 1", |asked| {
-        asked.stands_in_one(1, is_in_form)
-    }),
-    ("of one with NaN, reason 4", |asked| {
-        asked.stands_in_one(4, has_nan)
-    }),
-    ("of one with another reading, reason 4", |asked| {
-        asked.stands_in_one(4, |line| !has_nan(line) && moisture(line) <= MOST_MOISTURE)
-    }),
-    ("of one with moisture past 1,000, reason 4", |asked| {
-        asked.stands_in_one(4, |line| moisture(line) > MOST_MOISTURE)
-    }),
-    ("of one that is a repeat, reason 8", |asked| {
-        asked.same().count() == 2
-    }),
-    ("of more than ten", |asked| asked.same().count() > 10),
-    ("of the same readings", |asked| {
-        asked.same().all(|other| other[8..] == asked.line()[8..])
-    }),
-    ("of other readings", |asked| {
-        asked
-            .same()
-            .all(|other| other[8..16] != asked.line()[8..16])
-    }),
-    ("with moisture, of one without", |asked| {
-        moisture(asked.line()) > 0 && asked.same().all(|other| moisture(other) == 0)
-    }),
-    ("with moisture, of other moisture", |asked| {
-        let differs = |other| ![0, moisture(asked.line())].contains(&moisture(other));
-        moisture(asked.line()) > 0 && asked.same().all(differs)
-    }),
-    ("of the record before", |asked| asked.distance() == Some(1)),
-    ("over one record to a hundred", |asked| {
-        asked.distance().is_some_and(|far| (2..=101).contains(&far))
-    }),
-    ("over more than a hundred", |asked| {
-        asked.distance().is_some_and(|far| far > 101)
-    }),
-    ("over more than two thousand", |asked| {
-        asked.distance().is_some_and(|far| far > 2_001)
-    }),
-    ("of hour 1", |asked| number(asked.line()) == 1),
-    ("of hour 8,784", |asked| number(asked.line()) == LAST_HOUR),
-    ("of unit 1", |asked| unit(asked.line()) == 1),
-    ("of unit 65,535", |asked| unit(asked.line()) == u16::MAX),
-    ("in a full book", |asked| asked.book.len() == LONGEST_BOOK),
-];
-
-/// Asked of hours that stand in an earlier record and have another reason.
-const OTHER_REASONS: [Row; 8] = [
-    ("1", |asked| asked.reason == 1),
-    ("1, with moisture alone", |asked| {
-        asked.reason == 1 && is_in_form(asked.line())
-    }),
-    ("2", |asked| asked.reason == 2),
-    ("2, of unit 0", |asked| unit(asked.line()) == 0),
-    ("4, of hour 0", |asked| {
-        asked.reason == 4 && number(asked.line()) == 0
-    }),
-    ("4, of an hour past 8,784", |asked| {
-        asked.reason == 4 && number(asked.line()) > LAST_HOUR
-    }),
-    ("4, with NaN", |asked| {
-        asked.reason == 4 && has_nan(asked.line())
-    }),
-    ("5", |asked| asked.reason == 5),
-];
-
-/// Asked of hours that count.
-const NEAR_MISSES: [Row; 9] = [
-    ("an hour of its unit but for the lower byte", |asked| {
-        asked.resembles_hour(|other, line| other[3] == line[3] && other[6..8] == line[6..8])
-    }),
-    ("an hour of its unit but for the upper byte", |asked| {
-        asked.resembles_hour(|other, line| other[2] == line[2] && other[6..8] == line[6..8])
-    }),
-    ("an hour of its number but for the lower byte", |asked| {
-        asked.resembles_hour(|other, line| other[2..4] == line[2..4] && other[7] == line[7])
-    }),
-    ("an hour of its number but for the upper byte", |asked| {
-        asked.resembles_hour(|other, line| other[2..4] == line[2..4] && other[6] == line[6])
-    }),
-    ("an hour of unit and number exchanged", |asked| {
-        asked.resembles_hour(|other, line| key(other) == [number(line), unit(line)])
-    }),
-    ("its unit and number, kind 1", |asked| {
-        asked.resembles(|other, line| other[0] == 1 && key(other) == key(line))
-    }),
-    ("its unit and number, kind 0 or 3 to 255", |asked| {
-        asked.resembles(|other, line| ![1, HOUR].contains(&other[0]) && key(other) == key(line))
-    }),
-    ("all its bytes but those of the number", |asked| {
-        asked.resembles(|other, line| other[..6] == line[..6] && other[8..] == line[8..])
-    }),
-    ("all its bytes but those of the unit", |asked| {
-        asked.resembles(|other, line| other[..2] == line[..2] && other[4..] == line[4..])
-    }),
-];
-
-#[derive(Default)]
-pub struct HourCounts {
-    repeats: [u64; REPEATS.len()],
-    other_reasons: [u64; OTHER_REASONS.len()],
-    near_misses: [u64; NEAR_MISSES.len()],
-}
-
-impl HourCounts {
-    /// Counts an hour, the record of this index.
-    pub fn count(&mut self, book: &[u8], index: usize, reason: u8) {
-        let asked = Asked {
-            book,
-            index,
-            reason,
-        };
-        match reason {
-            0 => add(&mut self.near_misses, &NEAR_MISSES, &asked),
-            REPEATED => add(&mut self.repeats, &REPEATS, &asked),
-            _ if asked.same().next().is_some() => {
-                add(&mut self.other_reasons, &OTHER_REASONS, &asked);
-            }
-            _ => {}
-        }
-    }
-
-    pub fn table(&self) -> Vec<(&'static str, Rows)> {
-        vec![
-            ("repeat", rows(&REPEATS, &self.repeats)),
-            (
-                "repeat with reason",
-                rows(&OTHER_REASONS, &self.other_reasons),
-            ),
-            ("counted after", rows(&NEAR_MISSES, &self.near_misses)),
-        ]
-    }
-}
-
-fn add(counts: &mut [u64], asking: &[Row], asked: &Asked) {
-    for (count, (_, is_so)) in counts.iter_mut().zip(asking) {
-        *count += u64::from(is_so(asked));
-    }
-}
-
-fn rows(asking: &[Row], counts: &[u64]) -> Rows {
-    let names = asking.iter().map(|(name, _)| name.to_string());
-    names.zip(counts.iter().copied()).collect()
-}
+pub const TABLES: Tables = Tables {
+    names: ["repeat", "repeat with reason", "counted after"],
+    repeats: &[
+        ("of one that counted", |asked| {
+            asked.stands_in_one(0, |_| true)
+        }),
+        ("of one with a flag, reason 1", |asked| {
+            asked.stands_in_one(1, |line| line[1] > 0)
+        }),
+        ("of one with a fuel number, reason 1", |asked| {
+            asked.stands_in_one(1, |line| u16_at(line, 4) > 0)
+        }),
+        ("of one with a byte after its moisture, reason 1", |asked| {
+            asked.stands_in_one(1, |line| line[18..].iter().any(|&byte| byte > 0))
+        }),
+        ("of one with moisture on a wet unit, reason 1", |asked| {
+            asked.stands_in_one(1, is_in_form)
+        }),
+        ("of one with NaN, reason 4", |asked| {
+            asked.stands_in_one(4, has_nan)
+        }),
+        ("of one with another reading, reason 4", |asked| {
+            asked.stands_in_one(4, |line| !has_nan(line) && moisture(line) <= MOST_MOISTURE)
+        }),
+        ("of one with moisture past 1,000, reason 4", |asked| {
+            asked.stands_in_one(4, |line| moisture(line) > MOST_MOISTURE)
+        }),
+        ("of one that is a repeat, reason 8", |asked| {
+            asked.same().count() == 2
+        }),
+        ("of more than ten", |asked| asked.same().count() > 10),
+        ("of the same readings", |asked| {
+            asked.same().all(|other| other[8..] == asked.line()[8..])
+        }),
+        ("of other readings", |asked| {
+            asked
+                .same()
+                .all(|other| other[8..16] != asked.line()[8..16])
+        }),
+        ("with moisture, of one without", |asked| {
+            moisture(asked.line()) > 0 && asked.same().all(|other| moisture(other) == 0)
+        }),
+        ("with moisture, of other moisture", |asked| {
+            let differs = |other| ![0, moisture(asked.line())].contains(&moisture(other));
+            moisture(asked.line()) > 0 && asked.same().all(differs)
+        }),
+        ("of the record before", |asked| asked.distance() == Some(1)),
+        ("over one record to a hundred", |asked| {
+            asked.distance().is_some_and(|far| (2..=101).contains(&far))
+        }),
+        ("over more than a hundred", |asked| {
+            asked.distance().is_some_and(|far| far > 101)
+        }),
+        ("over more than two thousand", |asked| {
+            asked.distance().is_some_and(|far| far > 2_001)
+        }),
+        ("of hour 1", |asked| number(asked.line()) == 1),
+        ("of hour 8,784", |asked| number(asked.line()) == LAST_HOUR),
+        ("of unit 1", |asked| unit(asked.line()) == 1),
+        ("of unit 65,535", |asked| unit(asked.line()) == u16::MAX),
+        ("in a full book", |asked| asked.book.len() == LONGEST_BOOK),
+    ],
+    other_reasons: &[
+        ("1", |asked| asked.reason == 1),
+        ("1, with moisture alone", |asked| {
+            asked.reason == 1 && is_in_form(asked.line())
+        }),
+        ("2", |asked| asked.reason == 2),
+        ("2, of unit 0", |asked| unit(asked.line()) == 0),
+        ("4, of hour 0", |asked| {
+            asked.reason == 4 && number(asked.line()) == 0
+        }),
+        ("4, of an hour past 8,784", |asked| {
+            asked.reason == 4 && number(asked.line()) > LAST_HOUR
+        }),
+        ("4, with NaN", |asked| {
+            asked.reason == 4 && has_nan(asked.line())
+        }),
+        ("5", |asked| asked.reason == 5),
+    ],
+    near_misses: &[
+        ("an hour of its unit but for the lower byte", |asked| {
+            asked.resembles_hour(|other, line| other[3] == line[3] && other[6..8] == line[6..8])
+        }),
+        ("an hour of its unit but for the upper byte", |asked| {
+            asked.resembles_hour(|other, line| other[2] == line[2] && other[6..8] == line[6..8])
+        }),
+        ("an hour of its number but for the lower byte", |asked| {
+            asked.resembles_hour(|other, line| other[2..4] == line[2..4] && other[7] == line[7])
+        }),
+        ("an hour of its number but for the upper byte", |asked| {
+            asked.resembles_hour(|other, line| other[2..4] == line[2..4] && other[6] == line[6])
+        }),
+        ("an hour of unit and number exchanged", |asked| {
+            asked.resembles_hour(|other, line| key(other) == [number(line), unit(line)])
+        }),
+        ("its unit and number, kind 1", |asked| {
+            asked.resembles(|other, line| other[0] == 1 && key(other) == key(line))
+        }),
+        ("its unit and number, kind 0 or 3 to 255", |asked| {
+            asked.resembles(|other, line| ![1, HOUR].contains(&other[0]) && key(other) == key(line))
+        }),
+        ("its unit and number, anodes", |asked| {
+            asked.resembles(|other, line| other[0] == ANODES && key(other) == key(line))
+        }),
+        ("all its bytes but those of the number", |asked| {
+            asked.resembles(|other, line| other[..6] == line[..6] && other[8..] == line[8..])
+        }),
+        ("all its bytes but those of the unit", |asked| {
+            asked.resembles(|other, line| other[..2] == line[..2] && other[4..] == line[4..])
+        }),
+    ],
+};
 
 #[cfg(test)]
 mod tests {
-    use super::*;
+    use super::super::records;
+    use super::TABLES;
     use crate::draft::{put, with_moisture, Line};
-    use crate::repeats::{book, hour_of, monitored};
+    use crate::repeats::{Key, Kind};
 
-    /// The names of what is counted of the last of these records, in a book of a wet
-    /// unit 1, a dry unit 2 and a wet unit 257.
-    fn counted(records: &[Line]) -> Vec<&'static str> {
-        let judged: Vec<(Line, u64)> = records.iter().map(|&line| (line, 0)).collect();
-        let book = book(&monitored([1, 2, 257]), &judged);
-        let index = records.len() - 1;
-        let reason = second::answer::one_record(&book, index as u32)[1];
-        let mut counts = HourCounts::default();
-        counts.count(&book, index, reason);
-        let near_misses = NEAR_MISSES.iter().zip(counts.near_misses);
-        let others = OTHER_REASONS.iter().zip(counts.other_reasons);
-        let repeats = REPEATS.iter().zip(counts.repeats);
-        let all = repeats.chain(others).chain(near_misses);
-        all.filter(|(_, count)| *count > 0)
-            .map(|((name, _), _)| *name)
-            .collect()
+    fn hour_of(key: Key) -> Line {
+        Kind::Hours.record(key)
+    }
+
+    fn counted(records: &[Line]) -> Vec<String> {
+        records::counted(&TABLES, records)
     }
 
     /// The hour before the last, and the name of one thing that is counted then.
@@ -206,7 +145,6 @@ mod tests {
             line
         };
         let firsts = [
-            (hour, "of the same readings"),
             (hour, "of one that counted"),
             (edited(|line| line[8] = 1), "of other readings"),
             (edited(|line| line[1] = 1), "of one with a flag, reason 1"),
@@ -232,10 +170,19 @@ mod tests {
             ),
         ];
         for (first, name) in firsts {
-            assert!(counted(&[first, hour]).contains(&name), "{name}");
+            assert!(
+                counted(&[first, hour]).contains(&name.to_string()),
+                "{name}"
+            );
         }
-        let third = counted(&[hour, hour, hour]);
-        assert!(third.contains(&"of one that is a repeat, reason 8"));
+    }
+
+    #[test]
+    fn repeats_of_repeats_are_told() {
+        let hour = hour_of((1, 300));
+        assert!(counted(&[hour; 2]).contains(&"of the same readings".to_string()));
+        let name = "of one that is a repeat, reason 8".to_string();
+        assert!(counted(&[hour; 3]).contains(&name));
     }
 
     #[test]
@@ -256,6 +203,7 @@ mod tests {
         let names = ["its unit and number, kind 0 or 3 to 255"];
         assert_eq!(counted(&[other_kind, hour]), names);
         let exchanged = [hour_of((2, 1)), hour_of((1, 2))];
-        assert!(counted(&exchanged).contains(&"an hour of unit and number exchanged"));
+        let name = "an hour of unit and number exchanged".to_string();
+        assert!(counted(&exchanged).contains(&name));
     }
 }

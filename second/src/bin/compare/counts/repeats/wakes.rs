@@ -1,124 +1,17 @@
-//! What was compared of repeated hours in wakes: where the first of a pair lies, and how
-//! the wake was begun.
+//! What was compared of records repeated in wakes.
 
 use second::answer::{Answer, Call};
 use second::book::Book;
 use second::bytes::u32_at;
-use second::checkpoint::Checkpoint;
-use second::earlier_records::EarlierRecords;
-use second::record::{judged_from, Reason};
 
 use super::super::{Made, Question, Rows};
-use super::asked::unit;
-use crate::draft::HOUR;
+use super::wake::Wake;
+use crate::draft::LAST_MONTH;
+use crate::repeats::Kind;
 
-const MANY: usize = 1_900;
-
-/// A wake that was made.
-struct Wake<'a> {
-    question: &'a Question<'a>,
-    latest: Option<&'a Made>,
-    book: &'a Book<'a>,
-    begun: usize,
-    moved: usize,
-    /// The units of hours that repeat ones of this wake.
-    within: Vec<u16>,
-    /// And of those that repeat ones before it alone.
-    across: Vec<u16>,
-    begins_with_one: bool,
-}
-
-impl<'a> Wake<'a> {
-    fn of(question: &'a Question, latest: Option<&'a Made>, book: &'a Book, moved: usize) -> Self {
-        let done = u32_at(question.checkpoint, 0);
-        let mut wake = Wake {
-            question,
-            latest,
-            book,
-            begun: done as usize,
-            moved,
-            within: Vec::new(),
-            across: Vec::new(),
-            begins_with_one: false,
-        };
-        let mut in_wake = EarlierRecords::default();
-        let lines = book.records().skip(wake.begun);
-        let judged = judged_from(book, done).take(moved);
-        for (place, (line, judged)) in lines.zip(judged).enumerate() {
-            let stands_in_wake = in_wake.go_through(line);
-            if judged != Err(Reason::Repeated) {
-                continue;
-            }
-            wake.begins_with_one |= place == 0;
-            match stands_in_wake {
-                true => wake.within.push(unit(line)),
-                false => wake.across.push(unit(line)),
-            }
-        }
-        wake
-    }
-
-    fn is_across_by(&self, budget: u32) -> bool {
-        self.question.argument == budget && !self.across.is_empty()
-    }
-
-    /// The checkpoint is not the one at this place.
-    fn is_from_nowhere(&self) -> bool {
-        let mut checkpoint = Checkpoint::fresh(self.book);
-        for judged in judged_from(self.book, 0).take(self.begun) {
-            checkpoint.take(judged);
-        }
-        checkpoint.bytes()[..] != *self.question.checkpoint
-    }
-
-    fn is_from_an_older_one(&self) -> bool {
-        self.latest.is_some_and(|made| {
-            made.book == self.question.book && u32_at(&made.checkpoint, 0) as usize > self.begun
-        })
-    }
-
-    /// Whether each record of the wake stands before it, or did in the book with which
-    /// the checkpoint was made, if that is another one.
-    fn before_and_after_an_edit(&self) -> Option<Vec<[bool; 2]>> {
-        let made = self.latest.filter(|made| {
-            made.checkpoint == self.question.checkpoint && made.book != self.question.book
-        })?;
-        let former = Book::read(&made.book).expect("the checkpoint was made");
-        let standing = |book: &Book| {
-            let mut earlier = EarlierRecords::before(book, self.begun as u32);
-            let lines = self.book.records().skip(self.begun).take(self.moved);
-            lines.map(move |line| earlier.go_through(line)).collect()
-        };
-        let [before, after]: [Vec<bool>; 2] = [&former, self.book].map(standing);
-        Some(
-            before
-                .into_iter()
-                .zip(after)
-                .map(<[bool; 2]>::from)
-                .collect(),
-        )
-    }
-
-    fn is_edited_so_that(&self, change: [bool; 2]) -> bool {
-        self.before_and_after_an_edit()
-            .is_some_and(|changes| changes.contains(&change))
-    }
-
-    fn repeats(&self) -> usize {
-        self.within.len() + self.across.len()
-    }
-
-    fn repeated_units(&self) -> usize {
-        let mut units = [&self.within[..], &self.across[..]].concat();
-        units.sort_unstable();
-        units.dedup();
-        units.len()
-    }
-
-    fn is_of_many_hours_alone(&self) -> bool {
-        self.moved > MANY && self.book.records().all(|line| line[0] == HOUR)
-    }
-}
+const MANY_HOURS: usize = 1_900;
+/// Each month of 64 units.
+const MOST_ANODES: usize = 64 * LAST_MONTH as usize;
 
 type Row = (&'static str, fn(&Wake) -> bool);
 
@@ -153,20 +46,31 @@ const WAKES: [Row; 18] = [
     ("of 64 units in one wake", |wake| {
         wake.repeated_units() == 64
     }),
-    ("of one hour in a full book", |wake| {
-        wake.is_of_many_hours_alone() && wake.repeats() + 1 == wake.moved
+    ("of one alone in a full book", |wake| {
+        wake.is_alone_and_of_more_than(MANY_HOURS) && wake.repeats() + 1 == wake.moved
     }),
-    ("none in a full book of hours", |wake| {
-        wake.is_of_many_hours_alone() && wake.repeats() == 0
+    ("none, as many as there can be", |wake| {
+        let many = match wake.kind {
+            Kind::Hours => MANY_HOURS,
+            Kind::Anodes => MOST_ANODES - 1,
+        };
+        wake.is_alone_and_of_more_than(many) && wake.repeats() == 0
     }),
 ];
 
-#[derive(Default)]
 pub struct WakeCounts {
+    kind: Kind,
     wakes: [u64; WAKES.len()],
 }
 
 impl WakeCounts {
+    pub fn new(kind: Kind) -> WakeCounts {
+        WakeCounts {
+            kind,
+            wakes: [0; WAKES.len()],
+        }
+    }
+
     /// Counts a call that is a wake, before what it made is the latest.
     pub fn count(&mut self, question: &Question, answer: &Answer, latest: Option<&Made>) {
         if question.call == Call::Wake as u8 && answer.head[0] == 0 {
@@ -179,19 +83,23 @@ impl WakeCounts {
         let has_more_aside = answer.output[4..8] != question.checkpoint[4..8];
         let is_edited = latest.is_some_and(|made| made.book != question.book);
         // Nothing is to be seen in most wakes.
-        if !has_more_aside && !is_edited && moved <= MANY {
+        if !has_more_aside && !is_edited && moved < MOST_ANODES {
             return;
         }
         let book = Book::read(question.book).expect("the wake was made");
-        let wake = Wake::of(question, latest, &book, moved);
+        let wake = Wake::of(self.kind, question, latest, &book, moved);
         for (count, (_, is_so)) in self.wakes.iter_mut().zip(WAKES) {
             *count += u64::from(is_so(&wake));
         }
     }
 
-    pub fn rows(&self) -> Rows {
+    pub fn rows(&self) -> (&'static str, Rows) {
+        let subject = match self.kind {
+            Kind::Hours => "repeats",
+            Kind::Anodes => "repeated anodes",
+        };
         let names = WAKES.iter().map(|(name, _)| name.to_string());
-        names.zip(self.wakes).collect()
+        (subject, names.zip(self.wakes).collect())
     }
 }
 
@@ -204,7 +112,10 @@ mod tests {
     const KEYS: [repeats::Key; 5] = [(1, 1), (1, 2), (1, 1), (1, 2), (1, 2)];
 
     fn book(keys: &[repeats::Key]) -> Vec<u8> {
-        repeats::book(&repeats::units_of(&KEYS), &repeats::judged(keys))
+        repeats::book(
+            &repeats::units_of(&KEYS),
+            &repeats::judged(Kind::Hours, keys),
+        )
     }
 
     /// The names of what is counted in a wake of this budget after one of another.
@@ -231,7 +142,7 @@ mod tests {
             book,
             checkpoint: &middle,
         };
-        let mut counts = WakeCounts::default();
+        let mut counts = WakeCounts::new(Kind::Hours);
         counts.count(&question, &last, Some(&made));
         let names = WAKES.iter().map(|(name, _)| *name).zip(counts.wakes);
         let counted = names.filter(|(_, count)| *count > 0);

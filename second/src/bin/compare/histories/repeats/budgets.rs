@@ -2,35 +2,47 @@
 //! their start, their middle and near their end.
 
 use super::book;
-use crate::draft::{LAST_HOUR, LINE, LONGEST_BOOK};
+use crate::draft::{LAST_HOUR, LAST_MONTH, LINE, LONGEST_BOOK};
 use crate::exchange::{Exchange, Outcome};
 use crate::job::{self, CHECKPOINT};
 use crate::random::Random;
-use crate::repeats::{self, hour_of, monitored, Judged, Key, COUNTED};
+use crate::repeats::{self, monitored, Judged, Key, Kind, COUNTED};
 
 const BUDGETS: [u32; 8] = [1, 2, 3, 4, 5, 10, 100, u32::MAX];
 const BOOKS: usize = 40;
 /// So many wakes of a budget from each place of a full book.
 const WAKES: usize = 6;
 
-/// The hour at a place of a full book of so many records.
-type Filling = (&'static str, u16, fn(u16, u16) -> Key);
+/// The record at a place of a full book of so many.
+type Filling = (&'static str, u16, fn(u16, u16) -> (Kind, Key));
 
-const FILLINGS: [Filling; 4] = [
-    ("none repeated", 1, |place, _| (1, 1 + place)),
+const FILLINGS: [Filling; 5] = [
+    ("none repeated", 1, |place, _| hour(1, 1 + place)),
     ("the second half as the first", 64, |place, count| {
         let place = place % (count / 2);
-        (1 + place % 64, 1 + place / 64)
+        hour(1 + place % 64, 1 + place / 64)
     }),
     (
         "the second half as the first from its end",
         1,
-        |place, count| (1, 1 + place.min(count - 1 - place)),
+        |place, count| hour(1, 1 + place.min(count - 1 - place)),
     ),
     ("each hour at once again", 2, |place, _| {
-        (1 + place / 2 % 2, LAST_HOUR - place / 2)
+        hour(1 + place / 2 % 2, LAST_HOUR - place / 2)
     }),
+    (
+        "every month's anodes of 64 units between hours, then again",
+        64,
+        |place, _| match (place % 2, 1 + place / 2 % 64, 1 + place / 128) {
+            (0, unit, month) => (Kind::Anodes, (unit, 1 + (month - 1) % LAST_MONTH)),
+            (_, unit, number) => hour(unit, number),
+        },
+    ),
 ];
+
+fn hour(unit: u16, number: u16) -> (Kind, Key) {
+    (Kind::Hours, (unit, number))
+}
 
 pub fn small_books(exchange: &mut Exchange, rng: &mut Random) -> Outcome<()> {
     exchange.case("repeats, wakes of one budget over small books");
@@ -43,10 +55,13 @@ pub fn small_books(exchange: &mut Exchange, rng: &mut Random) -> Outcome<()> {
 }
 
 pub fn full_books(exchange: &mut Exchange, rng: &mut Random) -> Outcome<()> {
-    for (name, units, hour) in FILLINGS {
+    for (name, units, filling) in FILLINGS {
         exchange.case(format!("wakes of one budget over a full book, {name}"));
         let count = (LONGEST_BOOK / LINE) as u16 - 1 - units;
-        let record = |place| -> Judged { (hour_of(hour(place, count)), COUNTED) };
+        let record = |place| -> Judged {
+            let (kind, key) = filling(place, count);
+            (kind.record(key), COUNTED)
+        };
         let records: Vec<Judged> = (0..count).map(record).collect();
         let book = repeats::book(&monitored(1..=units), &records);
         let places = [0, count / 2, count - 60].map(u32::from);

@@ -8,43 +8,63 @@ use crate::exchange::{Exchange, Outcome};
 use crate::expectation::{withheld, Expectation, Field};
 use crate::job::{self, CHECKPOINT};
 use crate::random::Random;
-use crate::repeats::{self, hour_of, monitored, Judged, Key, COUNTED, KG_PER_HOUR, REPEATED};
+use crate::repeats::{self, monitored, Judged, Key, Kind, COUNTED, KINDS, REPEATED};
 
 const UNSOUND: u64 = 31;
 const REASONS: std::ops::RangeInclusive<u8> = 1..=8;
 
 const WITHOUT_MONITOR: u16 = 3;
 
-/// Each hour with its reason.
-const HOURS: [(Key, u64); 9] = [
+/// Each record with its reason, but for those of the unit without a monitor.
+const RECORDS: [(Key, u64); 9] = [
     ((1, 1), COUNTED),
     ((1, 2), COUNTED),
     ((1, 1), REPEATED),
     ((2, 2), COUNTED),
     ((1, 2), REPEATED),
     ((1, 1), REPEATED),
-    ((WITHOUT_MONITOR, 1), 5),
-    ((WITHOUT_MONITOR, 1), 5),
+    ((WITHOUT_MONITOR, 1), COUNTED),
+    ((WITHOUT_MONITOR, 1), REPEATED),
     ((2, 1), COUNTED),
 ];
 
-pub fn run(exchange: &mut Exchange, rng: &mut Random) -> Outcome<()> {
-    exchange.case("a place past the first of a pair that no wake came to");
-    let records = HOURS.map(|(key, reason)| (hour_of(key), reason));
+fn judged(kind: Kind) -> [Judged; RECORDS.len()] {
+    RECORDS.map(|(key, reason)| match (kind, key) {
+        (Kind::Hours, (WITHOUT_MONITOR, _)) => (kind.record(key), 5),
+        _ => (kind.record(key), reason),
+    })
+}
+
+fn book(kind: Kind) -> Vec<u8> {
     let mut units = monitored([1, 2]);
     units.push(unit(WITHOUT_MONITOR, false, 2_500));
-    let book = repeats::book(&units, &records);
-    let junk = rng.junk(CHECKPOINT);
-    let start = job::fresh(exchange, &book, &junk)?.output.clone();
-    for place in 0..=records.len() {
-        let mut checkpoint = start.clone();
-        checkpoint[0] = place as u8;
-        gone_on(exchange, &book, &checkpoint, told_from(&records, place))?;
+    repeats::book(&units, &judged(kind))
+}
+
+pub fn run(exchange: &mut Exchange, rng: &mut Random) -> Outcome<()> {
+    for kind in KINDS {
+        let name = kind.name();
+        exchange.case(format!(
+            "{name}, a place past the first of a pair that no wake came to"
+        ));
+        let book = book(kind);
+        let start = job::fresh(exchange, &book, &rng.junk(CHECKPOINT))?;
+        for place in 0..=RECORDS.len() {
+            let mut checkpoint = start.output.clone();
+            checkpoint[0] = place as u8;
+            gone_on(exchange, &book, &checkpoint, told_from(kind, place))?;
+        }
     }
+    every_reason(exchange, rng)
+}
+
+fn every_reason(exchange: &mut Exchange, rng: &mut Random) -> Outcome<()> {
     exchange.case("checkpoints that name every reason from 0 to 255");
-    for place in [1, 3, records.len()] {
+    let book = book(Kind::Hours);
+    let start = job::fresh(exchange, &book, &rng.junk(CHECKPOINT))?;
+    for place in [1, 3, RECORDS.len()] {
         for reason in 0..=u8::MAX {
-            let mut checkpoint = start.clone();
+            let mut checkpoint = start.output.clone();
             put(&mut checkpoint, 0, &[place as u8, 0, 0, 0, 1]);
             checkpoint[12] = reason;
             let told = match REASONS.contains(&reason) {
@@ -58,7 +78,8 @@ pub fn run(exchange: &mut Exchange, rng: &mut Random) -> Outcome<()> {
 }
 
 /// The report where none was set aside before a place and nothing added.
-fn told_from(records: &[Judged], place: usize) -> Vec<Expectation> {
+fn told_from(kind: Kind, place: usize) -> Vec<Expectation> {
+    let records = judged(kind);
     let reasons = || records.iter().map(|(_, reason)| *reason).skip(place);
     let first = (place as u64..)
         .zip(reasons())
@@ -67,7 +88,7 @@ fn told_from(records: &[Judged], place: usize) -> Vec<Expectation> {
         Some((index, reason)) => withheld(index, reason),
         None => vec![
             Field::Number.is(0),
-            Field::FossilKg.is(KG_PER_HOUR * reasons().count() as u64),
+            Field::FossilKg.is(kind.kilograms() * reasons().count() as u64),
         ],
     }
 }

@@ -1,37 +1,43 @@
-//! What is answered where an hour is repeated.
+//! What is answered where an hour, or anodes, are repeated.
 
 use second::answer::{answer, Answer, Call, Frame};
 use second::record::{judge, Addition, Co2Ledger, Judged, Reason};
 
-use super::{is_hour, judging_places};
+use super::judging_places;
 use crate::draft::{put, MOISTURE_PLACE};
+use crate::repeats::Kind;
 
-/// Hours that stand in an earlier record, judged wrongly from what they are by
+/// Records of a kind that stand in an earlier one, judged wrongly from what they are by
 /// themselves.
-fn of_repeats(frame: &Frame, wrong: impl Fn(Judged, &[u8]) -> Judged) -> Answer {
+pub(super) fn of_repeats(frame: &Frame, kind: Kind, wrong: impl Fn(Judged) -> Judged) -> Answer {
     judging_places(frame, |place| {
         let judged = judge(place.book, place.line());
-        match is_hour(place.line()) && place.is_among(place.earlier()) {
-            true => wrong(judged, place.line()),
-            false => judged,
+        match (place.is_among(place.earlier()), place.is_of(kind)) {
+            (true, true) => wrong(judged),
+            (true, false) => judged.and(Err(Reason::Repeated)),
+            (false, _) => judged,
         }
     })
 }
 
 /// Reason 8 before these.
-fn asking_before(frame: &Frame, reasons: &[Reason]) -> Answer {
-    of_repeats(frame, |judged, _| match judged {
+pub(super) fn asking_before(frame: &Frame, kind: Kind, reasons: &[Reason]) -> Answer {
+    of_repeats(frame, kind, |judged| match judged {
         Err(reason) if !reasons.contains(&reason) => Err(reason),
         _ => Err(Reason::Repeated),
     })
 }
 
 pub fn asks_for_repeats_before_the_monitor(frame: &Frame) -> Answer {
-    asking_before(frame, &[Reason::HourWithoutMonitor])
+    asking_before(frame, Kind::Hours, &[Reason::HourWithoutMonitor])
 }
 
 pub fn asks_for_repeats_before_the_range(frame: &Frame) -> Answer {
-    asking_before(frame, &[Reason::OutOfRange, Reason::HourWithoutMonitor])
+    asking_before(
+        frame,
+        Kind::Hours,
+        &[Reason::OutOfRange, Reason::HourWithoutMonitor],
+    )
 }
 
 pub fn asks_for_repeats_before_the_unit(frame: &Frame) -> Answer {
@@ -40,7 +46,7 @@ pub fn asks_for_repeats_before_the_unit(frame: &Frame) -> Answer {
         Reason::OutOfRange,
         Reason::HourWithoutMonitor,
     ];
-    asking_before(frame, &later)
+    asking_before(frame, Kind::Hours, &later)
 }
 
 pub fn asks_for_repeats_before_the_form(frame: &Frame) -> Answer {
@@ -50,7 +56,7 @@ pub fn asks_for_repeats_before_the_form(frame: &Frame) -> Answer {
         Reason::OutOfRange,
         Reason::HourWithoutMonitor,
     ];
-    asking_before(frame, &later)
+    asking_before(frame, Kind::Hours, &later)
 }
 
 /// Where the form is right but for the moisture, whose reason is 1 too.
@@ -58,7 +64,7 @@ pub fn asks_for_repeats_before_moisture_on_a_wet_unit(frame: &Frame) -> Answer {
     judging_places(frame, |place| {
         let mut without = place.line().to_vec();
         put(&mut without, MOISTURE_PLACE, &[0, 0]);
-        let is_repeated = is_hour(place.line()) && place.is_among(place.earlier());
+        let is_repeated = place.is_among(place.earlier());
         match (judge(place.book, place.line()), judge(place.book, &without)) {
             (judged, Err(Reason::Form)) => judged,
             (Err(Reason::Form) | Ok(_), _) if is_repeated => Err(Reason::Repeated),
@@ -68,12 +74,14 @@ pub fn asks_for_repeats_before_moisture_on_a_wet_unit(frame: &Frame) -> Answer {
 }
 
 pub fn takes_a_repeat_for_out_of_range(frame: &Frame) -> Answer {
-    of_repeats(frame, |judged, _| judged.and(Err(Reason::OutOfRange)))
+    of_repeats(frame, Kind::Hours, |judged| {
+        judged.and(Err(Reason::OutOfRange))
+    })
 }
 
 /// It adds nothing, and isn't set aside either.
 pub fn lets_a_repeat_count_for_nothing(frame: &Frame) -> Answer {
-    of_repeats(frame, |judged, _| {
+    of_repeats(frame, Kind::Hours, |judged| {
         judged.map(|addition| Addition {
             ledger: Co2Ledger::None,
             co2_ug: 0,

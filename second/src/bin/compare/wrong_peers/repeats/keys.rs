@@ -1,18 +1,27 @@
-//! What of an hour is held against those before it.
+//! What of a record is held against those before it.
 
 use second::answer::{Answer, Frame};
 use second::bytes::u16_at;
 
-use super::{is_hour, key, repeating};
+use super::{is_of, key, repeating};
 use crate::draft::MOISTURE_PLACE;
+use crate::repeats::Kind;
 
-/// Hours told apart by something else than their unit and number.
-fn keyed<K: PartialEq>(frame: &Frame, wrong: impl Fn(&[u8]) -> K) -> Answer {
-    repeating(frame, |place| {
+/// Records of a kind told apart by something else than their unit and number.
+pub(super) fn keyed_of<K: PartialEq>(
+    frame: &Frame,
+    kind: Kind,
+    wrong: impl Fn(&[u8]) -> K,
+) -> Answer {
+    repeating(frame, kind, |place| {
         let own = wrong(place.line());
-        let mut hours = place.earlier().iter().filter(|line| is_hour(line));
-        hours.any(|line| wrong(line) == own)
+        let mut of_kind = place.earlier().iter().filter(|line| is_of(line, kind));
+        of_kind.any(|line| wrong(line) == own)
     })
+}
+
+fn keyed<K: PartialEq>(frame: &Frame, wrong: impl Fn(&[u8]) -> K) -> Answer {
+    keyed_of(frame, Kind::Hours, wrong)
 }
 
 pub fn overlooks_the_unit_of_a_repeat(frame: &Frame) -> Answer {
