@@ -1,6 +1,6 @@
 //! Group 2: books at every edge that the requirements draw, and random ones.
 
-mod anodes;
+pub mod anodes;
 mod decisions;
 mod every_call;
 mod limits;
@@ -8,11 +8,9 @@ mod low_heat;
 mod methods;
 mod moisture;
 mod readings;
-mod repeats;
+pub mod repeats;
 mod sizes;
 mod warming;
-
-pub use repeats::full_books;
 
 use crate::exchange::{Exchange, Outcome};
 use crate::random::Random;
@@ -29,6 +27,6 @@ pub fn run(exchange: &mut Exchange, rng: &mut Random) -> Outcome<()> {
     warming::run(exchange, rng)?;
     readings::run(exchange, rng)?;
     sizes::run(exchange, rng)?;
-    full_books(exchange, rng)?;
+    repeats::full_books(exchange, rng)?;
     random_books::run(exchange, rng)
 }

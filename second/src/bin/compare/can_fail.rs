@@ -14,7 +14,7 @@ use second::replay::serve;
 
 use crate::link::Connection;
 use crate::run::{Run, Settings};
-use crate::{books, counts, histories, run_group, Group, GROUPS};
+use crate::{books, counts, damage, histories, run_group, Group, GROUPS};
 
 type Peer = fn(&Frame) -> Answer;
 
@@ -47,10 +47,16 @@ fn new_run() -> Run {
     })
 }
 
-/// Parts of groups, for peers that fail late in them and in nothing else.
-const PARTS: [(&str, Group); 2] = [
-    ("full books", books::full_books),
-    ("wakes over full books", histories::full_books),
+/// Parts of groups, for peers that nothing else in the group could catch, or not as
+/// soon.
+const PARTS: [(&str, Group); 7] = [
+    ("books of anodes", books::anodes::run),
+    ("books of repeats", books::repeats::run),
+    ("full books", books::repeats::full_books),
+    ("damaged hours", damage::repeats::hours),
+    ("damaged anodes", damage::repeats::anodes),
+    ("wakes over repeats", histories::repeats::run),
+    ("wakes over full books", histories::repeats::full_books),
 ];
 
 /// Those of these groups in which a peer fails. One that it passes runs to its end and
@@ -61,6 +67,8 @@ fn caught_by(answering: Peer, names: &[&str]) -> Vec<&'static str> {
         let mut run = new_run();
         run.settings.most_failures = 1;
         run.settings.keeps_counts = false;
+        // What is sent ahead of the first wrong answer is work for nothing.
+        run.settings.most_bytes_under_way = 1 << 15;
         run_group(&mut run, name, group, peer(answering));
         (run.failed > 0).then_some(name)
     };
@@ -81,7 +89,8 @@ fn the_right_peer_passes_every_group_and_every_count() {
     assert!(run.passed > 200);
 }
 
-/// `replay` doesn't know call 5, so it isn't asked unless that is wanted.
+/// `replay` doesn't know call 5, so it isn't asked unless that is wanted, and no count
+/// of it is missed then.
 #[test]
 fn a_peer_without_the_records_left_passes_where_they_are_not_asked() {
     let mut run = new_run();
@@ -90,11 +99,18 @@ fn a_peer_without_the_records_left_passes_where_they_are_not_asked() {
         assert_ne!(frame.call, Call::Left);
         answer(frame)
     };
-    for (name, group) in GROUPS {
-        run_group(&mut run, name, group, peer(knows_four));
-    }
-    counts::tell(&mut run);
+    let (name, group) = GROUPS[0];
+    run_group(&mut run, name, group, peer(knows_four));
     assert_eq!(run.failed, 0);
+    let subjects = |asks_left| {
+        run.counts
+            .table(asks_left)
+            .into_iter()
+            .map(|(name, _)| name)
+    };
+    let of_left = "records left, number";
+    assert!(subjects(true).any(|name| name == of_left));
+    assert!(!subjects(false).any(|name| name == of_left));
 }
 
 #[test]

@@ -172,7 +172,7 @@ impl Counts {
     }
 
     /// What is told apart, and for each part its name and count.
-    fn table(&self, asks_left: bool) -> Vec<(&'static str, Rows)> {
+    pub fn table(&self, asks_left: bool) -> Vec<(&'static str, Rows)> {
         let named = |names: &[&str], counts: &[u64]| -> Rows {
             let names = names.iter().map(|name| name.to_string());
             names.zip(counts.iter().copied()).collect()

@@ -2,7 +2,7 @@
 //! its run, every length, and random damage of several bytes.
 
 mod edits;
-mod repeats;
+pub mod repeats;
 
 use crate::draft::{Draft, LINE};
 use crate::exchange::{Exchange, Outcome};
@@ -53,7 +53,8 @@ pub fn run(exchange: &mut Exchange, rng: &mut Random) -> Outcome<()> {
     single_bytes_of_line(exchange, rng, &whole, HOUR_WITH_MOISTURE)?;
     exchange.case("every value of every byte of a fuel record with a low heat value");
     single_bytes_of_line(exchange, rng, &with_low_heat, 0)?;
-    repeats::run(exchange, rng)?;
+    repeats::hours(exchange, rng)?;
+    repeats::anodes(exchange, rng)?;
     let lines = 0..whole.book.len() / LINE;
     for line in lines.filter(|&line| line != HOUR_WITH_MOISTURE) {
         exchange.case(format!(

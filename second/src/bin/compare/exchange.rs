@@ -13,9 +13,6 @@ use crate::expectation::Expectation;
 use crate::link::{Connection, Link, Trouble};
 use crate::run::Run;
 
-/// Bytes that may be under way before an answer is waited for.
-const MOST_BYTES_UNDER_WAY: usize = 4 << 20;
-
 /// The group goes no further; why has been told.
 #[derive(Debug)]
 pub struct Stopped;
@@ -106,7 +103,7 @@ impl<'a> Exchange<'a> {
         });
         self.frames += 1;
         self.current_case().asked += 1;
-        while self.bytes_under_way > MOST_BYTES_UNDER_WAY {
+        while self.bytes_under_way > self.run.settings.most_bytes_under_way {
             self.settle_one()?;
         }
         Ok(answer)

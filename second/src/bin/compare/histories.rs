@@ -4,10 +4,8 @@ mod breakages;
 mod changed_set;
 mod dry_units;
 mod made_up;
-mod repeats;
+pub mod repeats;
 mod smallest;
-
-pub use repeats::full_books;
 
 use std::collections::BTreeMap;
 
@@ -45,7 +43,7 @@ pub fn run(exchange: &mut Exchange, rng: &mut Random) -> Outcome<()> {
     }
     made_up::run(exchange, rng)?;
     changed_set::run(exchange, rng)?;
-    full_books(exchange, rng)
+    repeats::full_books(exchange, rng)
 }
 
 fn budget(rng: &mut Random) -> u32 {

@@ -18,6 +18,8 @@ pub struct Settings {
     pub patience: Duration,
     /// A group goes no further after so many.
     pub most_failures: u32,
+    /// Bytes that may be under way before an answer is waited for.
+    pub most_bytes_under_way: usize,
     /// What was compared is counted; a run that is to fail needs no counts.
     pub keeps_counts: bool,
     pub failures_folder: PathBuf,
@@ -31,6 +33,7 @@ impl Default for Settings {
             asks_left: false,
             patience: Duration::from_secs(60),
             most_failures: 10,
+            most_bytes_under_way: 4 << 20,
             keeps_counts: true,
             failures_folder: PathBuf::from("target/second-failures"),
         }

@@ -94,45 +94,45 @@ const SET_ASIDE: [Row; 25] = [
     }),
     ("4, month 65,535", |asked| is_month(asked, u16::MAX)),
     ("4, metal 100,000,001", |asked| {
-        is_for(asked, 4, METAL) && metal(asked) == 100_000_001
+        metal(asked) == 100_000_001 && is_for(asked, 4, METAL)
     }),
     ("4, metal 4,294,967,295", |asked| {
-        is_for(asked, 4, METAL) && metal(asked) == u32::MAX
+        metal(asked) == u32::MAX && is_for(asked, 4, METAL)
     }),
     ("4, use 1,001", |asked| {
-        is_for(asked, 4, USE) && net_use(asked) == 1_001
+        net_use(asked) == 1_001 && is_for(asked, 4, USE)
     }),
     ("4, use 65,536", |asked| {
-        is_for(asked, 4, USE) && net_use(asked) == 65_536
+        net_use(asked) == 65_536 && is_for(asked, 4, USE)
     }),
     ("4, use 4,294,967,295", |asked| {
-        is_for(asked, 4, USE) && net_use(asked) == u32::MAX
+        net_use(asked) == u32::MAX && is_for(asked, 4, USE)
     }),
     ("4, sulphur 10,001", |asked| {
-        is_for(asked, 4, IMPURITIES) && parts(asked) == [10_001, 0, 0]
+        parts(asked) == [10_001, 0, 0] && is_for(asked, 4, IMPURITIES)
     }),
     ("4, ash 10,001", |asked| {
-        is_for(asked, 4, IMPURITIES) && parts(asked) == [0, 10_001, 0]
+        parts(asked) == [0, 10_001, 0] && is_for(asked, 4, IMPURITIES)
     }),
     ("4, others 10,001", |asked| {
-        is_for(asked, 4, IMPURITIES) && parts(asked) == [0, 0, 10_001]
+        parts(asked) == [0, 0, 10_001] && is_for(asked, 4, IMPURITIES)
     }),
     ("4, impurities 10,001 of three", |asked| {
-        is_for(asked, 4, IMPURITIES)
-            && sum(asked) == 10_001
+        sum(asked) == 10_001
             && parts(asked).iter().all(|&part| part < 10_000)
+            && is_for(asked, 4, IMPURITIES)
     }),
     ("4, impurities of 10,000 each", |asked| {
-        is_for(asked, 4, IMPURITIES) && parts(asked) == [10_000; 3]
+        parts(asked) == [10_000; 3] && is_for(asked, 4, IMPURITIES)
     }),
     ("4, impurities 65,536", |asked| {
-        is_for(asked, 4, IMPURITIES) && sum(asked) == 65_536
+        sum(asked) == 65_536 && is_for(asked, 4, IMPURITIES)
     }),
     ("4, impurities past 65,536 by up to 10,000", |asked| {
-        is_for(asked, 4, IMPURITIES) && (65_537..=75_536).contains(&sum(asked))
+        (65_537..=75_536).contains(&sum(asked)) && is_for(asked, 4, IMPURITIES)
     }),
     ("4, impurities of 65,535 each", |asked| {
-        is_for(asked, 4, IMPURITIES) && parts(asked) == [65_535; 3]
+        parts(asked) == [65_535; 3] && is_for(asked, 4, IMPURITIES)
     }),
 ];
 

@@ -17,35 +17,31 @@ const RANDOM_TIMES: usize = 1_000;
 struct Sample {
     name: &'static str,
     draft: fn() -> Draft,
-    /// A line of the book, and those of its bytes that are damaged.
-    lines: &'static [(&'static str, usize, Range<usize>)],
-    /// The records that are the same, or that damage makes so.
-    asked: &'static [u32],
+    /// A line of the book, those of its bytes that are damaged, and the records that
+    /// are the same as this one or its unit's, or that damage makes so.
+    lines: &'static [(&'static str, usize, Range<usize>, &'static [u32])],
 }
 
-const SAMPLES: [Sample; 2] = [
-    Sample {
-        name: "hours",
-        draft: small_book_with_repeats,
-        lines: &[
-            ("an hour that is repeated", 0, 0..LINE),
-            ("an hour that repeats another", 1, 0..LINE),
-            ("number and flags of their unit", 6, 0..3),
-        ],
-        asked: &[0, 1, 3],
-    },
-    Sample {
-        name: "anodes",
-        draft: small_book_with_anodes,
-        lines: &[
-            ("anodes that are repeated", 0, 0..LINE),
-            ("anodes that repeat others", 1, 0..LINE),
-            ("anodes of a wet unit, beside its hour", 2, 0..LINE),
-            ("number and flags of the anodes' unit", 5, 0..3),
-        ],
-        asked: &[0, 1, 2, 3, 4],
-    },
-];
+const HOURS: Sample = Sample {
+    name: "hours",
+    draft: small_book_with_repeats,
+    lines: &[
+        ("an hour that is repeated", 0, 0..LINE, &[0, 1, 3]),
+        ("an hour that repeats another", 1, 0..LINE, &[0, 1, 3]),
+        ("number and flags of their unit", 6, 0..3, &[0, 1, 3]),
+    ],
+};
+
+const ANODES: Sample = Sample {
+    name: "anodes",
+    draft: small_book_with_anodes,
+    lines: &[
+        ("anodes that are repeated", 0, 0..LINE, &[0, 1]),
+        ("anodes that repeat others", 1, 0..LINE, &[1, 3]),
+        ("anodes of a wet unit, beside its hour", 2, 0..LINE, &[2, 4]),
+        ("number and flags of the anodes' unit", 5, 0..3, &[0, 1, 3]),
+    ],
+};
 
 /// Records done and set aside, the first of these, and its reason.
 const PLACES_OF_COUNTS: Range<usize> = 0..16;
@@ -56,10 +52,12 @@ const EDITS: [(&str, Edit); 3] = [
     ("lines moved about, repeated", edits::move_lines),
 ];
 
-pub fn run(exchange: &mut Exchange, rng: &mut Random) -> Outcome<()> {
-    SAMPLES
-        .iter()
-        .try_for_each(|sample| damaged(exchange, rng, sample))
+pub fn hours(exchange: &mut Exchange, rng: &mut Random) -> Outcome<()> {
+    damaged(exchange, rng, &HOURS)
+}
+
+pub fn anodes(exchange: &mut Exchange, rng: &mut Random) -> Outcome<()> {
+    damaged(exchange, rng, &ANODES)
 }
 
 /// After the first wake, of one record, the next begins with a repeat.
@@ -68,11 +66,11 @@ fn damaged(exchange: &mut Exchange, rng: &mut Random, sample: &Sample) -> Outcom
     exchange.case(format!("the sound run, {name} repeated"));
     let sound = sound(exchange, (sample.draft)(), 1)?;
     damaged_book(exchange, rng, &sound.book, &sound)?;
-    for (name, line, bytes) in sample.lines {
+    for (name, line, bytes, asked) in sample.lines {
         exchange.case(format!("every value of every byte of {name}"));
         let places = LINE * line + bytes.start..LINE * line + bytes.end;
         single_bytes(&sound.book, places, |book| {
-            for index in sample.asked {
+            for index in *asked {
                 job::record(exchange, book, *index, Vec::new())?;
             }
             let junk = rng.junk(CHECKPOINT);

@@ -67,7 +67,7 @@ fn sorts(kind: Kind) -> &'static [Sort] {
     }
 }
 
-/// No month, so that an hour can't be taken for anodes, or one of them.
+/// An hour's is no month, so that its bytes make no anodes in range.
 fn number(kind: Kind) -> u16 {
     match kind {
         Kind::Hours => 4_000,

@@ -87,6 +87,9 @@ impl WakeCounts {
             return;
         }
         let book = Book::read(question.book).expect("the wake was made");
+        if !book.records().any(|line| line[0] == self.kind.byte_0()) {
+            return;
+        }
         let wake = Wake::of(self.kind, question, latest, &book, moved);
         for (count, (_, is_so)) in self.wakes.iter_mut().zip(WAKES) {
             *count += u64::from(is_so(&wake));

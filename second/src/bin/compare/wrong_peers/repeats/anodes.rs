@@ -80,7 +80,7 @@ pub fn holds_anodes_against_records_of_any_kind(frame: &Frame) -> Answer {
     of_kinds(frame, Kind::Anodes, |_| true)
 }
 
-/// As if anodes, like fuel, had a month that a unit may have twice.
+/// As if fuel of the month were the month's anodes.
 pub fn holds_anodes_against_fuel_of_the_month(frame: &Frame) -> Answer {
     of_kinds(frame, Kind::Anodes, |kind| [1, ANODES].contains(&kind))
 }
