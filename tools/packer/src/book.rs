@@ -6,6 +6,7 @@
 use std::ops::RangeInclusive;
 
 use crate::fuel::Fuel;
+use crate::record::Record;
 
 pub const LINE: usize = 32;
 pub const LENGTHS: RangeInclusive<usize> = LINE..=65_536;
@@ -45,36 +46,6 @@ pub struct Unit {
 pub enum Monitor {
     Wet,
     Dry,
-}
-
-/// A measured heat in kJ per unit of fuel, as the supplier quotes it.
-#[derive(Clone, Copy)]
-pub enum Heat {
-    High(u32),
-    /// Without the heat of the water vapour. That of natural gas counts 1.11 times.
-    Low(u32),
-}
-
-pub enum Record {
-    Delivery {
-        unit: u16,
-        fuel: u16,
-        month: u16,
-        amount: u32,
-        heat: Option<Heat>,
-        carbon: Option<u32>,
-    },
-    Hour {
-        unit: u16,
-        hour: u16,
-        /// The readings are kept as bits: a NaN that travels as a float may lose its payload.
-        percent: u32,
-        flow: u32,
-        /// Of the stack gas, in tenths of a percent. On a unit that isn't dry it must be 0.
-        moisture: u16,
-    },
-    /// A record that the words of the other two can't say.
-    Raw([u8; LINE]),
 }
 
 impl Warming {
@@ -165,22 +136,6 @@ impl Book {
             ));
         }
         Ok(())
-    }
-}
-
-impl Record {
-    pub fn unit(&self) -> Option<u16> {
-        match *self {
-            Record::Delivery { unit, .. } | Record::Hour { unit, .. } => Some(unit),
-            Record::Raw(_) => None,
-        }
-    }
-
-    pub fn fuel(&self) -> Option<u16> {
-        match *self {
-            Record::Delivery { fuel, .. } => Some(fuel),
-            Record::Hour { .. } | Record::Raw(_) => None,
-        }
     }
 }
 

@@ -3,9 +3,8 @@
 use std::fmt;
 
 use crate::book::{Book, LENGTHS, LINE};
-use crate::line::{
-    decode_fuel, decode_record, decode_unit, encode_fuel, encode_record, encode_unit, Line, Trailer,
-};
+use crate::line::{decode_fuel, decode_unit, encode_fuel, encode_unit, Line, Trailer};
+use crate::record_bytes::{decode_record, encode_record};
 
 /// Why bytes are no sound book: the library's number for it, and what is wrong where.
 #[derive(Debug, PartialEq)]

@@ -10,6 +10,8 @@ mod method;
 mod parse;
 mod ranges;
 mod reasons;
+mod record;
+mod record_bytes;
 mod repeats;
 mod single;
 mod verdict;

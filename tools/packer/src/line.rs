@@ -1,6 +1,7 @@
-//! The 32 bytes of one line, by the offsets of docs/FORMAT.md.
+//! The 32 bytes of a trailer, a unit line and a fuel line, by the offsets of docs/FORMAT.md, and what
+//! every line is read and written with.
 
-use crate::book::{Heat, Monitor, Record, Unit, Warming, LINE};
+use crate::book::{Monitor, Unit, Warming, LINE};
 use crate::fuel::{Class, Fuel, Kind};
 
 pub type Line = [u8; LINE];
@@ -9,11 +10,6 @@ const SIGNATURE: [u8; 4] = *b"STCB";
 const VERSION: u16 = 1;
 const HAS_MONITOR: u8 = 1;
 const MEASURES_DRY: u8 = 2;
-const DELIVERY: u8 = 1;
-const HOUR: u8 = 2;
-const HEAT_MEASURED: u8 = 1;
-const CARBON_MEASURED: u8 = 2;
-const HEAT_LOW: u8 = 4;
 
 pub struct Trailer {
     pub unit_start: u32,
@@ -120,143 +116,26 @@ pub fn decode_fuel(line: &Line) -> Result<Fuel, String> {
     }
 }
 
-pub fn encode_record(record: &Record) -> Line {
-    let mut line = [0; LINE];
-    match *record {
-        Record::Delivery {
-            unit,
-            fuel,
-            month,
-            amount,
-            heat,
-            carbon,
-        } => {
-            line[0] = DELIVERY;
-            let (heat_flags, heat) = encode_heat(heat);
-            line[1] = heat_flags | carbon.map_or(0, |_| CARBON_MEASURED);
-            put16(&mut line, 2, unit);
-            put16(&mut line, 4, fuel);
-            put16(&mut line, 6, month);
-            put32(&mut line, 8, amount);
-            put32(&mut line, 12, heat);
-            put32(&mut line, 16, carbon.unwrap_or(0));
-        }
-        Record::Hour {
-            unit,
-            hour,
-            percent,
-            flow,
-            moisture,
-        } => {
-            line[0] = HOUR;
-            put16(&mut line, 2, unit);
-            put16(&mut line, 6, hour);
-            put32(&mut line, 8, percent);
-            put32(&mut line, 12, flow);
-            put16(&mut line, 16, moisture);
-        }
-        Record::Raw(bytes) => line = bytes,
-    }
-    line
-}
-
-fn encode_heat(heat: Option<Heat>) -> (u8, u32) {
-    match heat {
-        None => (0, 0),
-        Some(Heat::High(value)) => (HEAT_MEASURED, value),
-        Some(Heat::Low(value)) => (HEAT_MEASURED | HEAT_LOW, value),
-    }
-}
-
-/// A record is said in words only if the words give back all of its bytes.
-pub fn decode_record(line: &Line) -> Record {
-    match in_words(line) {
-        Some(record) if encode_record(&record) == *line => record,
-        _ => Record::Raw(*line),
-    }
-}
-
-/// Gives unit and hour number of a record of an hour's kind, also of one that no words say.
-pub fn sent_hour(record: &Record) -> Option<(u16, u16)> {
-    let line = encode_record(record);
-    (line[0] == HOUR).then(|| (get16(&line, 2), get16(&line, 6)))
-}
-
-/// Says which byte of a line no words give back, if there is one.
-pub fn form_fault(line: &Line) -> Option<String> {
-    let kind = line[0];
-    let Some(record) = in_words(line) else {
-        return Some(format!(
-            "kind {kind} is neither {DELIVERY}, a delivery, nor {HOUR}, an hour"
-        ));
-    };
-    let at = first_difference(line, &encode_record(&record))?;
-    Some(match (kind, at) {
-        (DELIVERY, 1) if line[1] & !(HEAT_LOW | CARBON_MEASURED) == 0 => {
-            "it has the flag of a low heat without that of a measured one".to_string()
-        }
-        (DELIVERY, 12..=15) => "it has a heat without the flag for one".to_string(),
-        (DELIVERY, 16..=19) => "it has carbon without the flag for it".to_string(),
-        _ => must_be_zero(at),
-    })
-}
-
-fn in_words(line: &Line) -> Option<Record> {
-    match line[0] {
-        DELIVERY => Some(decode_delivery(line)),
-        HOUR => Some(decode_hour(line)),
-        _ => None,
-    }
-}
-
-fn decode_delivery(line: &Line) -> Record {
-    Record::Delivery {
-        unit: get16(line, 2),
-        fuel: get16(line, 4),
-        month: get16(line, 6),
-        amount: get32(line, 8),
-        heat: decode_heat(line),
-        carbon: (line[1] & CARBON_MEASURED != 0).then(|| get32(line, 16)),
-    }
-}
-
-fn decode_heat(line: &Line) -> Option<Heat> {
-    let value = get32(line, 12);
-    let is_low = line[1] & HEAT_LOW != 0;
-    let heat = if is_low { Heat::Low } else { Heat::High };
-    (line[1] & HEAT_MEASURED != 0).then(|| heat(value))
-}
-
-fn decode_hour(line: &Line) -> Record {
-    Record::Hour {
-        unit: get16(line, 2),
-        hour: get16(line, 6),
-        percent: get32(line, 8),
-        flow: get32(line, 12),
-        moisture: get16(line, 16),
-    }
-}
-
-fn first_difference(line: &Line, allowed: &Line) -> Option<usize> {
+pub fn first_difference(line: &Line, allowed: &Line) -> Option<usize> {
     (0..LINE).find(|&at| line[at] != allowed[at])
 }
 
-fn must_be_zero(at: usize) -> String {
+pub fn must_be_zero(at: usize) -> String {
     format!("byte {at} of the line has a bit that must be 0")
 }
 
-fn get16(line: &Line, at: usize) -> u16 {
+pub fn get16(line: &Line, at: usize) -> u16 {
     u16::from_le_bytes([line[at], line[at + 1]])
 }
 
-fn get32(line: &Line, at: usize) -> u32 {
+pub fn get32(line: &Line, at: usize) -> u32 {
     u32::from_le_bytes([line[at], line[at + 1], line[at + 2], line[at + 3]])
 }
 
-fn put16(line: &mut Line, at: usize, value: u16) {
+pub fn put16(line: &mut Line, at: usize, value: u16) {
     line[at..at + 2].copy_from_slice(&value.to_le_bytes());
 }
 
-fn put32(line: &mut Line, at: usize, value: u32) {
+pub fn put32(line: &mut Line, at: usize, value: u32) {
     line[at..at + 4].copy_from_slice(&value.to_le_bytes());
 }

@@ -1,25 +1,21 @@
 //! Why no method is permitted for a delivery: docs/RULES.md, "Method".
 
-use crate::book::{in_tenths, Heat, Unit};
+use crate::book::{in_tenths, Unit};
 use crate::fuel::{Class, Fuel};
 use crate::reasons::Account;
+use crate::record::Delivery;
 
 /// In tenths of MMBtu/h. Above, a default heat doesn't do, and a measured one not for every class.
 const HIGHEST_FOR_DEFAULT: u32 = 2500;
 
 /// Says why none is permitted. None if one is, for all that can be seen here.
-pub fn no_method(
-    unit: &Unit,
-    fuel: &Fuel,
-    heat: Option<Heat>,
-    carbon: Option<u32>,
-) -> Option<Account> {
-    if unit.monitor.is_some() || carbon.is_some() {
+pub fn no_method(delivery: &Delivery, unit: &Unit, fuel: &Fuel) -> Option<Account> {
+    if unit.monitor.is_some() || delivery.carbon.is_some() {
         return None;
     }
     let is_large = unit.rating > HIGHEST_FOR_DEFAULT;
     let by_heat = matches!(fuel.class, Class::NaturalGas | Class::DistillateOil);
-    match heat {
+    match delivery.heat {
         Some(_) if is_large && !by_heat => Some(heat_of_other_class(unit, fuel)),
         None if fuel.heat == 0 => Some(no_heat(unit, fuel, is_large, by_heat)),
         None if is_large => Some(default_heat(unit, by_heat)),

@@ -1,7 +1,8 @@
 //! A text for people, read into a book. The grammar stands in README.md beside this folder.
 
-use crate::book::{Book, Heat, Monitor, Record, Unit, Warming};
+use crate::book::{Book, Monitor, Unit, Warming, LINE};
 use crate::fuel::{Class, Fuel, Kind};
+use crate::record::{Delivery, Heat, Hour, Record};
 use crate::words::Words;
 
 /// What is wrong with a text, and at which of its lines, counting from 1.
@@ -69,9 +70,9 @@ fn add_line(first: &str, words: &mut Words, book: &mut Book) -> Result<(), Strin
     match first {
         "unit" => book.add_unit(parse_unit(words)?),
         "fuel" => book.add_fuel(parse_fuel(words)?),
-        "delivery" => book.add_record(parse_delivery(words)?),
-        "hour" => book.add_record(parse_hour(words)?),
-        "raw" => book.add_record(parse_raw(words)?),
+        "delivery" => book.add_record(Record::Delivery(parse_delivery(words)?)),
+        "hour" => book.add_record(Record::Hour(parse_hour(words)?)),
+        "raw" => book.add_record(Record::Raw(parse_raw(words)?)),
         _ => Err(format!(
             "no line starts with `{first}`; lines start with unit, fuel, delivery, hour or raw"
         )),
@@ -123,7 +124,7 @@ fn parse_fuel(words: &mut Words) -> Result<Fuel, String> {
     })
 }
 
-fn parse_delivery(words: &mut Words) -> Result<Record, String> {
+fn parse_delivery(words: &mut Words) -> Result<Delivery, String> {
     let unit = short_after(words, "unit")?;
     let fuel = short_after(words, "fuel")?;
     let month = short_after(words, "month")?;
@@ -131,7 +132,7 @@ fn parse_delivery(words: &mut Words) -> Result<Record, String> {
     let heat = heat_if_said(words)?;
     let carbon = number_if_said(words, "carbon")?;
     words.end()?;
-    Ok(Record::Delivery {
+    Ok(Delivery {
         unit,
         fuel,
         month,
@@ -148,7 +149,7 @@ fn heat_if_said(words: &mut Words) -> Result<Option<Heat>, String> {
     Ok(number_if_said(words, "heat")?.map(Heat::High))
 }
 
-fn parse_hour(words: &mut Words) -> Result<Record, String> {
+fn parse_hour(words: &mut Words) -> Result<Hour, String> {
     let unit = short_after(words, "unit")?;
     let hour = short_after(words, "hour")?;
     words.expect("percent")?;
@@ -161,7 +162,7 @@ fn parse_hour(words: &mut Words) -> Result<Record, String> {
         0
     };
     words.end()?;
-    Ok(Record::Hour {
+    Ok(Hour {
         unit,
         hour,
         percent,
@@ -170,10 +171,10 @@ fn parse_hour(words: &mut Words) -> Result<Record, String> {
     })
 }
 
-fn parse_raw(words: &mut Words) -> Result<Record, String> {
+fn parse_raw(words: &mut Words) -> Result<[u8; LINE], String> {
     let bytes = words.raw_bytes("raw")?;
     words.end()?;
-    Ok(Record::Raw(bytes))
+    Ok(bytes)
 }
 
 fn short_after(words: &mut Words, name: &str) -> Result<u16, String> {

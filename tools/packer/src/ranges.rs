@@ -3,8 +3,9 @@
 use std::fmt::Display;
 use std::ops::RangeInclusive;
 
-use crate::book::{in_tenths, Heat, Record};
+use crate::book::in_tenths;
 use crate::fuel::{Class, Fuel, Kind};
+use crate::record::{Delivery, Heat, Hour, Record};
 use crate::single;
 
 const MONTHS: RangeInclusive<u32> = 1..=12;
@@ -27,46 +28,41 @@ pub struct Beyond {
 
 /// Gives every such value. The fuel is the record's, if it is listed: a gas may have more carbon.
 pub fn beyond(record: &Record, fuel: Option<&Fuel>) -> Vec<Beyond> {
-    let found = match *record {
-        Record::Delivery {
-            month,
-            amount,
-            heat,
-            carbon,
-            ..
-        } => {
-            let is_gas = fuel.is_some_and(|fuel| fuel.kind == Kind::Gas);
-            let carbons = if is_gas { GAS_CARBONS } else { CARBONS };
-            vec![
-                number("month", month.into(), MONTHS),
-                number("amount", amount, AMOUNTS),
-                heat.and_then(measured),
-                carbon.and_then(|carbon| number("carbon", carbon, carbons)),
-            ]
-        }
-        Record::Hour {
-            hour,
-            percent,
-            flow,
-            moisture,
-            ..
-        } => vec![
-            number("hour", hour.into(), HOURS),
-            reading("percent", percent, MOST_PERCENT),
-            reading("flow", flow, MOST_FLOW),
-            tenths("moisture", moisture.into(), MOISTURES),
-        ],
+    let found = match record {
+        Record::Delivery(delivery) => of_delivery(delivery, fuel),
+        Record::Hour(hour) => of_hour(hour),
         Record::Raw(_) => Vec::new(),
     };
     found.into_iter().flatten().collect()
 }
 
+fn of_delivery(delivery: &Delivery, fuel: Option<&Fuel>) -> Vec<Option<Beyond>> {
+    let is_gas = fuel.is_some_and(|fuel| fuel.kind == Kind::Gas);
+    let carbons = if is_gas { GAS_CARBONS } else { CARBONS };
+    let carbon = delivery.carbon;
+    vec![
+        number("month", delivery.month.into(), MONTHS),
+        number("amount", delivery.amount, AMOUNTS),
+        delivery.heat.and_then(measured),
+        carbon.and_then(|carbon| number("carbon", carbon, carbons)),
+    ]
+}
+
+fn of_hour(hour: &Hour) -> Vec<Option<Beyond>> {
+    vec![
+        number("hour", hour.hour.into(), HOURS),
+        reading("percent", hour.percent, MOST_PERCENT),
+        reading("flow", hour.flow, MOST_FLOW),
+        tenths("moisture", hour.moisture.into(), MOISTURES),
+    ]
+}
+
 /// Says of a low heat that its fuel, if it is listed, may not have one.
 pub fn low_of_other_class(record: &Record, fuel: Option<&Fuel>) -> Option<String> {
-    let Record::Delivery {
+    let Record::Delivery(Delivery {
         heat: Some(Heat::Low(value)),
         ..
-    } = *record
+    }) = record
     else {
         return None;
     };

@@ -1,11 +1,12 @@
 //! The reasons of docs/RULES.md in words: why a record is set aside, and what to do. The number is
 //! given; beside its general words only that is said which the record and its book bear out.
 
-use crate::book::{in_tenths, Book, Monitor, Record, Unit};
+use crate::book::{in_tenths, Book, Monitor, Unit};
 use crate::fuel::Fuel;
-use crate::line::form_fault;
 use crate::method::no_method;
 use crate::ranges::{beyond, low_of_other_class};
+use crate::record::{Delivery, Hour, Record};
+use crate::record_bytes::form_fault;
 use crate::repeats::repeated;
 
 /// What is said of a record that is set aside.
@@ -102,10 +103,10 @@ fn form(record: &Record) -> Option<Account> {
 }
 
 fn moisture(record: &Record, unit: &Unit) -> Option<Account> {
-    let Record::Hour {
+    let Record::Hour(Hour {
         moisture: tenths @ 1..,
         ..
-    } = *record
+    }) = *record
     else {
         return None;
     };
@@ -167,7 +168,7 @@ fn range(record: &Record, fuel: Option<&Fuel>) -> Option<Account> {
 }
 
 fn monitor(record: &Record, unit: &Unit) -> Option<Account> {
-    let is_hour = matches!(record, Record::Hour { .. });
+    let is_hour = matches!(record, Record::Hour(_));
     let number = unit.number;
     (is_hour && unit.monitor.is_none()).then(|| Account {
         why: format!("unit {number} has none"),
@@ -176,14 +177,14 @@ fn monitor(record: &Record, unit: &Unit) -> Option<Account> {
 }
 
 fn method(record: &Record, unit: &Unit, fuel: &Fuel) -> Option<Account> {
-    let Record::Delivery { heat, carbon, .. } = *record else {
+    let Record::Delivery(delivery) = record else {
         return None;
     };
-    no_method(unit, fuel, heat, carbon)
+    no_method(delivery, unit, fuel)
 }
 
 fn heat(record: &Record, fuel: &Fuel) -> Option<Account> {
-    let is_measured = matches!(record, Record::Delivery { heat: Some(_), .. });
+    let is_measured = matches!(record, Record::Delivery(Delivery { heat: Some(_), .. }));
     let number = fuel.number;
     (!is_measured && fuel.heat == 0).then(|| Account {
         why: format!("no heat was measured, and fuel {number} has no default heat"),

@@ -1,8 +1,8 @@
 //! Which earlier record an hour repeats: docs/RULES.md, "Reasons", 8.
 
 use crate::book::Book;
-use crate::line::sent_hour;
 use crate::reasons::{general, Account};
+use crate::record_bytes::sent_hour;
 
 /// Names the first record of the same unit and hour, whatever became of it. None if no record
 /// before this one is of that hour.

@@ -1,7 +1,8 @@
 //! The canonical text of a book: the year, the units, the fuels, the records, a line each.
 
-use crate::book::{in_tenths, Book, Heat, Monitor, Record, Unit, Warming};
+use crate::book::{in_tenths, Book, Monitor, Unit, Warming};
 use crate::fuel::Fuel;
+use crate::record::{Delivery, Heat, Hour, Record};
 use crate::single;
 
 pub fn text(book: &Book) -> String {
@@ -51,33 +52,9 @@ fn fuel_line(fuel: &Fuel) -> String {
 }
 
 pub fn record_line(record: &Record) -> String {
-    match *record {
-        Record::Delivery {
-            unit,
-            fuel,
-            month,
-            amount,
-            heat,
-            carbon,
-        } => {
-            let heat = heat.map_or(String::new(), heat_words);
-            let carbon = carbon.map_or(String::new(), |carbon| format!(" carbon {carbon}"));
-            format!("delivery unit {unit} fuel {fuel} month {month} amount {amount}{heat}{carbon}")
-        }
-        Record::Hour {
-            unit,
-            hour,
-            percent,
-            flow,
-            moisture,
-        } => {
-            let (percent, flow) = (single::spell(percent), single::spell(flow));
-            let moisture = match moisture {
-                0 => String::new(),
-                tenths => format!(" moisture {}", in_tenths(tenths.into())),
-            };
-            format!("hour unit {unit} hour {hour} percent {percent} flow {flow}{moisture}")
-        }
+    match record {
+        Record::Delivery(delivery) => delivery_line(delivery),
+        Record::Hour(hour) => hour_line(hour),
         Record::Raw(bytes) => {
             let digits: String = bytes.iter().map(|byte| format!("{byte:02X}")).collect();
             format!("raw {digits}")
@@ -85,9 +62,33 @@ pub fn record_line(record: &Record) -> String {
     }
 }
 
+fn delivery_line(delivery: &Delivery) -> String {
+    let Delivery {
+        unit,
+        fuel,
+        month,
+        amount,
+        heat,
+        carbon,
+    } = delivery;
+    let heat = heat.map_or(String::new(), heat_words);
+    let carbon = carbon.map_or(String::new(), |carbon| format!(" carbon {carbon}"));
+    format!("delivery unit {unit} fuel {fuel} month {month} amount {amount}{heat}{carbon}")
+}
+
 fn heat_words(heat: Heat) -> String {
     match heat {
         Heat::High(value) => format!(" heat {value}"),
         Heat::Low(value) => format!(" low-heat {value}"),
     }
+}
+
+fn hour_line(sent: &Hour) -> String {
+    let (unit, hour) = (sent.unit, sent.hour);
+    let (percent, flow) = (single::spell(sent.percent), single::spell(sent.flow));
+    let moisture = match sent.moisture {
+        0 => String::new(),
+        tenths => format!(" moisture {}", in_tenths(tenths.into())),
+    };
+    format!("hour unit {unit} hour {hour} percent {percent} flow {flow}{moisture}")
 }

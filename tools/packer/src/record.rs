@@ -1,0 +1,54 @@
+//! What a record says, sound or not: judging it is the library's work.
+
+use crate::book::LINE;
+
+pub enum Record {
+    Delivery(Delivery),
+    Hour(Hour),
+    /// A record that the words of the others can't say.
+    Raw([u8; LINE]),
+}
+
+pub struct Delivery {
+    pub unit: u16,
+    pub fuel: u16,
+    pub month: u16,
+    pub amount: u32,
+    pub heat: Option<Heat>,
+    pub carbon: Option<u32>,
+}
+
+/// A measured heat in kJ per unit of fuel, as the supplier quotes it.
+#[derive(Clone, Copy)]
+pub enum Heat {
+    High(u32),
+    /// Without the heat of the water vapour. That of natural gas counts 1.11 times.
+    Low(u32),
+}
+
+pub struct Hour {
+    pub unit: u16,
+    pub hour: u16,
+    /// The readings are kept as bits: a NaN that travels as a float may lose its payload.
+    pub percent: u32,
+    pub flow: u32,
+    /// Of the stack gas, in tenths of a percent. On a unit that isn't dry it must be 0.
+    pub moisture: u16,
+}
+
+impl Record {
+    pub fn unit(&self) -> Option<u16> {
+        match self {
+            Record::Delivery(delivery) => Some(delivery.unit),
+            Record::Hour(hour) => Some(hour.unit),
+            Record::Raw(_) => None,
+        }
+    }
+
+    pub fn fuel(&self) -> Option<u16> {
+        match self {
+            Record::Delivery(delivery) => Some(delivery.fuel),
+            Record::Hour(_) | Record::Raw(_) => None,
+        }
+    }
+}

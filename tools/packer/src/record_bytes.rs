@@ -1,0 +1,121 @@
+//! The 32 bytes of a record, by the offsets of docs/FORMAT.md.
+
+use crate::book::LINE;
+use crate::line::{first_difference, get16, get32, must_be_zero, put16, put32, Line};
+use crate::record::{Delivery, Heat, Hour, Record};
+
+const DELIVERY: u8 = 1;
+const HOUR: u8 = 2;
+const HEAT_MEASURED: u8 = 1;
+const CARBON_MEASURED: u8 = 2;
+const HEAT_LOW: u8 = 4;
+
+pub fn encode_record(record: &Record) -> Line {
+    match record {
+        Record::Delivery(delivery) => encode_delivery(delivery),
+        Record::Hour(hour) => encode_hour(hour),
+        Record::Raw(line) => *line,
+    }
+}
+
+fn encode_delivery(delivery: &Delivery) -> Line {
+    let mut line = [0; LINE];
+    line[0] = DELIVERY;
+    let (heat_flags, heat) = encode_heat(delivery.heat);
+    line[1] = heat_flags | delivery.carbon.map_or(0, |_| CARBON_MEASURED);
+    put16(&mut line, 2, delivery.unit);
+    put16(&mut line, 4, delivery.fuel);
+    put16(&mut line, 6, delivery.month);
+    put32(&mut line, 8, delivery.amount);
+    put32(&mut line, 12, heat);
+    put32(&mut line, 16, delivery.carbon.unwrap_or(0));
+    line
+}
+
+fn encode_heat(heat: Option<Heat>) -> (u8, u32) {
+    match heat {
+        None => (0, 0),
+        Some(Heat::High(value)) => (HEAT_MEASURED, value),
+        Some(Heat::Low(value)) => (HEAT_MEASURED | HEAT_LOW, value),
+    }
+}
+
+fn encode_hour(hour: &Hour) -> Line {
+    let mut line = [0; LINE];
+    line[0] = HOUR;
+    put16(&mut line, 2, hour.unit);
+    put16(&mut line, 6, hour.hour);
+    put32(&mut line, 8, hour.percent);
+    put32(&mut line, 12, hour.flow);
+    put16(&mut line, 16, hour.moisture);
+    line
+}
+
+/// A record is said in words only if the words give back all of its bytes.
+pub fn decode_record(line: &Line) -> Record {
+    match in_words(line) {
+        Some(record) if encode_record(&record) == *line => record,
+        _ => Record::Raw(*line),
+    }
+}
+
+/// Gives unit and hour number of a record of an hour's kind, also of one that no words say.
+pub fn sent_hour(record: &Record) -> Option<(u16, u16)> {
+    let line = encode_record(record);
+    (line[0] == HOUR).then(|| (get16(&line, 2), get16(&line, 6)))
+}
+
+/// Says which byte of a line no words give back, if there is one.
+pub fn form_fault(line: &Line) -> Option<String> {
+    let kind = line[0];
+    let Some(record) = in_words(line) else {
+        return Some(format!(
+            "kind {kind} is neither {DELIVERY}, a delivery, nor {HOUR}, an hour"
+        ));
+    };
+    let at = first_difference(line, &encode_record(&record))?;
+    Some(match (kind, at) {
+        (DELIVERY, 1) if line[1] & !(HEAT_LOW | CARBON_MEASURED) == 0 => {
+            "it has the flag of a low heat without that of a measured one".to_string()
+        }
+        (DELIVERY, 12..=15) => "it has a heat without the flag for one".to_string(),
+        (DELIVERY, 16..=19) => "it has carbon without the flag for it".to_string(),
+        _ => must_be_zero(at),
+    })
+}
+
+fn in_words(line: &Line) -> Option<Record> {
+    match line[0] {
+        DELIVERY => Some(Record::Delivery(decode_delivery(line))),
+        HOUR => Some(Record::Hour(decode_hour(line))),
+        _ => None,
+    }
+}
+
+fn decode_delivery(line: &Line) -> Delivery {
+    Delivery {
+        unit: get16(line, 2),
+        fuel: get16(line, 4),
+        month: get16(line, 6),
+        amount: get32(line, 8),
+        heat: decode_heat(line),
+        carbon: (line[1] & CARBON_MEASURED != 0).then(|| get32(line, 16)),
+    }
+}
+
+fn decode_heat(line: &Line) -> Option<Heat> {
+    let value = get32(line, 12);
+    let is_low = line[1] & HEAT_LOW != 0;
+    let heat = if is_low { Heat::Low } else { Heat::High };
+    (line[1] & HEAT_MEASURED != 0).then(|| heat(value))
+}
+
+fn decode_hour(line: &Line) -> Hour {
+    Hour {
+        unit: get16(line, 2),
+        hour: get16(line, 6),
+        percent: get32(line, 8),
+        flow: get32(line, 12),
+        moisture: get16(line, 16),
+    }
+}
