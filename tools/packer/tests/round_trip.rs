@@ -16,6 +16,8 @@ mod program;
 mod random_books;
 #[path = "round_trip/random_lines.rs"]
 mod random_lines;
+#[path = "round_trip/random_records.rs"]
+mod random_records;
 #[path = "round_trip/refusals.rs"]
 mod refusals;
 

@@ -1,7 +1,8 @@
 //! Random sound books, as bytes, as canonical text and as a text that a person might write.
 
 use crate::dice::Dice;
-use crate::random_lines::{fuel, unit, Said, LINE, SORTS};
+use crate::random_lines::{fuel, unit, Said, LINE};
+use crate::random_records::SORTS;
 
 pub const LONGEST: usize = 65_536;
 /// Beside the trailer.

@@ -1,5 +1,6 @@
-//! Random lines of a book, each with the words that say it. Bytes and words are put together here
-//! from docs/FORMAT.md and README.md, so that the program is compared with something else.
+//! Random unit and fuel lines, each with the words that say it, and what random records are made
+//! with. Bytes and words are put together from docs/FORMAT.md and README.md, so that the program is
+//! compared with something else.
 
 use crate::dice::Dice;
 
@@ -13,42 +14,6 @@ pub struct Said {
     /// Other words for the same line.
     pub loosely: String,
 }
-
-/// Every sort of record that a book can hold; the last seven can't be said in words.
-pub const SORTS: [fn(&mut Dice) -> Said; 9] = [
-    delivery,
-    hour,
-    unknown_kind,
-    unknown_flags,
-    low_unmeasured,
-    heat_unflagged,
-    carbon_unflagged,
-    delivery_with_tail,
-    hour_with_stray_byte,
-];
-
-/// Bits and spellings, some of which stand at the borders of a rule.
-const READINGS: [(u32, &str); 19] = [
-    (0x0000_0000, "0"),
-    (0x8000_0000, "bits 80000000"),
-    (0x7F80_0000, "bits 7F800000"),
-    (0xFF80_0000, "bits FF800000"),
-    (0x7FC0_0000, "bits 7FC00000"),
-    (0x7F80_0001, "bits 7F800001"),
-    (0x0000_0001, "1e-45"),
-    (0x8000_0001, "-1e-45"),
-    (0x0080_0000, "1.1754944e-38"),
-    (0x7F7F_FFFF, "3.4028235e38"),
-    (0x3727_C5AC, "0.00001"),
-    (0x3727_C5AB, "9.999999e-6"),
-    (0x3DCC_CCCD, "0.1"),
-    (0x4148_0000, "12.5"),
-    (0x42C8_0001, "100.00001"),
-    (0xBF80_0000, "-1"),
-    (0x49F4_2400, "2000000"),
-    (0x4E6E_6B28, "1000000000"),
-    (0x5015_02F9, "1e10"),
-];
 
 pub fn unit(number: u16, dice: &mut Dice) -> Said {
     let rating = dice.within(1, 100_000);
@@ -66,7 +31,7 @@ pub fn unit(number: u16, dice: &mut Dice) -> Said {
 }
 
 /// Gives the spelling of tenths with one decimal, and another.
-fn spellings(tenths: u64) -> (String, String) {
+pub fn spellings(tenths: u64) -> (String, String) {
     let (whole, tenth) = (tenths / 10, tenths % 10);
     let loosely = match tenth {
         0 => format!("{whole}"),
@@ -108,131 +73,7 @@ pub fn fuel(number: u16, dice: &mut Dice) -> Said {
     }
 }
 
-fn delivery(dice: &mut Dice) -> Said {
-    let mut line = [0; LINE];
-    line[0] = 1;
-    let mut words = "delivery".to_string();
-    for (name, at) in [("unit", 2), ("fuel", 4), ("month", 6)] {
-        let value = dice.within(0, 65_535);
-        put(&mut line, at, 2, value);
-        words += &format!(" {name} {value}");
-    }
-    let amount = dice.within(0, u32::MAX.into());
-    put(&mut line, 8, 4, amount);
-    words += &format!(" amount {amount}");
-    let heat = dice.pick(&[("heat", 12, 1), ("low-heat", 12, 5)]);
-    for (name, at, flags) in [heat, ("carbon", 16, 2)] {
-        if dice.one_in(2) {
-            let value = dice.within(0, u32::MAX.into());
-            line[1] |= flags;
-            put(&mut line, at, 4, value);
-            words += &format!(" {name} {value}");
-        }
-    }
-    said(line, words)
-}
-
-fn hour(dice: &mut Dice) -> Said {
-    let unit = dice.within(0, 65_535);
-    let hour = dice.within(0, 65_535);
-    let (percent, percent_words) = reading(dice);
-    let (flow, flow_words) = reading(dice);
-    let mut line = [0; LINE];
-    line[0] = 2;
-    put(&mut line, 2, 2, unit);
-    put(&mut line, 6, 2, hour);
-    put(&mut line, 8, 4, percent.into());
-    put(&mut line, 12, 4, flow.into());
-    let moisture = moisture(dice);
-    put(&mut line, 16, 2, moisture);
-    let bare = format!("hour unit {unit} hour {hour} percent {percent_words} flow {flow_words}");
-    let (spelling, loosely) = spellings(moisture);
-    let words = match moisture {
-        0 => bare.clone(),
-        _ => format!("{bare} moisture {spelling}"),
-    };
-    let loosely = format!("{bare} moisture {loosely}");
-    Said {
-        line,
-        words,
-        loosely: dice.pick(&[&loosely, &raw(line).loosely]).clone(),
-    }
-}
-
-/// Gives none, some that a dry unit may have, too much, or what is in the high byte alone.
-fn moisture(dice: &mut Dice) -> u64 {
-    let sound = dice.within(1, 1_000);
-    let too_much = dice.within(1_001, 65_535);
-    dice.pick(&[0, sound, too_much, 256])
-}
-
-/// Quarters below 2^14 and whole numbers below 2^23 lie so far from their neighbours' decimals that
-/// all of their digits are needed, and so are known without asking for a shortest spelling.
-fn reading(dice: &mut Dice) -> (u32, String) {
-    let quarters = dice.below(1 << 16) as u32;
-    let fraction = ["", ".25", ".5", ".75"][quarters as usize % 4];
-    let whole = dice.below(1 << 23) as u32;
-    let nan = 0x7F80_0001 + dice.below(0x007F_FFFF) as u32;
-    let negative_nan = nan | 0x8000_0000;
-    let (bits, spelling) = dice.pick(&READINGS);
-    match dice.below(5) {
-        0 => (bits, spelling.to_string()),
-        1 => (nan, format!("bits {nan:08X}")),
-        2 => (negative_nan, format!("bits {negative_nan:08X}")),
-        3 => ((whole as f32).to_bits(), whole.to_string()),
-        _ => (
-            (quarters as f32 / 4.0).to_bits(),
-            format!("{}{fraction}", quarters / 4),
-        ),
-    }
-}
-
-fn unknown_kind(dice: &mut Dice) -> Said {
-    let mut line = std::array::from_fn(|_| dice.next() as u8);
-    line[0] = dice.pick(&[0, 3, 4, 128, 255]);
-    raw(line)
-}
-
-fn unknown_flags(dice: &mut Dice) -> Said {
-    let mut line = delivery(dice).line;
-    line[1] |= dice.pick(&[8, 16, 128]);
-    raw(line)
-}
-
-fn low_unmeasured(dice: &mut Dice) -> Said {
-    let mut line = delivery(dice).line;
-    line[1] = line[1] & 2 | 4;
-    raw(line)
-}
-
-fn heat_unflagged(dice: &mut Dice) -> Said {
-    let mut line = delivery(dice).line;
-    line[1] &= 2;
-    line[dice.pick(&[12, 13, 14, 15])] = 1 + dice.below(255) as u8;
-    raw(line)
-}
-
-fn carbon_unflagged(dice: &mut Dice) -> Said {
-    let mut line = delivery(dice).line;
-    line[1] &= 5;
-    line[dice.pick(&[16, 17, 18, 19])] = 1 + dice.below(255) as u8;
-    raw(line)
-}
-
-fn delivery_with_tail(dice: &mut Dice) -> Said {
-    let mut line = delivery(dice).line;
-    line[20 + dice.below(12) as usize] = 1 + dice.below(255) as u8;
-    raw(line)
-}
-
-fn hour_with_stray_byte(dice: &mut Dice) -> Said {
-    let mut line = hour(dice).line;
-    let tail = 18 + dice.below(14) as usize;
-    line[dice.pick(&[1, 4, 5, tail])] = 1 + dice.below(255) as u8;
-    raw(line)
-}
-
-fn said(line: [u8; LINE], words: String) -> Said {
+pub fn said(line: [u8; LINE], words: String) -> Said {
     let loosely = raw(line).loosely;
     Said {
         line,
@@ -241,7 +82,7 @@ fn said(line: [u8; LINE], words: String) -> Said {
     }
 }
 
-fn raw(line: [u8; LINE]) -> Said {
+pub fn raw(line: [u8; LINE]) -> Said {
     let digits: String = line.iter().map(|byte| format!("{byte:02X}")).collect();
     Said {
         line,
@@ -250,6 +91,6 @@ fn raw(line: [u8; LINE]) -> Said {
     }
 }
 
-fn put(line: &mut [u8; LINE], at: usize, size: usize, value: u64) {
+pub fn put(line: &mut [u8; LINE], at: usize, size: usize, value: u64) {
     line[at..at + size].copy_from_slice(&value.to_le_bytes()[..size]);
 }
