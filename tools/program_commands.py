@@ -213,8 +213,10 @@ delivery unit 1 fuel 1 month 13 amount 1000   # the year has 12
 hour unit 1 hour 1 percent 12.5 flow 2000000
 hour unit 2 hour 1 percent 12.5 flow 2000000
 hour unit 2 hour 1 percent 12.5 flow 2000000  # resent by the logger
+anodes unit 1 month 4 metal 1000000 use 420 sulphur 1.25 ash 0.40 other 0.00
+anodes unit 1 month 4 metal 1010000 use 418 sulphur 1.25 ash 0.40 other 0.00  # this was May
 """
-EXPLAINED = """north.book: 3 of 5 records are set aside
+EXPLAINED = """north.book: 4 of 7 records are set aside
 north.txt:6: record 1: delivery unit 1 fuel 1 month 13 amount 1000
   reason 4: a value is out of range: month 13 isn't from 1 to 12
   to do: correct the month
@@ -222,15 +224,18 @@ north.txt:7: record 2: hour unit 1 hour 1 percent 12.5 flow 2000000
   reason 5: an hour of a unit without a monitor: unit 1 has none
   to do: correct the hour's unit, or add `monitor` to unit 1
 north.txt:9: record 4: hour unit 2 hour 1 percent 12.5 flow 2000000
-  reason 8: the hour was sent before: record 3 at north.txt:8 has hour 1 of unit 2 too
+  reason 8: it repeats an earlier record: record 3 at north.txt:8 has hour 1 of unit 2 too
   to do: keep the right record of this hour and take the others out, or correct the unit or the hour
+north.txt:11: record 6: anodes unit 1 month 4 metal 1010000 use 418 sulphur 1.25 ash 0.40 other 0.00
+  reason 8: it repeats an earlier record: record 5 at north.txt:10 has anodes of unit 1 for month 4 too
+  to do: keep the right record of this month's anodes and take the others out, or correct the unit or the month
 """
 
 
 def try_explain(_, cases):
     """The reasons are those that the built `lines` tells."""
     command = ROOT / "tools/book"
-    with memory_folder() as folder, cases.case("tools/book explain: three records set aside"):
+    with memory_folder() as folder, cases.case("tools/book explain: four records set aside"):
         pathlib.Path(folder, "north.txt").write_text(MISTAKEN, encoding="utf-8")
         packed = run_command(command, "pack", "north.txt", "north.book", cwd=folder)
         expect(packed.status, WORKED, f"with {packed.err!r} on standard error, the packer's end")

@@ -176,3 +176,8 @@ fn check_count(what: &str, count: usize, most: usize) -> Result<(), String> {
 pub fn in_tenths(tenths: u32) -> String {
     format!("{}.{}", tenths / 10, tenths % 10)
 }
+
+/// Spells an impurity of anodes, which is kept in hundredths, with its two decimals.
+pub fn in_hundredths(hundredths: u32) -> String {
+    format!("{}.{:02}", hundredths / 100, hundredths % 100)
+}

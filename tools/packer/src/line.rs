@@ -1,5 +1,5 @@
-//! The 32 bytes of a trailer, a unit line and a fuel line, by the offsets of docs/FORMAT.md, and what
-//! every line is read and written with.
+//! The 32 bytes of a trailer, a unit line and a fuel line, by the offsets of docs/FORMAT.md, and
+//! what every line is read and written with.
 
 use crate::book::{Monitor, Unit, Warming, LINE};
 use crate::fuel::{Class, Fuel, Kind};

@@ -2,7 +2,7 @@
 
 use crate::book::{Book, Monitor, Unit, Warming, LINE};
 use crate::fuel::{Class, Fuel, Kind};
-use crate::record::{Delivery, Heat, Hour, Record};
+use crate::record::{Anodes, Delivery, Heat, Hour, Record};
 use crate::words::Words;
 
 /// What is wrong with a text, and at which of its lines, counting from 1.
@@ -72,9 +72,11 @@ fn add_line(first: &str, words: &mut Words, book: &mut Book) -> Result<(), Strin
         "fuel" => book.add_fuel(parse_fuel(words)?),
         "delivery" => book.add_record(Record::Delivery(parse_delivery(words)?)),
         "hour" => book.add_record(Record::Hour(parse_hour(words)?)),
+        "anodes" => book.add_record(Record::Anodes(parse_anodes(words)?)),
         "raw" => book.add_record(Record::Raw(parse_raw(words)?)),
         _ => Err(format!(
-            "no line starts with `{first}`; lines start with unit, fuel, delivery, hour or raw"
+            "no line starts with `{first}`; lines start with unit, fuel, delivery, hour, anodes or \
+             raw"
         )),
     }
 }
@@ -171,6 +173,26 @@ fn parse_hour(words: &mut Words) -> Result<Hour, String> {
     })
 }
 
+fn parse_anodes(words: &mut Words) -> Result<Anodes, String> {
+    let unit = short_after(words, "unit")?;
+    let month = short_after(words, "month")?;
+    let metal = number_after(words, "metal")?;
+    let net_use = number_after(words, "use")?;
+    let sulphur = hundredths_after(words, "sulphur")?;
+    let ash = hundredths_after(words, "ash")?;
+    let other = hundredths_after(words, "other")?;
+    words.end()?;
+    Ok(Anodes {
+        unit,
+        month,
+        metal,
+        net_use,
+        sulphur,
+        ash,
+        other,
+    })
+}
+
 fn parse_raw(words: &mut Words) -> Result<[u8; LINE], String> {
     let bytes = words.raw_bytes("raw")?;
     words.end()?;
@@ -185,6 +207,11 @@ fn short_after(words: &mut Words, name: &str) -> Result<u16, String> {
 fn number_after(words: &mut Words, name: &str) -> Result<u32, String> {
     words.expect(name)?;
     words.number32(name)
+}
+
+fn hundredths_after(words: &mut Words, name: &str) -> Result<u16, String> {
+    words.expect(name)?;
+    words.hundredths16(name)
 }
 
 fn number_if_said(words: &mut Words, name: &str) -> Result<Option<u32>, String> {

@@ -1,11 +1,13 @@
-//! Which values of a record are out of which range: docs/FORMAT.md, "Fuel record", "Monitor hour".
+//! Which values of a record are out of which range: docs/FORMAT.md, "Fuel record", "Monitor hour",
+//! "Anodes".
 
 use std::fmt::Display;
 use std::ops::RangeInclusive;
 
-use crate::book::in_tenths;
+use crate::book::{in_hundredths, in_tenths};
 use crate::fuel::{Class, Fuel, Kind};
-use crate::record::{Delivery, Heat, Hour, Record};
+use crate::reasons::Account;
+use crate::record::{Anodes, Delivery, Heat, Hour, Record};
 use crate::single;
 
 const MONTHS: RangeInclusive<u32> = 1..=12;
@@ -19,6 +21,10 @@ const MOST_PERCENT: u32 = 100;
 const MOST_FLOW: u32 = 1_000_000_000;
 /// In tenths of a percent.
 const MOISTURES: RangeInclusive<u32> = 0..=1_000;
+const METALS: RangeInclusive<u32> = 0..=100_000_000;
+const NET_USES: RangeInclusive<u32> = 0..=1_000;
+/// In hundredths of a percent, each and added up.
+const IMPURITIES: RangeInclusive<u32> = 0..=10_000;
 
 /// A value of a record that is out of its range.
 pub struct Beyond {
@@ -31,6 +37,7 @@ pub fn beyond(record: &Record, fuel: Option<&Fuel>) -> Vec<Beyond> {
     let found = match record {
         Record::Delivery(delivery) => of_delivery(delivery, fuel),
         Record::Hour(hour) => of_hour(hour),
+        Record::Anodes(anodes) => of_anodes(anodes),
         Record::Raw(_) => Vec::new(),
     };
     found.into_iter().flatten().collect()
@@ -57,8 +64,40 @@ fn of_hour(hour: &Hour) -> Vec<Option<Beyond>> {
     ]
 }
 
+fn of_anodes(anodes: &Anodes) -> Vec<Option<Beyond>> {
+    vec![
+        number("month", anodes.month.into(), MONTHS),
+        number("metal", anodes.metal, METALS),
+        number("use", anodes.net_use, NET_USES),
+        hundredths("sulphur", anodes.sulphur.into(), IMPURITIES),
+        hundredths("ash", anodes.ash.into(), IMPURITIES),
+        hundredths("other", anodes.other.into(), IMPURITIES),
+    ]
+}
+
+/// Says of impurities, each within its range, that they are more than all there is of the anodes.
+pub fn more_than_all(record: &Record) -> Option<Account> {
+    let Record::Anodes(anodes) = record else {
+        return None;
+    };
+    let impurities = [anodes.sulphur, anodes.ash, anodes.other].map(u32::from);
+    let (sum, all) = (impurities.iter().sum(), *IMPURITIES.end());
+    if sum <= all || impurities.iter().any(|impurity| *impurity > all) {
+        return None;
+    }
+    let [sulphur, ash, other] = impurities.map(in_hundredths);
+    Some(Account {
+        why: format!(
+            "sulphur {sulphur}, ash {ash} and other {other} add up to {}, more than {}",
+            in_hundredths(sum),
+            in_hundredths(all)
+        ),
+        remedy: "correct the sulphur, ash or other".to_string(),
+    })
+}
+
 /// Says of a low heat that its fuel, if it is listed, may not have one.
-pub fn low_of_other_class(record: &Record, fuel: Option<&Fuel>) -> Option<String> {
+pub fn low_of_other_class(record: &Record, fuel: Option<&Fuel>) -> Option<Account> {
     let Record::Delivery(Delivery {
         heat: Some(Heat::Low(value)),
         ..
@@ -68,9 +107,10 @@ pub fn low_of_other_class(record: &Record, fuel: Option<&Fuel>) -> Option<String
     };
     let fuel = fuel.filter(|fuel| fuel.class != Class::NaturalGas)?;
     let (number, class) = (fuel.number, fuel.class.word());
-    Some(format!(
-        "low-heat {value} is for natural-gas alone, and fuel {number} is {class}"
-    ))
+    Some(Account {
+        why: format!("low-heat {value} is for natural-gas alone, and fuel {number} is {class}"),
+        remedy: "give the high value as `heat`, or correct the fuel".to_string(),
+    })
 }
 
 fn measured(heat: Heat) -> Option<Beyond> {
@@ -86,6 +126,10 @@ fn number(field: &'static str, value: u32, range: RangeInclusive<u32>) -> Option
 
 fn tenths(field: &'static str, value: u32, range: RangeInclusive<u32>) -> Option<Beyond> {
     outside(field, value, range, in_tenths)
+}
+
+fn hundredths(field: &'static str, value: u32, range: RangeInclusive<u32>) -> Option<Beyond> {
+    outside(field, value, range, in_hundredths)
 }
 
 fn outside(

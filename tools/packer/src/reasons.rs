@@ -4,7 +4,7 @@
 use crate::book::{in_tenths, Book, Monitor, Unit};
 use crate::fuel::Fuel;
 use crate::method::no_method;
-use crate::ranges::{beyond, low_of_other_class};
+use crate::ranges::{beyond, low_of_other_class, more_than_all};
 use crate::record::{Delivery, Hour, Record};
 use crate::record_bytes::form_fault;
 use crate::repeats::repeated;
@@ -38,12 +38,16 @@ impl Account {
 
 pub fn general(reason: u8) -> (&'static str, &'static str) {
     match reason {
-        1 => ("its form is wrong", "say it as a `delivery` or an `hour`"),
+        1 => (
+            "its form is wrong",
+            "say it as a `delivery`, an `hour` or `anodes`",
+        ),
         2 => ("its unit isn't listed", "list it, or correct its number"),
         3 => ("its fuel isn't listed", "list it, or correct its number"),
         4 => (
             "a value is out of range",
-            "correct its month, hour, amount, heat, carbon, reading or moisture",
+            "correct its month, hour, amount, heat, carbon, reading, moisture, metal, use or \
+             impurities",
         ),
         5 => (
             "an hour of a unit without a monitor",
@@ -58,9 +62,9 @@ pub fn general(reason: u8) -> (&'static str, &'static str) {
             "give the measured heat, or give the fuel a default heat",
         ),
         8 => (
-            "the hour was sent before",
-            "keep the right record of this hour and take the others out, or correct the unit or \
-             the hour",
+            "it repeats an earlier record",
+            "keep the right record and take the others out, or correct the unit, the hour or the \
+             month",
         ),
         _ => (
             "one that isn't known here",
@@ -157,9 +161,10 @@ fn range(record: &Record, fuel: Option<&Fuel>) -> Option<Account> {
     if !fields.is_empty() {
         remedies.push(format!("correct the {}", fields.join(", ")));
     }
-    if let Some(why) = low_of_other_class(record, fuel) {
+    let together = [low_of_other_class(record, fuel), more_than_all(record)];
+    for Account { why, remedy } in together.into_iter().flatten() {
         whys.push(why);
-        remedies.push("give the high value as `heat`, or correct the fuel".to_string());
+        remedies.push(remedy);
     }
     (!whys.is_empty()).then(|| Account {
         why: whys.join("; "),

@@ -5,6 +5,7 @@ use crate::book::LINE;
 pub enum Record {
     Delivery(Delivery),
     Hour(Hour),
+    Anodes(Anodes),
     /// A record that the words of the others can't say.
     Raw([u8; LINE]),
 }
@@ -36,11 +37,26 @@ pub struct Hour {
     pub moisture: u16,
 }
 
+/// What a smelter's prebaked anodes lost in a month.
+pub struct Anodes {
+    pub unit: u16,
+    pub month: u16,
+    /// In kg.
+    pub metal: u32,
+    /// In g per kg of metal.
+    pub net_use: u32,
+    /// This and the others that follow in hundredths of a percent of the anodes.
+    pub sulphur: u16,
+    pub ash: u16,
+    pub other: u16,
+}
+
 impl Record {
     pub fn unit(&self) -> Option<u16> {
         match self {
             Record::Delivery(delivery) => Some(delivery.unit),
             Record::Hour(hour) => Some(hour.unit),
+            Record::Anodes(anodes) => Some(anodes.unit),
             Record::Raw(_) => None,
         }
     }
@@ -48,7 +64,7 @@ impl Record {
     pub fn fuel(&self) -> Option<u16> {
         match self {
             Record::Delivery(delivery) => Some(delivery.fuel),
-            Record::Hour(_) | Record::Raw(_) => None,
+            Record::Hour(_) | Record::Anodes(_) | Record::Raw(_) => None,
         }
     }
 }

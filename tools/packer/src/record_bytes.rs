@@ -2,10 +2,11 @@
 
 use crate::book::LINE;
 use crate::line::{first_difference, get16, get32, must_be_zero, put16, put32, Line};
-use crate::record::{Delivery, Heat, Hour, Record};
+use crate::record::{Anodes, Delivery, Heat, Hour, Record};
 
 const DELIVERY: u8 = 1;
 const HOUR: u8 = 2;
+const ANODES: u8 = 4;
 const HEAT_MEASURED: u8 = 1;
 const CARBON_MEASURED: u8 = 2;
 const HEAT_LOW: u8 = 4;
@@ -14,6 +15,7 @@ pub fn encode_record(record: &Record) -> Line {
     match record {
         Record::Delivery(delivery) => encode_delivery(delivery),
         Record::Hour(hour) => encode_hour(hour),
+        Record::Anodes(anodes) => encode_anodes(anodes),
         Record::Raw(line) => *line,
     }
 }
@@ -51,6 +53,19 @@ fn encode_hour(hour: &Hour) -> Line {
     line
 }
 
+fn encode_anodes(anodes: &Anodes) -> Line {
+    let mut line = [0; LINE];
+    line[0] = ANODES;
+    put16(&mut line, 2, anodes.unit);
+    put16(&mut line, 6, anodes.month);
+    put32(&mut line, 8, anodes.metal);
+    put32(&mut line, 12, anodes.net_use);
+    put16(&mut line, 16, anodes.sulphur);
+    put16(&mut line, 18, anodes.ash);
+    put16(&mut line, 20, anodes.other);
+    line
+}
+
 /// A record is said in words only if the words give back all of its bytes.
 pub fn decode_record(line: &Line) -> Record {
     match in_words(line) {
@@ -59,10 +74,27 @@ pub fn decode_record(line: &Line) -> Record {
     }
 }
 
-/// Gives unit and hour number of a record of an hour's kind, also of one that no words say.
-pub fn sent_hour(record: &Record) -> Option<(u16, u16)> {
-    let line = encode_record(record);
-    (line[0] == HOUR).then(|| (get16(&line, 2), get16(&line, 6)))
+/// What a book may have one record of.
+#[derive(PartialEq)]
+pub enum Once {
+    Hour { unit: u16, hour: u16 },
+    Anodes { unit: u16, month: u16 },
+}
+
+impl Once {
+    /// By its kind, also of a record that no words say.
+    pub fn of(record: &Record) -> Option<Once> {
+        let line = encode_record(record);
+        let (unit, number) = (get16(&line, 2), get16(&line, 6));
+        match line[0] {
+            HOUR => Some(Once::Hour { unit, hour: number }),
+            ANODES => Some(Once::Anodes {
+                unit,
+                month: number,
+            }),
+            _ => None,
+        }
+    }
 }
 
 /// Says which byte of a line no words give back, if there is one.
@@ -70,7 +102,7 @@ pub fn form_fault(line: &Line) -> Option<String> {
     let kind = line[0];
     let Some(record) = in_words(line) else {
         return Some(format!(
-            "kind {kind} is neither {DELIVERY}, a delivery, nor {HOUR}, an hour"
+            "kind {kind} is none of {DELIVERY}, a delivery, {HOUR}, an hour, and {ANODES}, anodes"
         ));
     };
     let at = first_difference(line, &encode_record(&record))?;
@@ -80,6 +112,7 @@ pub fn form_fault(line: &Line) -> Option<String> {
         }
         (DELIVERY, 12..=15) => "it has a heat without the flag for one".to_string(),
         (DELIVERY, 16..=19) => "it has carbon without the flag for it".to_string(),
+        (ANODES, 4..=5) => format!("it names fuel {}, and anodes have none", get16(line, 4)),
         _ => must_be_zero(at),
     })
 }
@@ -88,6 +121,7 @@ fn in_words(line: &Line) -> Option<Record> {
     match line[0] {
         DELIVERY => Some(Record::Delivery(decode_delivery(line))),
         HOUR => Some(Record::Hour(decode_hour(line))),
+        ANODES => Some(Record::Anodes(decode_anodes(line))),
         _ => None,
     }
 }
@@ -117,5 +151,17 @@ fn decode_hour(line: &Line) -> Hour {
         percent: get32(line, 8),
         flow: get32(line, 12),
         moisture: get16(line, 16),
+    }
+}
+
+fn decode_anodes(line: &Line) -> Anodes {
+    Anodes {
+        unit: get16(line, 2),
+        month: get16(line, 6),
+        metal: get32(line, 8),
+        net_use: get32(line, 12),
+        sulphur: get16(line, 16),
+        ash: get16(line, 18),
+        other: get16(line, 20),
     }
 }

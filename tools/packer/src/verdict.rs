@@ -46,7 +46,7 @@ fn refusal(printed: &str) -> Option<u8> {
 fn reason(i: usize, line: &str) -> Result<Option<u8>, String> {
     let said = line.strip_prefix(&format!("record {i} "));
     let reason = match said.and_then(|said| said.split_once(' ')) {
-        Some(("method" | "hour", _masses)) => return Ok(None),
+        Some(("method" | "hour" | "anodes", _masses)) => return Ok(None),
         Some(("reason", number)) => number.parse().ok().filter(|&number| number > 0),
         _ => None,
     };

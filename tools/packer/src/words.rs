@@ -1,10 +1,29 @@
 //! The words of one line of a text, taken one after the other.
 
 use std::fmt::Display;
-use std::str::SplitWhitespace;
+use std::str::{FromStr, SplitWhitespace};
 
-use crate::book::{in_tenths, LINE};
+use crate::book::{in_hundredths, in_tenths, LINE};
 use crate::single;
+
+/// Numbers that are kept in tenths or in hundredths: how many decimals one has at most, in words
+/// too, and how it is spelled.
+struct Decimals {
+    most: usize,
+    words: &'static str,
+    spell: fn(u32) -> String,
+}
+
+const TENTHS: Decimals = Decimals {
+    most: 1,
+    words: "one decimal or none",
+    spell: in_tenths,
+};
+const HUNDREDTHS: Decimals = Decimals {
+    most: 2,
+    words: "two decimals at most",
+    spell: in_hundredths,
+};
 
 pub struct Words<'a> {
     rest: SplitWhitespace<'a>,
@@ -77,30 +96,37 @@ impl<'a> Words<'a> {
 
     /// Reads a number with one decimal or none, and gives it in tenths.
     pub fn tenths16(&mut self, name: &str) -> Result<u16, String> {
-        let (word, tenths) = self.tenths(name)?;
-        tenths
-            .parse()
-            .map_err(|_| too_large(name, word, in_tenths(u16::MAX.into())))
+        self.decimal(name, &TENTHS, u16::MAX)
     }
 
     /// Reads a number with one decimal or none, and gives it in tenths.
     pub fn tenths32(&mut self, name: &str) -> Result<u32, String> {
-        let (word, tenths) = self.tenths(name)?;
-        tenths
-            .parse()
-            .map_err(|_| too_large(name, word, in_tenths(u32::MAX)))
+        self.decimal(name, &TENTHS, u32::MAX)
     }
 
-    /// Gives the word, and the digits of its tenths.
-    fn tenths(&mut self, name: &str) -> Result<(&'a str, String), String> {
+    /// Reads a number with two decimals at most, and gives it in hundredths.
+    pub fn hundredths16(&mut self, name: &str) -> Result<u16, String> {
+        self.decimal(name, &HUNDREDTHS, u16::MAX)
+    }
+
+    fn decimal<T: FromStr + Into<u32>>(
+        &mut self,
+        name: &str,
+        decimals: &Decimals,
+        most: T,
+    ) -> Result<T, String> {
         let word = self.value(name)?;
-        let (whole, tenth) = word.split_once('.').unwrap_or((word, "0"));
-        if !all_digits(whole) || !all_digits(tenth) || tenth.len() != 1 {
+        let (whole, fraction) = word.split_once('.').unwrap_or((word, "0"));
+        let places = decimals.most;
+        if !all_digits(whole) || !all_digits(fraction) || fraction.len() > places {
             return Err(format!(
-                "`{name}` is followed by a number with one decimal or none, not by `{word}`"
+                "`{name}` is followed by a number with {}, not by `{word}`",
+                decimals.words
             ));
         }
-        Ok((word, format!("{whole}{tenth}")))
+        format!("{whole}{fraction:0<places$}")
+            .parse()
+            .map_err(|_| too_large(name, word, (decimals.spell)(most.into())))
     }
 
     /// Reads a single, and gives its bits.

@@ -1,8 +1,8 @@
 //! The canonical text of a book: the year, the units, the fuels, the records, a line each.
 
-use crate::book::{in_tenths, Book, Monitor, Unit, Warming};
+use crate::book::{in_hundredths, in_tenths, Book, Monitor, Unit, Warming};
 use crate::fuel::Fuel;
-use crate::record::{Delivery, Heat, Hour, Record};
+use crate::record::{Anodes, Delivery, Heat, Hour, Record};
 use crate::single;
 
 pub fn text(book: &Book) -> String {
@@ -55,6 +55,7 @@ pub fn record_line(record: &Record) -> String {
     match record {
         Record::Delivery(delivery) => delivery_line(delivery),
         Record::Hour(hour) => hour_line(hour),
+        Record::Anodes(anodes) => anodes_line(anodes),
         Record::Raw(bytes) => {
             let digits: String = bytes.iter().map(|byte| format!("{byte:02X}")).collect();
             format!("raw {digits}")
@@ -91,4 +92,20 @@ fn hour_line(sent: &Hour) -> String {
         tenths => format!(" moisture {}", in_tenths(tenths.into())),
     };
     format!("hour unit {unit} hour {hour} percent {percent} flow {flow}{moisture}")
+}
+
+fn anodes_line(anodes: &Anodes) -> String {
+    let Anodes {
+        unit,
+        month,
+        metal,
+        net_use,
+        ..
+    } = anodes;
+    let [sulphur, ash, other] =
+        [anodes.sulphur, anodes.ash, anodes.other].map(|impurity| in_hundredths(impurity.into()));
+    format!(
+        "anodes unit {unit} month {month} metal {metal} use {net_use} sulphur {sulphur} ash {ash} \
+         other {other}"
+    )
 }

@@ -2,6 +2,8 @@
 
 #[path = "explain/accounts.rs"]
 mod accounts;
+#[path = "explain/anodes.rs"]
+mod anodes;
 mod folder;
 #[path = "explain/on_files.rs"]
 mod on_files;
@@ -157,7 +159,8 @@ fn the_example_of_the_readme_is_true() {
     let book = named("north.book", pack(&text.content).unwrap());
     let printed = format!(
         "record 0 {COUNTS}\nrecord 1 reason 4\nrecord 2 reason 5\n\
-         record 3 hour fossil co2-ug 12950000000000 ch4-ng 0 n2o-ng 0\nrecord 4 reason 8\n"
+         record 3 hour fossil co2-ug 12950000000000 ch4-ng 0 n2o-ng 0\nrecord 4 reason 8\n\
+         record 5 anodes fossil co2-ug 1513488480000000 ch4-ng 0 n2o-ng 0\nrecord 6 reason 8\n"
     );
     let explanation = explain(&book, Some(&text), |_| Ok(printed)).unwrap();
     let command = "tools/book explain north.book north.txt";
@@ -247,6 +250,7 @@ fn what_lines_never_prints_is_a_failure() {
         whole.replace("reason 5", "reason 256"),
         whole.replace("reason 5", "reason"),
         whole.replace("hour fossil", "fossil"),
+        whole.replace("hour fossil", "anode fossil"),
         whole.replace('\n', "\n\n"),
         "refused 19\n".to_string(),
         "refused 20".to_string(),

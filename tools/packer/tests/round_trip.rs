@@ -1,6 +1,8 @@
 //! Text to book and book to text, by the library on thousands of random books and by the program on
 //! files.
 
+#[path = "round_trip/anodes.rs"]
+mod anodes;
 #[path = "round_trip/bad_books.rs"]
 mod bad_books;
 #[path = "round_trip/bad_texts.rs"]

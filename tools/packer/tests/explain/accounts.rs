@@ -1,6 +1,7 @@
 //! Records with a reason each, what is said of them, and what is to be done: three lines a record.
 
-use crate::repeats::REMEDY;
+use crate::anodes::{ANODES, UNSUPPORTED_ANODES};
+use crate::repeats::GENERAL_REMEDY;
 use crate::unsupported::UNSUPPORTED;
 
 /// Unit 1 is at the limit of default heats, 2 is past it, 3 has a monitor, and 4 a dry one. Fuels 1
@@ -21,10 +22,10 @@ fuel 6 liquid other co2 70000 ch4 2800 n2o 570
 
 const FORMS: &str = "
 1 raw 0000000000000000000000000000000000000000000000000000000000000000
-  its form is wrong: kind 0 is neither 1, a delivery, nor 2, an hour
+  its form is wrong: kind 0 is KINDS
   FORM
 1 raw FF00000000000000000000000000000000000000000000000000000000000000
-  its form is wrong: kind 255 is neither 1, a delivery, nor 2, an hour
+  its form is wrong: kind 255 is KINDS
   FORM
 1 raw 0108010001000600E80300000000000000000000000000000000000000000000
   its form is wrong: byte 1 of the line has a bit that must be 0
@@ -240,8 +241,9 @@ const CHOICES: &str = "
 ";
 
 /// What stands for words that many rows share.
-const SHORT: [(&str, &str); 6] = [
-    ("FORM", "say it as a `delivery` or an `hour`"),
+const SHORT: [(&str, &str); 7] = [
+    ("FORM", "say it as a `delivery`, an `hour` or `anodes`"),
+    ("KINDS", "none of 1, a delivery, 2, an hour, and 4, anodes"),
     (
         "DRY",
         "add `dry` to the `monitor` of unit 3 if its analyser dries the sample, or take the \
@@ -250,10 +252,11 @@ const SHORT: [(&str, &str); 6] = [
     ("RANGE", "a value is out of range"),
     (
         "ANY",
-        "correct its month, hour, amount, heat, carbon, reading or moisture",
+        "correct its month, hour, amount, heat, carbon, reading, moisture, metal, use or \
+         impurities",
     ),
     ("NONE", "no method is permitted"),
-    ("REPEAT", REMEDY),
+    ("REPEAT", GENERAL_REMEDY),
 ];
 
 pub struct Row {
@@ -264,7 +267,16 @@ pub struct Row {
 }
 
 pub fn rows() -> Vec<Row> {
-    let tables = [FORMS, LISTED, VALUES, HOURS, CHOICES, UNSUPPORTED];
+    let tables = [
+        FORMS,
+        LISTED,
+        VALUES,
+        HOURS,
+        CHOICES,
+        ANODES,
+        UNSUPPORTED,
+        UNSUPPORTED_ANODES,
+    ];
     let lines = tables.iter().flat_map(|table| table.lines());
     let lines: Vec<&str> = lines.filter(|line| !line.is_empty()).collect();
     lines.chunks(3).map(row).collect()

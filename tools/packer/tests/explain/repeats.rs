@@ -1,4 +1,4 @@
-//! What is said of an hour that was sent before: which record has it already, and what to do.
+//! What is said of a record that repeats an earlier one: which that is, and what to do.
 
 use crate::{book_of, explained};
 
@@ -8,13 +8,72 @@ unit 2 rating 410.5 monitor
 unit 3 rating 410.5 monitor
 unit 258 rating 410.5 monitor
 ";
-const SENT: &str = "hour unit 2 hour 7 percent 12.5 flow 2000000";
-const COUNTS: &str = "hour fossil co2-ug 12950000000000 ch4-ng 0 n2o-ng 0";
-pub const REMEDY: &str =
-    "keep the right record of this hour and take the others out, or correct the unit or the hour";
+pub const GENERAL_REMEDY: &str =
+    "keep the right record and take the others out, or correct the unit, the hour or the month";
+
+/// What a book may have one record of. All are of unit 2 and have the number 7.
+#[derive(Clone, Copy)]
+struct Once {
+    sent: &'static str,
+    with_other_values: &'static str,
+    /// What `lines` prints of one that counts.
+    counts: &'static str,
+    number: &'static str,
+    named: &'static str,
+    remedy: &'static str,
+}
+
+const HOUR: Once = Once {
+    sent: "hour unit 2 hour 7 percent 12.5 flow 2000000",
+    with_other_values: "hour unit 2 hour 7 percent 0.25 flow 0.25",
+    counts: "hour fossil co2-ug 12950000000000 ch4-ng 0 n2o-ng 0",
+    number: "hour",
+    named: "hour 7 of unit 2",
+    remedy: "keep the right record of this hour and take the others out, or correct the unit or \
+             the hour",
+};
+const ANODES: Once = Once {
+    sent: "anodes unit 2 month 7 metal 1000000 use 420 sulphur 1.25 ash 0.40 other 0.00",
+    with_other_values: "anodes unit 2 month 7 metal 1 use 1 sulphur 0.00 ash 0.00 other 0.00",
+    counts: "anodes fossil co2-ug 1513488480000000 ch4-ng 0 n2o-ng 0",
+    number: "month",
+    named: "anodes of unit 2 for month 7",
+    remedy: "keep the right record of this month's anodes and take the others out, or correct \
+             the unit or the month",
+};
 
 /// A record, and what `lines` prints behind its index.
-type Told = (&'static str, &'static str);
+type Told<'a> = (&'a str, &'a str);
+
+impl Once {
+    fn first(&self) -> Told<'_> {
+        (self.sent, self.counts)
+    }
+
+    fn again(&self) -> Told<'_> {
+        (self.sent, "reason 8")
+    }
+
+    fn said_of_repeat(&self, i: usize, record: &str, first: &str) -> String {
+        let detail = format!(": {first} has {} too", self.named);
+        said(i, record, &detail, self.remedy)
+    }
+
+    /// The last of these records is the one with reason 8, and names the one at this index.
+    fn assert_names(&self, told: &[Told], first: usize) {
+        let i = told.len() - 1;
+        let wanted = self.said_of_repeat(i, told[i].0, &format!("record {first}"));
+        assert_eq!(said_of_repeats(told).0, wanted, "{told:?}");
+    }
+}
+
+/// What is said of a record at this index, with reason 8.
+fn said(i: usize, record: &str, detail: &str, remedy: &str) -> String {
+    format!(
+        "record {i}: {record}\n  reason 8: it repeats an earlier record{detail}\n  to do: \
+         {remedy}\n"
+    )
+}
 
 /// Gives the text of these records, and what `lines` prints of its book.
 fn text_of(told: &[Told]) -> (String, String) {
@@ -39,48 +98,41 @@ fn said_of_repeats(told: &[Told]) -> (String, usize) {
     (said.collect(), lines.len() / 3)
 }
 
-fn repeat(i: usize, record: &str, detail: &str) -> String {
-    format!(
-        "record {i}: {record}\n  reason 8: the hour was sent before{detail}\n  to do: {REMEDY}\n"
-    )
-}
-
-fn assert_names(told: &[Told], first: usize) {
-    let i = told.len() - 1;
-    let detail = format!(": record {first} has hour 7 of unit 2 too");
-    let (said, _) = said_of_repeats(told);
-    assert_eq!(said, repeat(i, told[i].0, &detail), "{told:?}");
-}
-
 #[test]
 fn a_repeat_names_the_record_before() {
-    let other_readings = "hour unit 2 hour 7 percent 0.25 flow 0.25";
-    let delivery = "delivery unit 2 fuel 1 month 7 amount 1000";
-    assert_names(&[(SENT, COUNTS), (SENT, "reason 8")], 0);
-    assert_names(&[(SENT, COUNTS), (other_readings, "reason 8")], 0);
-    assert_names(
-        &[(SENT, COUNTS), (delivery, "reason 3"), (SENT, "reason 8")],
-        0,
-    );
+    let delivery = ("delivery unit 2 fuel 1 month 7 amount 1000", "reason 3");
+    for once in [HOUR, ANODES] {
+        let with_other_values = (once.with_other_values, "reason 8");
+        once.assert_names(&[once.first(), once.again()], 0);
+        once.assert_names(&[once.first(), with_other_values], 0);
+        once.assert_names(&[once.first(), delivery, once.again()], 0);
+    }
 }
 
-/// Each differs in one byte from unit 2 or hour 7.
+/// Each differs in one byte from unit 2 or from the number 7.
 #[test]
-fn other_hours_and_other_units_are_passed_over() {
-    let others = [
-        "hour unit 3 hour 7 percent 12.5 flow 2000000",
-        "hour unit 258 hour 7 percent 12.5 flow 2000000",
-        "hour unit 2 hour 8 percent 12.5 flow 2000000",
-        "hour unit 2 hour 263 percent 12.5 flow 2000000",
-    ];
-    let mut told: Vec<Told> = others.map(|other| (other, COUNTS)).to_vec();
-    told.extend([(SENT, COUNTS), (SENT, "reason 8")]);
-    assert_names(&told, 4);
+fn other_numbers_and_other_units_are_passed_over() {
+    for once in [HOUR, ANODES] {
+        let numbered = |number| {
+            let [from, to] = [7, number].map(|value| format!("{} {value} ", once.number));
+            once.sent.replace(&from, &to)
+        };
+        let others = [
+            once.sent.replace("unit 2 ", "unit 3 "),
+            once.sent.replace("unit 2 ", "unit 258 "),
+            numbered(8),
+            numbered(263),
+        ];
+        let mut told: Vec<Told> = others.iter().map(|other| (&**other, once.counts)).collect();
+        told.extend([once.first(), once.again()]);
+        once.assert_names(&told, 4);
+    }
 }
 
 #[test]
 fn whatever_became_of_the_first_it_is_named() {
-    let firsts = [
+    // The raw ones have a stray byte in the midst and one at the end, which no words say.
+    let hours = [
         (
             "hour unit 2 hour 7 percent bits 7FC00000 flow 1",
             "reason 4",
@@ -89,7 +141,6 @@ fn whatever_became_of_the_first_it_is_named() {
             "hour unit 2 hour 7 percent 1 flow 1 moisture 12.5",
             "reason 1",
         ),
-        // A stray byte in the midst and one at the end, which no words say.
         (
             "raw 0200020001000700000000000000000000000000000000000000000000000000",
             "reason 1",
@@ -99,14 +150,35 @@ fn whatever_became_of_the_first_it_is_named() {
             "reason 1",
         ),
     ];
-    for first in firsts {
-        assert_names(&[first, (SENT, "reason 8")], 0);
+    let anodes = [
+        (
+            "anodes unit 2 month 7 metal 1 use 1001 sulphur 0.00 ash 0.00 other 0.00",
+            "reason 4",
+        ),
+        (
+            "anodes unit 2 month 7 metal 1 use 1 sulphur 60.00 ash 60.00 other 0.00",
+            "reason 4",
+        ),
+        (
+            "raw 0400020001000700000000000000000000000000000000000000000000000000",
+            "reason 1",
+        ),
+        (
+            "raw 0400020000000700000000000000000000000000000000000000000000000001",
+            "reason 1",
+        ),
+    ];
+    for (once, firsts) in [(HOUR, hours), (ANODES, anodes)] {
+        for first in firsts {
+            once.assert_names(&[first, once.again()], 0);
+        }
     }
 }
 
-/// The bytes of unit and hour number are those of the hour, and none of these is one.
+/// They have the bytes of unit and number, and none is of the kind. Neither is an hour a repeat of
+/// anodes, nor the other way round.
 #[test]
-fn only_a_record_of_an_hours_kind_is_named() {
+fn only_a_record_of_the_same_kind_is_named() {
     let others = [
         (
             "delivery unit 2 fuel 0 month 7 amount 1095237632",
@@ -124,44 +196,53 @@ fn only_a_record_of_an_hours_kind_is_named() {
             "raw 8200020000000700000048410024F44900000000000000000000000000000000",
             "reason 1",
         ),
+        (
+            "raw 8400020000000700000048410024F44900000000000000000000000000000000",
+            "reason 1",
+        ),
     ];
-    for other in others {
-        assert_names(&[other, (SENT, COUNTS), (SENT, "reason 8")], 1);
+    for (once, of_the_other_kind) in [(HOUR, ANODES), (ANODES, HOUR)] {
+        for other in others.into_iter().chain([of_the_other_kind.first()]) {
+            once.assert_names(&[other, once.first(), once.again()], 1);
+        }
     }
 }
 
 #[test]
-fn every_further_record_of_an_hour_names_the_first() {
-    let told = [(SENT, COUNTS), (SENT, "reason 8"), (SENT, "reason 8")];
-    let detail = ": record 0 has hour 7 of unit 2 too";
-    let (said, count) = said_of_repeats(&told);
-    assert_eq!(said, repeat(1, SENT, detail) + &repeat(2, SENT, detail));
-    assert_eq!(count, 2);
-
-    let full: Vec<Told> = std::iter::once((SENT, COUNTS))
-        .chain(std::iter::repeat((SENT, "reason 8")).take(2043))
-        .collect();
-    let (said, count) = said_of_repeats(&full);
-    let wanted: String = (1..2044).map(|i| repeat(i, SENT, detail)).collect();
-    assert!(said == wanted);
-    assert_eq!(count, 2043);
+fn every_further_record_names_the_first() {
+    for once in [HOUR, ANODES] {
+        for further in [2, 2043] {
+            let mut told = vec![once.first()];
+            told.resize(1 + further, once.again());
+            let (said, count) = said_of_repeats(&told);
+            let wanted: String = (1..=further)
+                .map(|i| once.said_of_repeat(i, once.sent, "record 0"))
+                .collect();
+            assert!(said == wanted, "{further} more: {}", once.sent);
+            assert_eq!(count, further);
+        }
+    }
 }
 
 /// `lines` decides: where no earlier record bears it out, the general words are all that is said.
 #[test]
 fn a_repeat_of_nothing_is_told_in_general_words() {
-    let (said, _) = said_of_repeats(&[(SENT, "reason 8"), (SENT, COUNTS)]);
-    assert_eq!(said, repeat(0, SENT, ""));
+    for once in [HOUR, ANODES] {
+        let (told, _) = said_of_repeats(&[once.again(), once.first()]);
+        assert_eq!(told, said(0, once.sent, "", GENERAL_REMEDY));
+    }
 }
 
 #[test]
 fn the_first_is_told_with_its_line_of_the_text() {
-    let text = format!("{UNITS}{SENT}\n# resent after a gap\n{SENT}\n");
-    let printed = format!("record 0 {COUNTS}\nrecord 1 reason 8\n");
-    let explanation = explained(&book_of(&text), Some(&text), &printed).unwrap();
-    let detail = ": record 0 at TEXT:5 has hour 7 of unit 2 too";
-    let repeat = repeat(1, SENT, detail);
-    let wanted = format!("BOOK: 1 of 2 records is set aside\nTEXT:7: {repeat}");
-    assert_eq!(explanation.words, wanted);
-    assert!(!explanation.is_clean);
+    for once in [HOUR, ANODES] {
+        let (sent, counts) = once.first();
+        let text = format!("{UNITS}{sent}\n# resent after a gap\n{sent}\n");
+        let printed = format!("record 0 {counts}\nrecord 1 reason 8\n");
+        let explanation = explained(&book_of(&text), Some(&text), &printed).unwrap();
+        let repeat = once.said_of_repeat(1, sent, "record 0 at TEXT:5");
+        let wanted = format!("BOOK: 1 of 2 records is set aside\nTEXT:7: {repeat}");
+        assert_eq!(explanation.words, wanted);
+        assert!(!explanation.is_clean);
+    }
 }

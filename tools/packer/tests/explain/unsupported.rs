@@ -102,10 +102,10 @@ pub const UNSUPPORTED: &str = "
   there is no heat in use
   give the measured heat, or give the fuel a default heat
 8 hour unit 3 hour 1 percent 1 flow 1
-  the hour was sent before
+  it repeats an earlier record
   REPEAT
 8 delivery unit 1 fuel 1 month 1 amount 1
-  the hour was sent before
+  it repeats an earlier record
   REPEAT
 9 delivery unit 1 fuel 1 month 1 amount 1
   one that isn't known here

@@ -8,8 +8,16 @@ use crate::random_books::LONGEST;
 #[test]
 fn random_books_are_of_every_sort() {
     let (mut no_records, mut full, mut no_units, mut most_units, mut most_fuels) = (0, 0, 0, 0, 0);
-    let starts = ["delivery ", "hour ", "raw 01", "raw 02", "raw FF"];
-    let mut records = [0; 5];
+    let starts = [
+        "delivery ",
+        "hour ",
+        "anodes ",
+        "raw 01",
+        "raw 02",
+        "raw 04",
+        "raw FF",
+    ];
+    let mut records = [0; 7];
     let mut warmings = [0; 2];
     each_random_book(|sample, _| {
         warmings[usize::from(sample.warming)] += 1;
@@ -50,20 +58,42 @@ fn random_units_and_hours_are_of_every_sort() {
     );
 }
 
-/// An hour is sent again as it was, or with other readings.
 #[test]
-fn random_books_have_hours_that_were_sent_before() {
-    let (mut whole, mut with_other_readings) = (0, 0);
+fn random_anodes_are_of_every_sort() {
+    let [mut sound, mut too_much, mut sum_too_large, mut sum_past_16_bits] = [0; 4];
     each_random_book(|sample, _| {
-        let (mut lines, mut hours) = (HashSet::new(), HashSet::new());
-        let sent = sample.records.iter().map(|said| said.line);
-        for line in sent.filter(|line| line[0] == 2) {
-            let is_repeat = !hours.insert([line[2], line[3], line[6], line[7]]);
-            let is_whole = !lines.insert(line);
-            whole += u32::from(is_whole);
-            with_other_readings += u32::from(is_repeat && !is_whole);
+        let anodes = sample.records.iter();
+        for said in anodes.filter(|said| said.words.starts_with("anodes ")) {
+            let impurities =
+                [16, 18, 20].map(|at| u16::from_le_bytes([said.line[at], said.line[at + 1]]));
+            let sum: u32 = impurities.iter().map(|&impurity| u32::from(impurity)).sum();
+            let is_each_sound = impurities.iter().all(|&impurity| impurity <= 10_000);
+            sound += u32::from(sum <= 10_000);
+            too_much += u32::from(!is_each_sound);
+            sum_too_large += u32::from(is_each_sound && sum > 10_000);
+            sum_past_16_bits += u32::from(sum > u16::MAX.into());
         }
     });
-    let counts = [whole, with_other_readings];
-    assert!(counts.iter().all(|&count| count >= 1000), "{counts:?}");
+    let counts = [sound, too_much, sum_too_large, sum_past_16_bits];
+    assert!(counts.iter().all(|&count| count >= 500), "{counts:?}");
+}
+
+/// Hours and anodes are sent again as they were, or with other values.
+#[test]
+fn random_books_have_records_that_were_sent_before() {
+    for kind in [2, 4] {
+        let (mut whole, mut with_other_values) = (0, 0);
+        each_random_book(|sample, _| {
+            let (mut lines, mut named) = (HashSet::new(), HashSet::new());
+            let sent = sample.records.iter().map(|said| said.line);
+            for line in sent.filter(|line| line[0] == kind) {
+                let is_repeat = !named.insert([line[2], line[3], line[6], line[7]]);
+                let is_whole = !lines.insert(line);
+                whole += u32::from(is_whole);
+                with_other_values += u32::from(is_repeat && !is_whole);
+            }
+        });
+        let counts = [whole, with_other_values];
+        assert!(counts.iter().all(|&count| count >= 1000), "{counts:?}");
+    }
 }

@@ -3,10 +3,11 @@
 use crate::dice::Dice;
 use crate::random_lines::{put, raw, said, spellings, Said, LINE};
 
-/// Every sort of record that a book can hold; the last seven can't be said in words.
-pub const SORTS: [fn(&mut Dice) -> Said; 9] = [
+/// Every sort of record that a book can hold; the last eight can't be said in words.
+pub const SORTS: [fn(&mut Dice) -> Said; 11] = [
     delivery,
     hour,
+    anodes,
     unknown_kind,
     unknown_flags,
     low_unmeasured,
@@ -14,6 +15,7 @@ pub const SORTS: [fn(&mut Dice) -> Said; 9] = [
     carbon_unflagged,
     delivery_with_tail,
     hour_with_stray_byte,
+    anodes_with_stray_byte,
 ];
 
 /// Bits and spellings, some of which stand at the borders of a rule.
@@ -118,9 +120,56 @@ fn reading(dice: &mut Dice) -> (u32, String) {
     }
 }
 
+fn anodes(dice: &mut Dice) -> Said {
+    let mut line = [0; LINE];
+    line[0] = 4;
+    let mut words = "anodes".to_string();
+    for (name, at, size, most) in [
+        ("unit", 2, 2, u16::MAX.into()),
+        ("month", 6, 2, u16::MAX.into()),
+        ("metal", 8, 4, u32::MAX.into()),
+        ("use", 12, 4, u32::MAX.into()),
+    ] {
+        let value = dice.within(0, most);
+        put(&mut line, at, size, value);
+        words += &format!(" {name} {value}");
+    }
+    let mut loosely = words.clone();
+    for (name, at) in [("sulphur", 16), ("ash", 18), ("other", 20)] {
+        let value = impurity(dice);
+        put(&mut line, at, 2, value);
+        let (spelling, other_spelling) = spellings_of_hundredths(value);
+        words += &format!(" {name} {spelling}");
+        loosely += &format!(" {name} {other_spelling}");
+    }
+    Said {
+        line,
+        words,
+        loosely: dice.pick(&[&loosely, &raw(line).loosely]).clone(),
+    }
+}
+
+/// Gives none, some that anodes may have, too much, or what is in the high byte alone.
+fn impurity(dice: &mut Dice) -> u64 {
+    let sound = dice.within(1, 10_000);
+    let too_much = dice.within(10_001, 65_535);
+    dice.pick(&[0, sound, too_much, 256])
+}
+
+/// Gives the spelling of hundredths with two decimals, and another.
+fn spellings_of_hundredths(hundredths: u64) -> (String, String) {
+    let (whole, rest) = (hundredths / 100, hundredths % 100);
+    let loosely = match (rest / 10, rest % 10) {
+        (0, 0) => format!("{whole}"),
+        (tenth, 0) => format!("{whole}.{tenth}"),
+        _ => format!("0{whole}.{rest:02}"),
+    };
+    (format!("{whole}.{rest:02}"), loosely)
+}
+
 fn unknown_kind(dice: &mut Dice) -> Said {
     let mut line = std::array::from_fn(|_| dice.next() as u8);
-    line[0] = dice.pick(&[0, 3, 4, 128, 255]);
+    line[0] = dice.pick(&[0, 3, 5, 128, 255]);
     raw(line)
 }
 
@@ -159,6 +208,13 @@ fn delivery_with_tail(dice: &mut Dice) -> Said {
 fn hour_with_stray_byte(dice: &mut Dice) -> Said {
     let mut line = hour(dice).line;
     let tail = 18 + dice.below(14) as usize;
+    line[dice.pick(&[1, 4, 5, tail])] = 1 + dice.below(255) as u8;
+    raw(line)
+}
+
+fn anodes_with_stray_byte(dice: &mut Dice) -> Said {
+    let mut line = anodes(dice).line;
+    let tail = 22 + dice.below(10) as usize;
     line[dice.pick(&[1, 4, 5, tail])] = 1 + dice.below(255) as u8;
     raw(line)
 }
