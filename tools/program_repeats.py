@@ -3,20 +3,12 @@ earlier record of the book, wherever it stands and whatever became of it."""
 import itertools
 import struct
 
-from program_books import LINE, LONGEST, book, checkpoint, fuel_record, hour_record, masses_of
-from program_books import patch, unit_line
-from program_dry import hour_of
-from program_jobs import ALL, Plan, end_of
-from program_judge import judge_hour
-from program_lines import FUELS, UNITS
-from program_replay import BLANK, RECORD, REPORT, WAKE, answer, frame, record_answer
+from program_books import LINE, LONGEST, book, hour_record, patch, unit_line
+from program_lines import FUELS
+from program_model import AS_HOUR, BUDGETS, DELIVERY, DRY, FAR, IN_MONTH_7, LISTED, UNLISTED
+from program_model import UNMONITORED, WET, expect_by_model, judged, lines_of, reason_in
 from program_runs import expect, expect_told
 
-HOUR = 2  # byte 0 of a monitor hour
-LISTED = [*UNITS, unit_line(259, monitor=True)]
-# FAR differs from WET in the higher byte alone. UNLISTED is no unit of the book.
-UNMONITORED, WET, UNLISTED, DRY, FAR = 1, 3, 4, 5, 259
-BUDGETS = (1, 2, 3, 4, 10, int(ALL))
 NAN = struct.pack("<I", 0x7FC00000)
 
 
@@ -39,13 +31,6 @@ def small(hour=7):
     """An hour with the readings of P8."""
     return hour_record(0.25, 0.25, WET, hour)
 
-
-# Records that aren't hours, with what stands behind their index. The last has bytes 2 to 7 of the
-# hour 7, which name fuel 0.
-DELIVERY, IN_MONTH_7 = fuel_record(unit=WET), fuel_record(unit=WET, month=7)
-AS_HOUR = patch(sent(), 0, b"\1")[:12].ljust(LINE, b"\0")
-BURNED = "method 4 none co2-ug 0 ch4-ng 34200000000 n2o-ng 3420000000"
-OTHERS = {DELIVERY: BURNED, IN_MONTH_7: BURNED, AS_HOUR: "reason 3"}
 
 # Each with the reasons of its records, worked by hand; 0 is that of a record that counts.
 REPEATS = [
@@ -97,96 +82,6 @@ STREAM = [sent(1), sent(1), small(2), sent(2), sent(1), unread(3), sent(3), stra
 STREAM_REASONS = "0808848180804552230080"
 
 
-def words_of(record, is_repeat, units):
-    """What stands behind the index of a record. The judge says it of an hour by itself; a record of
-    another kind, or with the readings of an hour where nothing is flagged, has a wrong form."""
-    if record[0] != HOUR:
-        return OTHERS.get(record, "reason 1")
-    told, number = judge_hour(record, b"".join(units))
-    if told == "reason":
-        return f"reason {number}"
-    return "reason 8" if is_repeat else hour_of(number)
-
-
-def judged(records, units):
-    """The same of all records. An earlier one counts as sent if its byte 0 is an hour's."""
-    before, told = set(), []
-    for record in records:
-        named = record[2:4] + record[6:8]
-        told.append(words_of(record, named in before, units))
-        if record[0] == HOUR:
-            before.add(named)
-    return told
-
-
-def lines_of(told):
-    return "".join(f"record {i} {words}\n" for i, words in enumerate(told)).encode()
-
-
-def reason_in(words):
-    return int(words.removeprefix("reason ")) if words.startswith("reason ") else 0
-
-
-def plan_of(records, units=LISTED, fuels=FUELS):
-    """What a job on these records has to print and save at every place, by the model alone."""
-    of = book(records, units, fuels)
-    ledgers, aside, first = (0, 0, 0, 0), 0, (0, 0)
-    places = [checkpoint(of)]
-    for index, words in enumerate(judged(records, units)):
-        reason = reason_in(words)
-        if reason:
-            first, aside = first if aside else (index, reason), aside + 1
-        else:
-            ledgers = tuple(map(sum, zip(ledgers, *masses_of(lines_of([words])))))
-        places.append(checkpoint(of, index + 1, ledgers, aside, *first))
-    return Plan(of, places, end_of(of, places[-1]))
-
-
-def answer_of(words):
-    """What `replay` answers to the look at one record."""
-    reason = reason_in(words)
-    if reason:
-        return record_answer(reason=reason)
-    (fossil, _, ch4, n2o), = masses_of(lines_of([words]))
-    if words == BURNED:
-        return record_answer(method=4, masses=(0, ch4, n2o))
-    return record_answer(ledger=1, masses=(fossil // 1000, ch4, n2o))
-
-
-def calls_of(plan, told, places):
-    """Calls on a plan's book, each with its answer: from these places wakes with every budget and a
-    look at the record there, and the report if a record was set aside."""
-    for place, budget in itertools.product(places, BUDGETS):
-        moved = plan.moved(place, budget)
-        yield (frame(WAKE, budget, plan.book, plan.places[place], BLANK),
-               answer(count=moved, out=plan.places[place + moved]))
-    for place in places:
-        yield (frame(RECORD, place, plan.book),
-               answer_of(told[place]) if place < plan.count else record_answer(method=255))
-    aside, first, reason = struct.unpack_from("<IIB", plan.places[-1], 4)
-    if aside:
-        yield frame(REPORT, 0, plan.book, plan.places[-1]), answer(41, reason, first)
-
-
-def expect_answered(programs, calls):
-    """`replay` gives each answer; of a wrong one, the fault says to which call."""
-    asked, answers = zip(*calls)
-    told, at = programs.run("replay", data=b"".join(asked)), 0
-    for index, wanted in enumerate(answers):
-        expect(told.out[at:at + len(wanted)], wanted, f"the answer to call {index}")
-        at += len(wanted)
-    expect_told(told, b"".join(answers))
-
-
-def expect_repeats(programs, records, units=LISTED, fuels=FUELS):
-    """What `lines` and `annual` print, and what `replay` answers, at all places of a short book."""
-    plan, told = plan_of(records, units, fuels), judged(records, units)
-    expect_told(programs.run("lines", data=plan.book), lines_of(told))
-    expect_told(programs.run("annual", data=plan.book), plan.ended)
-    places = range(plan.count + 1) if plan.count < 30 else (0, 1, plan.count // 2, plan.count - 1)
-    expect_answered(programs, calls_of(plan, told, places))
-
-
 def try_own_repeats(cases):
     for name, records, reasons in [*REPEATS, ("one of each sort", STREAM, STREAM_REASONS)]:
         with cases.case(f"the model of repeats says what is worked by hand: {name}"):
@@ -200,7 +95,7 @@ def try_own_repeats(cases):
 def try_rows(programs, cases):
     for name, records, reasons in REPEATS:
         with cases.case(f"lines, annual and replay: {name}"):
-            expect_repeats(programs, records)
+            expect_by_model(programs, records)
         if reasons.lstrip("0").startswith("8"):
             with cases.case(f"annual: {name}, in so many words"):
                 told = f"refused 41 record {reasons.index('8')} reason 8\n".encode()
@@ -220,10 +115,10 @@ def try_units(programs, cases):
     units = [unit_line(number, monitor=True) for number in numbers]
     hours = [sent(hour, number) for hour in (7, 8_784) for number in numbers]
     with cases.case("lines, annual and replay: 64 units with a monitor, every hour once"):
-        expect_repeats(programs, hours, units)
+        expect_by_model(programs, hours, units)
     with cases.case("lines, annual and replay: 64 units with a monitor, every hour twice"):
         strange = [sent(hour, UNLISTED) for hour in (7, 8_784)]
-        expect_repeats(programs, [*strange, *hours, *reversed(hours)], units)
+        expect_by_model(programs, [*strange, *hours, *reversed(hours)], units)
 
 
 def crowd():
@@ -254,9 +149,9 @@ def try_full_books(programs, cases):
     }
     for name, hours in books.items():
         with cases.case(f"lines, annual and replay: a full book, {name}"):
-            expect_repeats(programs, [sent(hour) for hour in hours], units, [])
+            expect_by_model(programs, [sent(hour) for hour in hours], units, [])
     with cases.case("lines, annual and replay: every sort of hour over and over"):
-        expect_repeats(programs, crowd())
+        expect_by_model(programs, crowd())
 
 
 def try_repeats(programs, cases):

@@ -5,7 +5,8 @@ import pathlib
 from program_books import book, checkpoint, each_line, report
 from program_jobs import ALL, job_on
 from program_lines import FUELS
-from program_repeats import BUDGETS, LISTED, STREAM, expect_answered, plan_of, sent, small
+from program_model import BUDGETS, LISTED, expect_answered, plan_of
+from program_repeats import STREAM, sent, small
 from program_replay import BLANK, REPORT, WAKE, answer, frame
 from program_runs import expect_told, memory_folder
 
