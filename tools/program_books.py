@@ -30,6 +30,11 @@ def hour_record(percent, flow, unit=1, hour=1, moisture=0):
     return pad(struct.pack("<BxHxxHffH", 2, unit, hour, percent, flow, moisture))
 
 
+def anodes_record(metal=1_000_000, use=420, impurities=(125, 40, 0), unit=1, month=4):
+    """The impurities are sulphur, ash and others, in hundredths of a percent."""
+    return pad(struct.pack("<BxHxxHIIHHH", 4, unit, month, metal, use, *impurities))
+
+
 def unit_line(number=1, rating=2500, monitor=False, dry=False):
     return pad(struct.pack("<HBxI", number, monitor + 2 * dry, rating))
 
@@ -107,7 +112,7 @@ def each_line(front, text):
     return b"".join(front.encode() + line for line in text.splitlines(True))
 
 
-COUNTED = re.compile(r"record (\d+) (?:method ([1-4])|hour) (fossil|biomass|none)"
+COUNTED = re.compile(r"record (\d+) (?:method ([1-4])|hour|anodes) (fossil|biomass|none)"
                      r" co2-ug (\d+) ch4-ng (\d+) n2o-ng (\d+)")
 
 

@@ -6,44 +6,52 @@ import struct
 from program_books import book, checkpoint, fuel_record, masses_of, unit_line
 from program_dry import hour_of
 from program_jobs import ALL, Plan, end_of
-from program_judge import judge_hour
+from program_judge import judge_anodes, judge_hour
 from program_lines import FUELS, UNITS
 from program_replay import BLANK, RECORD, REPORT, WAKE, answer, frame, record_answer
 from program_runs import expect, expect_told
 
-HOUR = 2  # byte 0 of a monitor hour
+HOUR, ANODES = 2, 4  # byte 0 of a record
 LISTED = [*UNITS, unit_line(259, monitor=True)]
 # FAR differs from WET in the higher byte alone. UNLISTED is no unit of the book.
 UNMONITORED, WET, UNLISTED, DRY, FAR = 1, 3, 4, 5, 259
 BUDGETS = (1, 2, 3, 4, 10, int(ALL))
 
-# Records that aren't hours, with what stands behind their index. The last has bytes 2 to 7 of the
-# hour 7, and 8 to 11 of its percent, 12.5; so it names fuel 0.
+# Deliveries, with what stands behind their index. The last has bytes 2 to 7 of the hour 7, and 8 to
+# 11 of its percent, 12.5; so it names fuel 0.
 DELIVERY, IN_MONTH_7 = fuel_record(unit=WET), fuel_record(unit=WET, month=7)
 AS_HOUR = fuel_record(0x41480000, WET, fuel=0, month=7)
 BURNED = "method 4 none co2-ug 0 ch4-ng 34200000000 n2o-ng 3420000000"
 OTHERS = {DELIVERY: BURNED, IN_MONTH_7: BURNED, AS_HOUR: "reason 3"}
 
 
+def anodes_of(co2):
+    return f"anodes fossil co2-ug {co2} ch4-ng 0 n2o-ng 0"
+
+
+# What a book may have once: who judges it by itself, and the words for its CO2.
+ONCE = {HOUR: (judge_hour, hour_of), ANODES: (judge_anodes, anodes_of)}
+
+
 def words_of(record, is_repeat, units):
-    """What stands behind the index of a record. The judge says it of an hour by itself; a record of
-    another kind, or with the readings of an hour where nothing is flagged, has a wrong form."""
-    if record[0] != HOUR:
+    """What stands behind the index of a record. One of another kind, or with the readings of an hour
+    where nothing is flagged, has a wrong form."""
+    if record[0] not in ONCE:
         return OTHERS.get(record, "reason 1")
-    told, number = judge_hour(record, b"".join(units))
+    judge, counted = ONCE[record[0]]
+    told, number = judge(record, b"".join(units))
     if told == "reason":
         return f"reason {number}"
-    return "reason 8" if is_repeat else hour_of(number)
+    return "reason 8" if is_repeat else counted(number)
 
 
 def judged(records, units):
-    """The same of all records. An earlier one counts as sent if its byte 0 is an hour's."""
+    """The same of all records. An earlier one of the same kind counts as sent whatever it holds."""
     before, told = set(), []
     for record in records:
-        named = record[2:4] + record[6:8]
+        named = record[:1] + record[2:4] + record[6:8]
         told.append(words_of(record, named in before, units))
-        if record[0] == HOUR:
-            before.add(named)
+        before.add(named)
     return told
 
 

@@ -1,5 +1,6 @@
 """Hours that were sent before: what the programs make of a unit and hour number that stand in an
 earlier record of the book, wherever it stands and whatever became of it."""
+import collections
 import itertools
 import struct
 
@@ -10,6 +11,10 @@ from program_model import UNMONITORED, WET, expect_by_model, judged, lines_of, r
 from program_runs import expect, expect_told
 
 NAN = struct.pack("<I", 0x7FC00000)
+
+# Records of a sort that a book may have once: rows of them and a stream, each with its reasons; what
+# makes one of a number, and another of the same number; and what the first gives the ledgers, in ng.
+Once = collections.namedtuple("Once", "name rows stream reasons make make_other masses")
 
 
 def sent(hour=7, unit=WET, moisture=0):
@@ -79,33 +84,39 @@ REPEATS = [
 STREAM = [sent(1), sent(1), small(2), sent(2), sent(1), unread(3), sent(3), stray(hour=4), sent(4),
           DELIVERY, sent(1), sent(5), unread(5), sent(1, UNMONITORED), sent(1, UNMONITORED),
           sent(1, UNLISTED), sent(1, UNLISTED), AS_HOUR, sent(7), sent(5, DRY), sent(1), sent(8)]
-STREAM_REASONS = "0808848180804552230080"
+HOURS = Once("hours", REPEATS, STREAM, "0808848180804552230080", sent, small,
+             (12_950_000_000_000_000, 0, 0, 0))
 
 
-def try_own_repeats(cases):
-    for name, records, reasons in [*REPEATS, ("one of each sort", STREAM, STREAM_REASONS)]:
-        with cases.case(f"the model of repeats says what is worked by hand: {name}"):
+def try_own_repeats(cases, once):
+    """The model against the reasons worked by hand."""
+    for name, records, reasons in [*once.rows, ("one of each sort", once.stream, once.reasons)]:
+        with cases.case(f"the model of {once.name} says what is worked by hand: {name}"):
             told = judged(records, LISTED)
             expect("".join(str(reason_in(words)) for words in told), reasons, "the reasons")
     for budget in BUDGETS[:-1]:
-        with cases.case(f"a wake of {budget} begins with a repeat where there is one of each sort"):
-            expect("8" in STREAM_REASONS[budget::budget], True, "that one does")
+        with cases.case(f"a wake of {budget} begins with a repeat among {once.name} of each sort"):
+            expect("8" in once.reasons[budget::budget], True, "that one does")
 
 
-def try_rows(programs, cases):
-    for name, records, reasons in REPEATS:
-        with cases.case(f"lines, annual and replay: {name}"):
+def try_rows(programs, cases, once):
+    for name, records, reasons in once.rows:
+        with cases.case(f"lines, annual and replay: {once.name}, {name}"):
             expect_by_model(programs, records)
         if reasons.lstrip("0").startswith("8"):
-            with cases.case(f"annual: {name}, in so many words"):
+            with cases.case(f"annual: {once.name}, {name}, in so many words"):
                 told = f"refused 41 record {reasons.index('8')} reason 8\n".encode()
                 expect_told(programs.run("annual", data=book(records, LISTED, FUELS)), told)
 
 
+def try_stream(programs, cases, once):
+    with cases.case(f"lines: {once.name} of each sort in one book"):
+        told = programs.run("lines", data=book(once.stream, LISTED, FUELS))
+        expect_told(told, lines_of(judged(once.stream, LISTED)))
+
+
 def try_repeat_book(programs, cases):
-    with cases.case("lines: repeats of each sort in one book"):
-        told = programs.run("lines", data=book(STREAM, LISTED, FUELS))
-        expect_told(told, lines_of(judged(STREAM, LISTED)))
+    try_stream(programs, cases, HOURS)
 
 
 def try_units(programs, cases):
@@ -154,7 +165,13 @@ def try_full_books(programs, cases):
         expect_by_model(programs, crowd())
 
 
+def try_once(programs, cases, once):
+    try_own_repeats(cases, once)
+    try_rows(programs, cases, once)
+    try_stream(programs, cases, once)
+
+
 def try_repeats(programs, cases):
-    try_own_repeats(cases)
-    for attempt in (try_rows, try_repeat_book, try_units, try_full_books):
-        attempt(programs, cases)
+    try_once(programs, cases, HOURS)
+    try_units(programs, cases)
+    try_full_books(programs, cases)

@@ -15,7 +15,7 @@ from program_lines import try_plant
 from program_low_heat import try_low_lines
 from program_repeats import try_repeat_book
 from program_replay import try_answers, try_heads
-from program_resent import try_resent_steps
+from program_resent import try_hour_steps
 from program_runs import Cases, Programs, Wrong, expect, memory_folder
 from program_wake import try_jobs
 from program_warming import try_warming_changes, try_warming_reports
@@ -103,7 +103,7 @@ WRONG = [
     ("wake", "it passes over an edited book",
      'cp "$2" "$3.book" 2>/dev/null; real "$@"', try_warming_changes),
     ("wake", "it keeps no copy", 'real "$@"; end=$?; rm "$3.book"; exit "$end"', try_jobs),
-    ("wake", "only the records of this wake are looked at", FORGETFUL, try_resent_steps),
+    ("wake", "only the records of this wake are looked at", FORGETFUL, try_hour_steps),
 ]
 # For the body of a stand-in: the real output goes through a command.
 SPOIL = """
