@@ -7,15 +7,17 @@ import pathlib
 import shlex
 
 from program_annual import try_reports, try_set_aside
+from program_anodes import try_anode_book
 from program_dry import try_dry_book
 from program_hours import try_hour_lines
 from program_jobs import plan_plant
 from program_kept import try_kept_answers
 from program_lines import try_plant
 from program_low_heat import try_low_lines
+from program_months import try_month_book
 from program_repeats import try_repeat_book
 from program_replay import try_answers, try_heads
-from program_resent import try_hour_steps
+from program_resent import try_anode_steps, try_hour_steps
 from program_runs import Cases, Programs, Wrong, expect, memory_folder
 from program_wake import try_jobs
 from program_warming import try_warming_changes, try_warming_reports
@@ -27,12 +29,18 @@ def with_set(number):
             'seek=$(($(wc -c <"$scratch/of") - 12)) status=none; real "$@" <"$scratch/of"')
 
 
-def counting_repeats(after=None):
+def counting_repeats(after=None, as_if="hour fossil co2-ug 12950000000000 ch4-ng 0 n2o-ng 0"):
     """For a body: a repeat counts as P7 does, whatever its readings; or only behind such a line."""
-    counted = "s/reason 8$/hour fossil co2-ug 12950000000000 ch4-ng 0 n2o-ng 0/"
+    counted = f"s/reason 8$/{as_if}/"
     return f"spoil sed '/{after}/{{n;{counted}}}'" if after else f"spoil sed '{counted}'"
 
 
+def with_anodes(words):
+    """For a body: what stands behind the index of the common anodes is this."""
+    return f"spoil sed 's/{ANODES}$/{words}/'"
+
+
+ANODES = "anodes fossil co2-ug 1513488480000000 ch4-ng 0 n2o-ng 0"
 # For a body: the real `wake` sees zeros in the place of the records that are done.
 FORGETFUL = """
 cp "$2" "$scratch/of"
@@ -45,6 +53,17 @@ end=$?
 cp "$scratch/of" "$2"
 cp "$2" "$3.book"
 exit "$end"
+"""
+# For a body: the impurities are added up before the real program sees them, so far as 16 bits hold
+# their sum, and all are sulphur.
+IN_16_BITS = """
+python3 -c '
+import struct, sys
+of = bytearray(sys.stdin.buffer.read())
+for at in range(0, struct.unpack_from("<I", of, len(of) - 24)[0], 32):
+    impurities = struct.unpack_from("<HHH", of, at + 16)
+    struct.pack_into("<HHH", of, at + 16, sum(impurities) % 65536, 0, 0)
+sys.stdout.buffer.write(of)' | real "$@"
 """
 # Each stand-in spoils one program's output, its end or its file. Its status stays the program's own
 # where that isn't the fault.
@@ -90,6 +109,29 @@ WRONG = [
      try_repeat_book),
     ("lines", "a repeat is told before its reading is judged",
      "spoil sed '/^record 12 /s/reason 4$/reason 8/'", try_repeat_book),
+    # 4,130,700,000,000 × 366.7, and 420,000,000 × 98.75 × 99.60 × 366.4.
+    ("lines", "the carbon of anodes becomes CO2 by 3.667", with_anodes(
+        "anodes fossil co2-ug 1514727690000000 ch4-ng 0 n2o-ng 0"), try_anode_book),
+    ("lines", "impurities are multiplied and not added", with_anodes(
+        "anodes fossil co2-ug 1513565424000000 ch4-ng 0 n2o-ng 0"), try_anode_book),
+    ("lines", "anodes are biomass", "spoil sed 's/anodes fossil/anodes biomass/'",
+     try_anode_book),
+    ("lines", "a mass of anodes is cut off", "spoil sed 's/co2-ug 733 /co2-ug 732 /'",
+     try_anode_book),
+    ("lines", "impurities are added in 16 bits", IN_16_BITS, try_anode_book),
+    ("lines", "anodes of a unit with a monitor give no CO2",
+     "spoil sed '/^record 0 /s/co2-ug [0-9]*/co2-ug 0/'", try_month_book),
+    ("lines", "anodes of a unit without a monitor are set aside",
+     "spoil sed '/^record 21 /s/anodes.*/reason 5/'", try_month_book),
+    ("lines", "a month of anodes is looked for by its unit alone",
+     "spoil sed '/^record 2 /s/anodes.*/reason 8/'", try_month_book),
+    ("lines", "an hour repeats anodes of the same numbers",
+     "spoil sed '/^record 4 /s/hour.*/reason 8/'", try_month_book),
+    ("lines", "anodes repeat an hour of the same numbers",
+     "spoil sed '/^record 24 /s/anodes.*/reason 8/'", try_month_book),
+    ("lines", "a month of anodes counts twice", counting_repeats(as_if=ANODES), try_month_book),
+    ("lines", "a month whose first anodes were set aside counts",
+     counting_repeats("reason 4$", ANODES), try_month_book),
     ("replay", "it says nothing", "spoil true", try_answers),
     ("replay", "a wrong head is no failure", 'real "$@"; exit 0', try_heads),
     ("replay", "a wrong head isn't told", 'real "$@" 2>/dev/null', try_heads),
@@ -103,7 +145,8 @@ WRONG = [
     ("wake", "it passes over an edited book",
      'cp "$2" "$3.book" 2>/dev/null; real "$@"', try_warming_changes),
     ("wake", "it keeps no copy", 'real "$@"; end=$?; rm "$3.book"; exit "$end"', try_jobs),
-    ("wake", "only the records of this wake are looked at", FORGETFUL, try_hour_steps),
+    ("wake", "only the hours of this wake are looked at", FORGETFUL, try_hour_steps),
+    ("wake", "only the anodes of this wake are looked at", FORGETFUL, try_anode_steps),
 ]
 # For the body of a stand-in: the real output goes through a command.
 SPOIL = """
