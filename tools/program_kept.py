@@ -5,7 +5,7 @@ from program_jobs import ALL, Plan, job_on
 from program_runs import ROOT, expect, expect_told
 
 FOLDER = ROOT / "tools/kept"
-NAMES = ("biomass", "dry-hours", "empty", "hours", "low-heats", "methods", "reasons")
+NAMES = ("anodes", "biomass", "dry-hours", "empty", "hours", "low-heats", "methods", "reasons")
 STEP = 3  # records of a wake, which divides the number of some books' records and not of others
 
 Kept = collections.namedtuple("Kept", "book annual lines checkpoint")
