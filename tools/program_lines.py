@@ -2,8 +2,8 @@
 import struct
 
 from program_annual import BOOKS, ONE, try_failures, try_usage
-from program_books import book, fuel_line, fuel_record, hour_record, masses_of, pad, patch, report
-from program_books import trailer, unit_line
+from program_books import anodes_record, book, fuel_line, fuel_record, hour_record, masses_of, pad
+from program_books import patch, report, trailer, unit_line
 from program_runs import PLANT, ROOT, expect, expect_told
 
 # Unit 1 is at the limit of default heats, 2 is past it, 3 has a monitor, and 5 one of dry gas.
@@ -14,7 +14,7 @@ FUELS = [fuel_line(1), fuel_line(2, fuel_class=0), fuel_line(3, 1, 3, 17500, 950
          fuel_line(4, heat=0), fuel_line(6, 2, 2)]
 
 # Each record with what stands behind its index. Masses: amount × heat × factor, amount × carbon ×
-# 3,664, and 518 × R.
+# 3,664, 518 × R, and metal × use × (10,000 − impurities) × 366.4.
 FORMS = [
     ("P1", fuel_record(),
      "method 1 fossil co2-ug 1900000000000 ch4-ng 34200000000 n2o-ng 3420000000"),
@@ -37,6 +37,7 @@ FORMS = [
     ("wood", fuel_record(fuel=3),
      "method 1 biomass co2-ug 1662500000000 ch4-ng 525000000000 n2o-ng 70000000000"),
     ("an amount of 0", fuel_record(0), "method 1 fossil co2-ug 0 ch4-ng 0 n2o-ng 0"),
+    ("anodes", anodes_record(), "anodes fossil co2-ug 1513488480000000 ch4-ng 0 n2o-ng 0"),
     ("zeros", pad(b""), "reason 1"),
     ("an unlisted unit", fuel_record(unit=4), "reason 2"),
     ("an unlisted fuel", fuel_record(fuel=5), "reason 3"),
