@@ -80,11 +80,11 @@ static void write_fuel(uint8_t *l, enum mix mix, size_t i)
 static void write_burned(uint8_t *l, size_t unit, size_t fuel, uint64_t *row)
 {
     uint32_t flags = draw(row, 4) | (is_big(unit) ? 2 : 0);
-    write(l, 1, 1);
+    write(l, FUEL, 1);
     write(l + 1, flags, 1);
     write(l + 2, number_of(unit), 2);
     write(l + 4, number_of(fuel), 2);
-    write(l + 6, 1 + draw(row, 12), 2);
+    write(l + 6, 1 + draw(row, LAST_MONTH), 2);
     write(l + 8, draw(row, 100000001), 4);
     if (flags & 1)
         write(l + 12, 1 + draw(row, 200000), 4);
@@ -101,7 +101,7 @@ static void write_low(uint8_t *l, size_t unit, size_t fuel, uint64_t *row)
 
 static void write_hour(uint8_t *l, size_t unit, uint64_t *row)
 {
-    write(l, 2, 1);
+    write(l, HOUR, 1);
     write(l + 2, number_of(unit), 2);
     write(l + 6, 1 + draw(row, LAST_HOUR), 2);
     write_single(l + 8, (float)draw(row, 100001) / 1000.0f);
@@ -129,7 +129,7 @@ static void write_record(uint8_t *l, const struct recipe *recipe, size_t unit, u
 
 static bool is_of_one_unit(const uint8_t *l, const uint8_t *m)
 {
-    return l[0] == 2 && m[0] == 2 && memcmp(l + 2, m + 2, 2) == 0;
+    return l[0] == HOUR && m[0] == HOUR && memcmp(l + 2, m + 2, 2) == 0;
 }
 
 static bool is_repeated(struct bytes *b, size_t i)
@@ -236,7 +236,7 @@ void write_readings(struct bytes *b, size_t i, const struct hour *hour)
 {
     uint8_t *l = line(b, i);
     memset(l, 0, BOOK_LINE);
-    write(l, 2, 1);
+    write(l, HOUR, 1);
     write(l + 2, number_of(hour->unit), 2);
     write(l + 6, hour->number, 2);
     write(l + 8, hour->percent_bits, 4);

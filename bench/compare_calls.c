@@ -105,9 +105,9 @@ uint64_t compare_left(const struct bytes *b, const char *name, const struct out 
 /* A record that counts, by what it has. */
 static void count_record(const uint8_t *l, uint64_t reply)
 {
-    if (l[0] == 1 && (l[1] & 4) != 0)
+    if (l[0] == FUEL && (l[1] & 4) != 0)
         lows[wetherstep_method(reply)]++;
-    if (l[0] == 2 && (l[16] | l[17]) != 0)
+    if (l[0] == HOUR && (l[16] | l[17]) != 0)
         moist++;
 }
 

@@ -35,7 +35,8 @@ static const uint8_t *line(const struct bytes *b, size_t i)
 
 static bool is_one_hour(const uint8_t *l, const uint8_t *m)
 {
-    return l[0] == 2 && m[0] == 2 && l[2] == m[2] && l[3] == m[3] && l[6] == m[6] && l[7] == m[7];
+    return l[0] == HOUR && m[0] == HOUR && l[2] == m[2] && l[3] == m[3] && l[6] == m[6] &&
+           l[7] == m[7];
 }
 
 /* Works `due` out. */

@@ -185,8 +185,8 @@ static void time_wakes(struct bytes *b)
         }
 }
 
-/* A wake of one record, the last of its kind, which is 1 for fuel and 2 for an hour. Fuel asks for
-   nothing that stands before it, and an hour for nearly a whole book. */
+/* A wake of one record, the last of its kind. Fuel asks for nothing that stands before it, and an
+   hour for nearly a whole book. */
 static void time_last(struct bytes *b, const struct recipe *recipe, uint8_t kind)
 {
     struct job job = begin(b, recipe);
@@ -199,7 +199,7 @@ static void time_last(struct bytes *b, const struct recipe *recipe, uint8_t kind
         return;
     plain_wake(b->book, b->length, fresh.start, SIZE, i - 1, job.start, SIZE);
     job.budget = 1;
-    snprintf(name, sizeof name, "%s, %s", kind == 1 ? "fuel" : "an hour", recipe->name);
+    snprintf(name, sizeof name, "%s, %s", kind == FUEL ? "fuel" : "an hour", recipe->name);
     row(name, i - 1, measure(do_one_wake, &job), 1);
 }
 
@@ -207,7 +207,7 @@ static void time_lasts(struct bytes *b)
 {
     head("one record, so many before it", "ns/wake");
     for (int i = 0; i < BOOKS; i++)
-        for (uint8_t kind = 1; kind <= 2 && is_woken(&books[i]); kind++)
+        for (uint8_t kind = FUEL; kind <= HOUR && is_woken(&books[i]); kind++)
             time_last(b, &books[i], kind);
 }
 

@@ -32,13 +32,13 @@ uint64_t plain_record(const uint8_t *book, size_t book_len, uint32_t index, uint
     if (index >= k.n)
         return reply(0, 0, 255, 0);
     const uint8_t *l = book + index * LINE;
-    unsigned reason = l[0] == 1   ? judge_fuel(&k, l, &sums)
-                      : l[0] == 2 ? judge_hour(&k, l, &past, &sums)
-                                  : 1;
+    unsigned reason = l[0] == FUEL   ? judge_fuel(&k, l, &sums)
+                      : l[0] == HOUR ? judge_hour(&k, l, &past, &sums)
+                                     : 1;
     if (reason != 0)
         return reply(0, reason, 0, 0);
     masses[0] = (uint64_t)(sums.co2[0] + sums.co2[1]);
     masses[1] = (uint64_t)sums.ch4;
     masses[2] = (uint64_t)sums.n2o;
-    return l[0] == 1 ? tell_fuel(&k, l) : reply(0, 0, 0, 1);
+    return l[0] == FUEL ? tell_fuel(&k, l) : reply(0, 0, 0, 1);
 }

@@ -60,7 +60,7 @@ static inline bool mark_hour(struct past *past, uint32_t i, uint32_t hour)
 static void mark(struct past *past, const struct book *k, const uint8_t *l)
 {
     uint32_t hour = read16(l + 6);
-    if (l[0] != 2 || !in_range(hour, 1, LAST_HOUR))
+    if (l[0] != HOUR || !in_range(hour, 1, LAST_HOUR))
         return;
     uint32_t i = find(k->unit_number, k->units, read16(l + 2));
     if (i < k->units && k->unit[i].monitored)
@@ -81,7 +81,7 @@ static void mark_before(struct past *past, const struct book *k, const uint8_t *
     bool asks_for_all = l - k->records < past->end - l;
     memset(asked, asks_for_all ? 255 : 0, sizeof asked);
     for (const uint8_t *m = l; !asks_for_all && m < past->end; m += LINE)
-        asked[hash(m) / 64] |= (uint64_t)(m[0] == 2) << hash(m) % 64;
+        asked[hash(m) / 64] |= (uint64_t)(m[0] == HOUR) << hash(m) % 64;
     for (const uint8_t *m = k->records; m < l; m += LINE)
         if (asked[hash(m) / 64] >> hash(m) % 64 & 1)
             mark(past, k, m);
@@ -91,7 +91,7 @@ static bool has_few_hours(const uint8_t *l, const uint8_t *end)
 {
     int hours = 0;
     for (; l < end && hours <= FEW; l += LINE)
-        hours += l[0] == 2;
+        hours += l[0] == HOUR;
     return hours <= FEW;
 }
 

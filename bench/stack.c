@@ -71,7 +71,7 @@ static void call_last(void)
 static void call_fuel(void)
 {
     for (size_t i = 0; i < book->records; i++)
-        if (book->book[BOOK_LINE * i] == 2)
+        if (book->book[BOOK_LINE * i] == HOUR)
             return;
     wake_from(none);
 }
