@@ -1,0 +1,23 @@
+/* The lines of the bench's books, one at a time. A line is all zeros before it is written. */
+#ifndef BOOK_LINES_H
+#define BOOK_LINES_H
+
+#include "books.h"
+
+/* A little-endian number of so many bytes. */
+void put(uint8_t *at, uint64_t value, size_t bytes);
+
+/* The number of unit or fuel i. There are gaps, so that a look-up can't be an index. */
+uint32_t number_of(size_t i);
+
+void write_unit(uint8_t *l, enum mix mix, size_t i);
+void write_fuel(uint8_t *l, enum mix mix, size_t i);
+
+/* Records that count, with numbers drawn from `row`. */
+void write_burned(uint8_t *l, size_t unit, size_t fuel, uint64_t *row);
+void write_hour(uint8_t *l, size_t unit, uint64_t *row);
+
+/* A record of this unit by the recipe. */
+void write_record(uint8_t *l, const struct recipe *recipe, size_t unit, uint64_t *row);
+
+#endif
