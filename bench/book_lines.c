@@ -97,12 +97,29 @@ static void write_dry(uint8_t *l, size_t unit, uint64_t *row)
     put(l + 16, draw(row, 1001), 2);
 }
 
+/* Impurities of up to 33.33 percent each are under 100 together. */
+void write_monthly(uint8_t *l, size_t units, size_t i, uint64_t *row)
+{
+    put(l, ANODES, 1);
+    put(l + 2, number_of(i % units), 2);
+    put(l + 6, 1 + i / units % LAST_MONTH, 2);
+    put(l + 8, draw(row, 100000001), 4);
+    put(l + 12, draw(row, 1001), 4);
+    for (size_t at = 16; at < 22; at += 2)
+        put(l + at, draw(row, 3334), 2);
+}
+
+static bool is_mixed(enum mix mix)
+{
+    return mix == MIXED || mix == SMELTER;
+}
+
 void write_record(uint8_t *l, const struct recipe *recipe, size_t unit, uint64_t *row)
 {
     enum mix mix = recipe->mix;
     if (mix == DRY_HOURS)
         write_dry(l, unit, row);
-    else if (has_hours_alone(mix) || (mix == MIXED && is_monitored(mix, unit) && draw(row, 2)))
+    else if (has_hours_alone(mix) || (is_mixed(mix) && is_monitored(mix, unit) && draw(row, 2)))
         write_hour(l, unit, row);
     else if (mix == LOW_HEATS)
         write_low(l, unit, draw(row, (uint32_t)recipe->fuels), row);

@@ -60,6 +60,33 @@ static void number_hour(struct bytes *b, size_t i, enum mix mix, uint64_t *row)
         write_again(b, i, row);
 }
 
+/* How many records are anodes. */
+static size_t count_anodes(const struct recipe *recipe, size_t records)
+{
+    const size_t year = LAST_MONTH * recipe->units, half = records / 2;
+    if (recipe->mix == ALL_ANODES)
+        return records;
+    if (recipe->mix != SMELTER)
+        return 0;
+    return year < half ? year : half;
+}
+
+/* Any places that are left are as likely as any others to be those of the anodes left. */
+static void write_records(struct bytes *b, const struct recipe *recipe)
+{
+    const size_t n = b->records, anodes = count_anodes(recipe, n);
+    uint64_t row = 1;
+    for (size_t i = 0, before = 0; i < n; i++) {
+        if (before < anodes && draw(&row, (uint32_t)(n - i)) < anodes - before) {
+            write_monthly(line(b, i), recipe->units, before++, &row);
+            continue;
+        }
+        size_t unit = draw(&row, (uint32_t)recipe->units);
+        write_record(line(b, i), recipe, unit, &row);
+        number_hour(b, i, recipe->mix, &row);
+    }
+}
+
 /* Where the unit lines and the fuel lines start. */
 static void write_starts(struct bytes *b)
 {
@@ -72,16 +99,11 @@ void make_book(struct bytes *b, const struct recipe *recipe)
 {
     const size_t rest = recipe->units + recipe->fuels + 1;
     const size_t n = recipe->records ? recipe->records : LONGEST_BOOK / BOOK_LINE - rest;
-    uint64_t row = 1;
     memset(b, 0, sizeof *b);
     b->records = n;
     b->units = recipe->units;
     b->length = BOOK_LINE * (n + rest);
-    for (size_t i = 0; i < n; i++) {
-        size_t unit = draw(&row, (uint32_t)recipe->units);
-        write_record(line(b, i), recipe, unit, &row);
-        number_hour(b, i, recipe->mix, &row);
-    }
+    write_records(b, recipe);
     for (size_t i = 0; i < recipe->units; i++)
         write_unit(line(b, n + i), recipe->mix, i);
     for (size_t i = 0; i < recipe->fuels; i++)

@@ -7,12 +7,24 @@
 
 enum { LONGEST_BOOK = 65536, BOOK_LINE = 32, WARMING_SETS = 2, LAST_HOUR = 8784, LAST_MONTH = 12 };
 enum { YEAR_AT = 16, SET_AT = 20 }; /* bytes of the trailer */
-enum { FUEL = 1, HOUR = 2 }; /* kinds of records, in byte 0 */
+enum { FUEL = 1, HOUR = 2, ANODES = 4 }; /* kinds of records, in byte 0 */
 
 /* LOW_HEATS: natural gas by its low value. DRY_HOURS: of units that measure dry gas. RISING_HOURS:
    each unit's rise by one, where others are in any order. REPEATED_HOURS: every second record has
-   an hour that stands before, one line up or anywhere, with its readings or with others. */
-enum mix { MIXED, ALL_FUEL, LOW_HEATS, ALL_HOURS, DRY_HOURS, RISING_HOURS, REPEATED_HOURS };
+   an hour that stands before, one line up or anywhere, with its readings or with others.
+   ALL_ANODES: month by month those of all units, and after the last month the same year anew.
+   SMELTER: such a year, at most half of the records, in any places of a mixed book. */
+enum mix {
+    MIXED,
+    ALL_FUEL,
+    LOW_HEATS,
+    ALL_HOURS,
+    DRY_HOURS,
+    RISING_HOURS,
+    REPEATED_HOURS,
+    ALL_ANODES,
+    SMELTER
+};
 
 struct recipe {
     const char *name;
@@ -28,7 +40,7 @@ struct bytes {
 /* A number below `limit`, the next of a fixed row. */
 uint32_t draw(uint64_t *row, uint32_t limit);
 
-/* A sound book, every record of which counts unless it repeats an hour by its recipe. It has the
+/* A sound book, every record of which counts unless it repeats another by its recipe. It has the
    first set of warming values. */
 void make_book(struct bytes *b, const struct recipe *recipe);
 
