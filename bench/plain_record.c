@@ -25,16 +25,14 @@ uint64_t plain_record(const uint8_t *book, size_t book_len, uint32_t index, uint
 {
     struct book k;
     struct sums sums = {{0, 0}, 0, 0};
-    struct past past = {LINE_BY_LINE, NULL, NULL, 0};
+    struct past past = {LINE_BY_LINE, NULL, NULL};
     unsigned refused = open_book(&k, book, book_len);
     if (refused != 0)
         return reply(refused, 0, 0, 0);
     if (index >= k.n)
         return reply(0, 0, 255, 0);
     const uint8_t *l = book + index * LINE;
-    unsigned reason = l[0] == FUEL   ? judge_fuel(&k, l, &sums)
-                      : l[0] == HOUR ? judge_hour(&k, l, &past, &sums)
-                                     : 1;
+    unsigned reason = judge(&k, l, &past, &sums);
     if (reason != 0)
         return reply(0, reason, 0, 0);
     masses[0] = (uint64_t)(sums.co2[0] + sums.co2[1]);
