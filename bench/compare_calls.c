@@ -111,7 +111,7 @@ static void count_record(const uint8_t *l, uint64_t reply)
         moist++;
 }
 
-uint64_t compare_record(const struct bytes *b, const char *name, uint32_t index)
+struct look compare_record(const struct bytes *b, const char *name, uint32_t index)
 {
     uint64_t one[5] = {9, 9, 9, 9, 9}, two[5] = {9, 9, 9, 9, 9};
     uint64_t library = wetherstep_record(b->book, b->length, index, one);
@@ -120,7 +120,7 @@ uint64_t compare_record(const struct bytes *b, const char *name, uint32_t index)
     if (wetherstep_number(plain) == 0 && wetherstep_reason(plain) == 0 &&
         wetherstep_method(plain) != WETHERSTEP_NO_RECORD)
         count_record(b->book + BOOK_LINE * index, plain);
-    return plain;
+    return (struct look){plain, {two[0], two[1], two[2]}};
 }
 
 /* What each call has to have answered. */

@@ -21,12 +21,18 @@ struct out compare_fresh(const struct bytes *b, const char *name, size_t out_len
 uint32_t compare_wake(const struct bytes *b, const char *name, struct out *from, size_t from_len,
                       uint32_t budget, size_t out_len);
 
+/* What a look at a record gives: the reply, and the masses of a record that counts. */
+struct look {
+    uint64_t reply, masses[WETHERSTEP_MASSES];
+};
+
+struct look compare_record(const struct bytes *b, const char *name, uint32_t index);
+
 /* These give back the reply. */
 uint64_t compare_report(const struct bytes *b, const char *name, const struct out *from,
                         size_t from_len);
 uint64_t compare_left(const struct bytes *b, const char *name, const struct out *from,
                       size_t from_len);
-uint64_t compare_record(const struct bytes *b, const char *name, uint32_t index);
 
 /* Says how many calls were compared, and stops unless each call gave every number, reason, method
    and ledger that it can, reports each decision under each set of warming values, records with a

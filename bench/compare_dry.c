@@ -38,7 +38,7 @@ static uint32_t bits_of(float value)
 static unsigned compare_hour(const struct bytes *b)
 {
     struct out at = compare_fresh(b, one_hour.name, SIZE);
-    unsigned reason = wetherstep_reason(compare_record(b, one_hour.name, 0));
+    unsigned reason = wetherstep_reason(compare_record(b, one_hour.name, 0).reply);
     compare_wake(b, one_hour.name, &at, SIZE, 1, SIZE);
     compare_report(b, one_hour.name, &at, SIZE);
     return reason;

@@ -12,9 +12,14 @@
 #include <stdlib.h>
 #include <string.h>
 
-enum { REASONS = 9, MOST_RECORDS = LONGEST_BOOK / BOOK_LINE, LEDGERS_AT = 16, DRAWN_WAKES = 12 };
+enum { REASONS = 9, MOST_RECORDS = LONGEST_BOOK / BOOK_LINE, DRAWN_WAKES = 12 };
+enum { LEDGERS_AT = 16, LEDGER_SIZE = 16, FOSSIL = 0, BIOMASS, CH4, N2O, LEDGERS };
 
-/* Of each record: its reason; and the checkpoints, the fresh one first. */
+typedef unsigned __int128 wide;
+
+/* Of each record: what it gives as the only one of its book, and its reason; and the checkpoints,
+   the fresh one first. */
+static struct look alone[MOST_RECORDS];
 static unsigned due[MOST_RECORDS];
 static struct out reached[MOST_RECORDS + 1];
 
@@ -39,17 +44,18 @@ static bool is_one_hour(const uint8_t *l, const uint8_t *m)
            l[7] == m[7];
 }
 
-/* Works `due` out. */
+/* Works `alone` and `due` out. */
 static void expect(const struct bytes *b, const char *name)
 {
-    static struct bytes alone;
+    static struct bytes single;
     for (size_t i = 0; i < b->records; i++) {
         unsigned met = 0;
         for (size_t j = 0; j < i; j++)
             if (is_one_hour(line(b, i), line(b, j)))
                 met |= 1u << due[j];
-        take_record(&alone, b, i);
-        due[i] = wetherstep_reason(compare_record(&alone, name, 0));
+        take_record(&single, b, i);
+        alone[i] = compare_record(&single, name, 0);
+        due[i] = wetherstep_reason(alone[i].reply);
         lower[due[i]] += met != 0 && due[i] != 0;
         if (met == 0 || due[i] != 0)
             continue;
@@ -66,7 +72,45 @@ static uint32_t field(const struct out *at, size_t place)
     return value;
 }
 
-/* Goes through the book by wakes of one record, each held against `due`. */
+/* A look at a record that counts is as if it were the only one. */
+static void see_look(const struct bytes *b, const char *name, size_t i)
+{
+    const struct look look = compare_record(b, name, (uint32_t)i);
+    if (wetherstep_reason(look.reply) != due[i])
+        stop_at(name, "the reason", i);
+    if (due[i] == 0 && memcmp(&look, &alone[i], sizeof look) != 0)
+        stop_at(name, "a mass", i);
+}
+
+/* Whether a ledger has risen by so many ng, and has tonnes and what is left of one. */
+static bool has_risen(const struct out *from, const struct out *to, size_t ledger, wide ng)
+{
+    static const uint64_t tonne = 1000000000000000;
+    uint64_t before[2], after[2];
+    memcpy(before, from->bytes + LEDGERS_AT + LEDGER_SIZE * ledger, sizeof before);
+    memcpy(after, to->bytes + LEDGERS_AT + LEDGER_SIZE * ledger, sizeof after);
+    const wide total = (wide)before[0] * tonne + before[1] + ng;
+    return after[0] == total / tonne && after[1] == total % tonne;
+}
+
+/* A record that counts adds its masses, CO2 to its own ledger, and any other nothing. */
+static void see_ledgers(const char *name, size_t i)
+{
+    wide added[LEDGERS] = {0};
+    if (due[i] == 0) {
+        const unsigned ledger = wetherstep_ledger(alone[i].reply);
+        if (ledger != WETHERSTEP_LEDGER_NONE)
+            added[ledger == WETHERSTEP_LEDGER_FOSSIL ? FOSSIL : BIOMASS] =
+                (wide)1000 * alone[i].masses[WETHERSTEP_MASS_CO2];
+        added[CH4] = alone[i].masses[WETHERSTEP_MASS_CH4];
+        added[N2O] = alone[i].masses[WETHERSTEP_MASS_N2O];
+    }
+    for (size_t g = 0; g < LEDGERS; g++)
+        if (!has_risen(&reached[i], &reached[i + 1], g, added[g]))
+            stop_at(name, "a ledger after the wake", i);
+}
+
+/* Goes through the book by wakes of one record, each held against `alone` and `due`. */
 static void reach(const struct bytes *b, const char *name)
 {
     uint32_t aside = 0, first = 0, reason = 0;
@@ -78,11 +122,11 @@ static void reach(const struct bytes *b, const char *name)
             reason = due[i];
         }
         *at = reached[i];
-        if (wetherstep_reason(compare_record(b, name, (uint32_t)i)) != due[i])
-            stop_at(name, "the reason", i);
+        see_look(b, name, i);
         if (compare_wake(b, name, at, SIZE, 1, SIZE) != 1 || field(at, 0) != i + 1 ||
             field(at, 4) != aside || field(at, 8) != first || field(at, REASON_AT) != reason)
             stop_at(name, "the checkpoint", i);
+        see_ledgers(name, i);
         compare_report(b, name, at, SIZE);
     }
 }
@@ -110,25 +154,11 @@ static void compare_budgets(const struct bytes *b, const char *name, uint64_t *r
     }
 }
 
-/* Repeats add nothing: the ledgers are the same where each has byte 0 = 0. The hour that they repeat
-   stays, so that no other record is judged otherwise. */
-static void compare_without(struct bytes *b, const char *name)
-{
-    for (size_t i = 0; i < b->records; i++)
-        if (due[i] == REPEATED)
-            b->book[BOOK_LINE * i] = 0;
-    struct out at = reached[0], *last = &reached[b->records];
-    compare_wake(b, name, &at, SIZE, UINT32_MAX, SIZE);
-    if (memcmp(at.bytes + LEDGERS_AT, last->bytes + LEDGERS_AT, SIZE - LEDGERS_AT) != 0)
-        stop_at(name, "the last checkpoint", b->records);
-}
-
-void compare_modelled(struct bytes *b, const char *name, uint64_t *row)
+void compare_modelled(const struct bytes *b, const char *name, uint64_t *row)
 {
     expect(b, name);
     reach(b, name);
     compare_budgets(b, name, row);
-    compare_without(b, name);
 }
 
 unsigned reason_due(size_t i)
