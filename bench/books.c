@@ -147,6 +147,13 @@ void write_flags(struct bytes *b, size_t unit, uint32_t flags)
     put(line(b, b->records + unit) + 2, flags, 1);
 }
 
+void write_unit_sorts(struct bytes *b)
+{
+    static const uint8_t flags[UNLISTED] = {[NO_MONITOR] = 0, [WET] = 1, [DRY] = 3};
+    for (size_t unit = 0; unit < UNLISTED; unit++)
+        write_flags(b, unit, flags[unit]);
+}
+
 void write_readings(struct bytes *b, size_t i, const struct hour *hour)
 {
     uint8_t *l = line(b, i);

@@ -58,6 +58,12 @@ void write_heat(struct bytes *b, size_t i, size_t unit, size_t fuel, uint32_t fl
 /* A unit gets these flags, right or not. */
 void write_flags(struct bytes *b, size_t unit, uint32_t flags);
 
+/* Units that a record may name. */
+enum unit_sort { NO_MONITOR, WET, DRY, UNLISTED, UNIT_SORTS };
+
+/* The three units of a book become one of each sort; the next number isn't listed. */
+void write_unit_sorts(struct bytes *b);
+
 /* What an hour holds, right or not: readings by their patterns, moisture in tenths of a percent. A
    unit past the last isn't listed. */
 struct hour {

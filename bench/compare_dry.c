@@ -12,17 +12,14 @@
 
 enum { DRAWN = 20000 };
 
-/* The units of the book, and one past the last. */
-enum sort { NO_MONITOR, WET, DRY, UNLISTED, SORTS };
-
-static const char *const sorts[SORTS] = {"without a monitor", "wet", "dry", "unlisted"};
+static const char *const sorts[UNIT_SORTS] = {"without a monitor", "wet", "dry", "unlisted"};
 static const struct recipe one_hour = {"hours", ALL_HOURS, 1, UNLISTED, 0};
 
 static const uint32_t moistures[] = {0, 1, 500, 999, 1000, 1001, 65535};
 enum { MOISTURES = sizeof moistures / sizeof *moistures };
 
 /* The reasons that hours had, by unit and moisture: bit 0 is set if one counted. */
-static unsigned met[SORTS][MOISTURES];
+static unsigned met[UNIT_SORTS][MOISTURES];
 
 /* Hours at the edges, set aside and not; drawn halves of R, by whether the even number is above. */
 static unsigned long judged[2], halves[2];
@@ -44,7 +41,7 @@ static unsigned compare_hour(const struct bytes *b)
     return reason;
 }
 
-static void compare_edge(const struct bytes *b, enum sort sort, size_t m)
+static void compare_edge(const struct bytes *b, enum unit_sort sort, size_t m)
 {
     unsigned reason = compare_hour(b);
     met[sort][m] |= 1u << reason;
@@ -52,7 +49,7 @@ static void compare_edge(const struct bytes *b, enum sort sort, size_t m)
 }
 
 /* Zeros, subnormals, halves of R under some of the multiples, limits and what is beyond them. */
-static void compare_readings(struct bytes *b, enum sort sort, size_t m)
+static void compare_readings(struct bytes *b, enum unit_sort sort, size_t m)
 {
     static const uint32_t percents[] = {
         0x00000000, 0x80000000, 0x00000001, 0x007fffff, 0x3d800000 /* 0.0625 */,
@@ -73,7 +70,7 @@ static void compare_readings(struct bytes *b, enum sort sort, size_t m)
 }
 
 /* Numbers about the ends of their range, and each byte that has to be 0 on every unit. */
-static void compare_bytes(struct bytes *b, enum sort sort, size_t m)
+static void compare_bytes(struct bytes *b, enum unit_sort sort, size_t m)
 {
     static const uint32_t numbers[] = {0, 1, 8784, 8785, 65535};
     for (size_t i = 0; i < sizeof numbers / sizeof *numbers; i++) {
@@ -108,10 +105,8 @@ static void compare_halves(struct bytes *b)
 void compare_dry(struct bytes *b)
 {
     make_book(b, &one_hour);
-    write_flags(b, NO_MONITOR, 0);
-    write_flags(b, WET, 1);
-    write_flags(b, DRY, 3);
-    for (enum sort sort = 0; sort < SORTS; sort++)
+    write_unit_sorts(b);
+    for (enum unit_sort sort = 0; sort < UNIT_SORTS; sort++)
         for (size_t m = 0; m < MOISTURES; m++) {
             compare_readings(b, sort, m);
             compare_bytes(b, sort, m);
@@ -120,7 +115,7 @@ void compare_dry(struct bytes *b)
 }
 
 /* Every hour above has one of these reasons, and each of them is some hour's. */
-static unsigned due(enum sort sort, uint32_t moisture)
+static unsigned due(enum unit_sort sort, uint32_t moisture)
 {
     enum { COUNTS = 1 << 0, FORM = 1 << 1, UNIT = 1 << 2, RANGE = 1 << 4, MONITOR = 1 << 5 };
     if (sort == UNLISTED)
@@ -134,7 +129,7 @@ static unsigned due(enum sort sort, uint32_t moisture)
 
 void tell_dry(void)
 {
-    for (enum sort sort = 0; sort < SORTS; sort++)
+    for (enum unit_sort sort = 0; sort < UNIT_SORTS; sort++)
         for (size_t m = 0; m < MOISTURES; m++)
             if (met[sort][m] != due(sort, moistures[m])) {
                 printf("hours of a unit that is %s, with moisture %u, have reasons %#x, not %#x\n",

@@ -11,9 +11,6 @@
 
 enum { DRAWN = 10000 };
 
-/* The units of a small book, and one past the last. */
-enum unit { NO_MONITOR, WET, DRY, UNLISTED, UNITS };
-
 /* How an hour differs from a sound one. */
 enum fault { NO_FAULT, STRAY_BYTE, MOISTURE, NO_NUMBER, FAULTS };
 
@@ -22,9 +19,7 @@ static void make_small(struct bytes *b, enum mix mix, size_t records)
 {
     const struct recipe recipe = {"small", mix, records, UNLISTED, 4};
     make_book(b, &recipe);
-    write_flags(b, NO_MONITOR, 0);
-    write_flags(b, WET, 1);
-    write_flags(b, DRY, 3);
+    write_unit_sorts(b);
 }
 
 /* An hour of 12.5 percent and 2,000,000 scf/h, but for its fault. */
@@ -96,7 +91,7 @@ enum { NUMBERS = sizeof numbers / sizeof *numbers };
 
 static void compare_sorts(struct bytes *b, uint64_t *row)
 {
-    for (enum unit unit = 0; unit < UNITS; unit++)
+    for (enum unit_sort unit = 0; unit < UNIT_SORTS; unit++)
         for (size_t i = 0; i < NUMBERS; i++)
             for (enum fault fault = 0; fault < FAULTS; fault++) {
                 const struct sort sort = {unit, numbers[i], fault};
@@ -108,7 +103,7 @@ static void compare_sorts(struct bytes *b, uint64_t *row)
 /* An hour of few, so that most stand before; some are no hours, and some lines stay as they are. */
 static void draw_record(struct bytes *b, size_t i, uint64_t *row)
 {
-    const uint32_t unit = draw(row, UNITS), number = draw(row, NUMBERS);
+    const uint32_t unit = draw(row, UNIT_SORTS), number = draw(row, NUMBERS);
     const uint32_t fault = draw(row, 2 * FAULTS);
     if (draw(row, 4) == 0)
         return;
