@@ -97,16 +97,26 @@ static void write_dry(uint8_t *l, size_t unit, uint64_t *row)
     put(l + 16, draw(row, 1001), 2);
 }
 
+void write_anodes(uint8_t *l, const struct anodes *anodes)
+{
+    put(l, ANODES, 1);
+    put(l + 2, number_of(anodes->unit), 2);
+    put(l + 6, anodes->month, 2);
+    put(l + 8, anodes->metal, 4);
+    put(l + 12, anodes->use, 4);
+    for (size_t i = 0; i < 3; i++)
+        put(l + 16 + 2 * i, anodes->impurities[i], 2);
+}
+
 /* Impurities of up to 33.33 percent each are under 100 together. */
 void write_monthly(uint8_t *l, size_t units, size_t i, uint64_t *row)
 {
-    put(l, ANODES, 1);
-    put(l + 2, number_of(i % units), 2);
-    put(l + 6, 1 + i / units % LAST_MONTH, 2);
-    put(l + 8, draw(row, 100000001), 4);
-    put(l + 12, draw(row, 1001), 4);
-    for (size_t at = 16; at < 22; at += 2)
-        put(l + at, draw(row, 3334), 2);
+    struct anodes anodes = {.unit = i % units, .month = 1 + (uint32_t)(i / units) % LAST_MONTH};
+    anodes.metal = draw(row, 100000001);
+    anodes.use = draw(row, 1001);
+    for (size_t j = 0; j < 3; j++)
+        anodes.impurities[j] = draw(row, 3334);
+    write_anodes(l, &anodes);
 }
 
 static bool is_mixed(enum mix mix)

@@ -17,8 +17,11 @@ void write_fuel(uint8_t *l, enum mix mix, size_t i);
 void write_burned(uint8_t *l, size_t unit, size_t fuel, uint64_t *row);
 void write_hour(uint8_t *l, size_t unit, uint64_t *row);
 
-/* Those of place i in a year that goes month by month, and in each through all units. */
+/* Anodes that count: place i of a year that goes month by month, and in each through all units. */
 void write_monthly(uint8_t *l, size_t units, size_t i, uint64_t *row);
+
+/* Anodes as they are given, right or not. */
+void write_anodes(uint8_t *l, const struct anodes *anodes);
 
 /* A record of this unit by the recipe. */
 void write_record(uint8_t *l, const struct recipe *recipe, size_t unit, uint64_t *row);

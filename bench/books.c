@@ -166,6 +166,12 @@ void write_readings(struct bytes *b, size_t i, const struct hour *hour)
     put(l + 16, hour->moisture, 2);
 }
 
+void write_consumed(struct bytes *b, size_t i, const struct anodes *anodes)
+{
+    memset(line(b, i), 0, BOOK_LINE);
+    write_anodes(line(b, i), anodes);
+}
+
 /* No unit has number 1. */
 void spoil(struct bytes *b, size_t i, unsigned reason)
 {

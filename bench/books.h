@@ -74,6 +74,16 @@ struct hour {
 /* Record i becomes this hour. */
 void write_readings(struct bytes *b, size_t i, const struct hour *hour);
 
+/* What anodes hold, right or not: metal in kg, net use in g per kg of it, and sulphur, ash and
+   other impurities in hundredths of a percent. A unit past the last isn't listed. */
+struct anodes {
+    size_t unit;
+    uint32_t month, metal, use, impurities[3];
+};
+
+/* Record i becomes these anodes. */
+void write_consumed(struct bytes *b, size_t i, const struct anodes *anodes);
+
 /* Makes record i of a mixed book one with this reason, 1 to 7. For 7 the last fuel line loses its
    default heat. */
 void spoil(struct bytes *b, size_t i, unsigned reason);

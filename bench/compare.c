@@ -1,10 +1,11 @@
 /* The books and checkpoints on which every call is compared. */
 #include "compare.h"
 
+#include "compare_anodes.h"
 #include "compare_calls.h"
 #include "compare_dry.h"
-#include "compare_model.h"
 #include "compare_repeats.h"
+#include "compare_tallies.h"
 
 #include <string.h>
 
@@ -14,6 +15,7 @@ static const struct recipe small = {"small", MIXED, 10, 4, 4};
 static const struct recipe low = {"small, low", LOW_HEATS, 10, 4, 4};
 static const struct recipe dry = {"small, dry", DRY_HOURS, 10, 4, 4};
 static const struct recipe repeated = {"small, repeated", REPEATED_HOURS, 10, 4, 4};
+static const struct recipe smelter = {"small, smelter", SMELTER, 9, 4, 4}; /* of all kinds */
 
 /* Every record, and two that aren't there. */
 static void compare_records(const struct bytes *b, const char *name)
@@ -123,10 +125,10 @@ static void compare_heats(struct bytes *b)
                 compare_heats_of(b, unit, fuel, flags);
 }
 
-/* Every pattern of a unit's flags, with records of fuel and hours, and with moisture. */
+/* Every pattern of a unit's flags, with records of fuel, hours and anodes, and with moisture. */
 static void compare_flags(struct bytes *b)
 {
-    static const struct recipe *const kinds[2] = {&small, &dry};
+    static const struct recipe *const kinds[2] = {&smelter, &dry};
     for (uint32_t flags = 0; flags < 256; flags++)
         for (size_t unit = 0; unit < 4; unit++)
             for (int i = 0; i < 2; i++) {
@@ -195,7 +197,7 @@ static void compare_too_many(struct bytes *b)
 /* Each reason, and a byte or two damaged, in small books of this set. */
 static void compare_faults(struct bytes *b, unsigned set)
 {
-    static const struct recipe *const kinds[5] = {&low, &dry, &repeated, &small, &small};
+    static const struct recipe *const kinds[5] = {&low, &dry, &repeated, &small, &smelter};
     uint64_t row = 5;
     for (unsigned reason = 1; reason <= 7; reason++) {
         make_under(b, &small, set);
@@ -222,10 +224,12 @@ void compare_damaged(void)
     compare_heats(&b);
     compare_flags(&b);
     compare_dry(&b);
+    compare_anodes(&b);
     compare_repeats(&b);
     compare_decisions(&b);
     compare_too_many(&b);
     tell_compared();
     tell_dry();
-    tell_modelled();
+    tell_anodes();
+    tell_tallies();
 }

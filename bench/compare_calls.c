@@ -23,8 +23,9 @@ static unsigned long compared, counts[CALLS][FIELDS][256];
 /* Reports by the book's set of warming values and by the decision, 1 if the site must report. */
 static unsigned long reports[WARMING_SETS][2];
 
-/* Records that count with a low value, by their method; hours that count with moisture. */
-static unsigned long lows[5], moist;
+/* Records that count with a low value, by their method; hours that count with moisture; anodes that
+   count. */
+static unsigned long lows[5], moist, anodes;
 
 static struct out filled(void)
 {
@@ -109,6 +110,8 @@ static void count_record(const uint8_t *l, uint64_t reply)
         lows[wetherstep_method(reply)]++;
     if (l[0] == HOUR && (l[16] | l[17]) != 0)
         moist++;
+    if (l[0] == ANODES)
+        anodes++;
 }
 
 struct look compare_record(const struct bytes *b, const char *name, uint32_t index)
@@ -167,10 +170,10 @@ static void see_lows(void)
         }
 }
 
-static void see_moist(void)
+static void see_counted(unsigned long count, const char *what)
 {
-    if (moist == 0) {
-        printf("no hour with moisture counted\n");
+    if (count == 0) {
+        printf("no %s counted\n", what);
         exit(1);
     }
 }
@@ -180,10 +183,12 @@ void tell_compared(void)
     see_all();
     see_reports();
     see_lows();
-    see_moist();
+    see_counted(moist, "hour with moisture");
+    see_counted(anodes, "anodes");
     printf("compared: %lu calls, every number, reason, method and ledger among them; all alike\n"
            "reports with figures: %lu under the first warming values, %lu under the second\n"
-           "records that count with a low value: %lu; hours that count with moisture: %lu\n",
+           "records that count with a low value: %lu; hours that count with moisture: %lu; anodes "
+           "that count: %lu\n",
            compared, reports[0][0] + reports[0][1], reports[1][0] + reports[1][1],
-           lows[2] + lows[3] + lows[4], moist);
+           lows[2] + lows[3] + lows[4], moist, anodes);
 }

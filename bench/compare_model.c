@@ -1,18 +1,20 @@
 /*
- * The model of hours that stand before, by the requirements: a record has the reason that it has as
- * the only record of its book, or else, if it is an hour that stands before, reason 8. To look at
- * all earlier records for each is slow, and plain to see.
+ * The model of records that stand before, by the requirements: a record has the reason that it has
+ * as the only record of its book, or else, if it is an hour or anodes that stand before, reason 8.
+ * To look at all earlier records for each is slow, and plain to see. What anodes give as the only
+ * record is held against the model of anodes.
  */
 #include "compare_model.h"
 
 #include "compare_calls.h"
+#include "compare_tallies.h"
+#include "model_anodes.h"
 
-#include <stdbool.h>
 #include <stdio.h>
 #include <stdlib.h>
 #include <string.h>
 
-enum { REASONS = 9, MOST_RECORDS = LONGEST_BOOK / BOOK_LINE, DRAWN_WAKES = 12 };
+enum { MOST_RECORDS = LONGEST_BOOK / BOOK_LINE, DRAWN_WAKES = 12 };
 enum { LEDGERS_AT = 16, LEDGER_SIZE = 16, FOSSIL = 0, BIOMASS, CH4, N2O, LEDGERS };
 
 typedef unsigned __int128 wide;
@@ -23,9 +25,8 @@ static struct look alone[MOST_RECORDS];
 static unsigned due[MOST_RECORDS];
 static struct out reached[MOST_RECORDS + 1];
 
-/* Repeats by what became of an hour that they repeat, and hours that stand before and have a lower
-   reason, by that. */
-static unsigned long repeats[REASONS], lower[REASONS];
+/* Of a record that stands before, where the last one is that it repeats. */
+static size_t last[MOST_RECORDS];
 
 void stop_at(const char *name, const char *what, size_t i)
 {
@@ -38,10 +39,46 @@ static const uint8_t *line(const struct bytes *b, size_t i)
     return b->book + BOOK_LINE * i;
 }
 
-static bool is_one_hour(const uint8_t *l, const uint8_t *m)
+static bool can_repeat(const uint8_t *l)
 {
-    return l[0] == HOUR && m[0] == HOUR && l[2] == m[2] && l[3] == m[3] && l[6] == m[6] &&
-           l[7] == m[7];
+    return l[0] == HOUR || l[0] == ANODES;
+}
+
+static bool has_unit_and_number_of(const uint8_t *l, const uint8_t *m)
+{
+    return l[2] == m[2] && l[3] == m[3] && l[6] == m[6] && l[7] == m[7];
+}
+
+static struct before look_back(const struct bytes *b, size_t i)
+{
+    const uint8_t *l = line(b, i);
+    struct before before = {0, false};
+    for (size_t j = 0; j < i && can_repeat(l); j++) {
+        const uint8_t *m = line(b, j);
+        if (!can_repeat(m) || !has_unit_and_number_of(l, m))
+            continue;
+        if (l[0] == m[0]) {
+            before.reasons |= 1u << due[j];
+            last[i] = j;
+        } else
+            before.is_other_kind = true;
+    }
+    return before;
+}
+
+static void see_anodes(const struct bytes *b, const char *name, size_t i)
+{
+    const struct look *look = &alone[i];
+    const unsigned reason = reason_of_anodes(b, i);
+    if (wetherstep_reason(look->reply) != reason)
+        stop_at(name, "the reason of the anodes", i);
+    if (reason != 0)
+        return;
+    if (look->reply != (uint64_t)WETHERSTEP_LEDGER_FOSSIL << 24) /* with method 0 */
+        stop_at(name, "method or ledger of the anodes", i);
+    if (look->masses[WETHERSTEP_MASS_CO2] != co2_of_anodes(line(b, i)).ug ||
+        look->masses[WETHERSTEP_MASS_CH4] != 0 || look->masses[WETHERSTEP_MASS_N2O] != 0)
+        stop_at(name, "a mass of the anodes", i);
 }
 
 /* Works `alone` and `due` out. */
@@ -49,19 +86,17 @@ static void expect(const struct bytes *b, const char *name)
 {
     static struct bytes single;
     for (size_t i = 0; i < b->records; i++) {
-        unsigned met = 0;
-        for (size_t j = 0; j < i; j++)
-            if (is_one_hour(line(b, i), line(b, j)))
-                met |= 1u << due[j];
+        const uint8_t *l = line(b, i);
+        const struct before before = look_back(b, i);
         take_record(&single, b, i);
         alone[i] = compare_record(&single, name, 0);
+        if (l[0] == ANODES)
+            see_anodes(b, name, i);
         due[i] = wetherstep_reason(alone[i].reply);
-        lower[due[i]] += met != 0 && due[i] != 0;
-        if (met == 0 || due[i] != 0)
-            continue;
-        due[i] = REPEATED;
-        for (unsigned reason = 0; reason < REASONS; reason++)
-            repeats[reason] += met >> reason & 1;
+        if (can_repeat(l))
+            count_judged(l[0], due[i], before);
+        if (due[i] == 0 && before.reasons != 0)
+            due[i] = REPEATED;
     }
 }
 
@@ -139,6 +174,9 @@ static size_t go_on(const struct bytes *b, const char *name, size_t from, uint32
     if (to - from != (budget < b->records - from ? budget : b->records - from) ||
         memcmp(&at, &reached[to], sizeof at) != 0)
         stop_at(name, "a wake's checkpoint", from);
+    for (size_t i = from; i < to; i++)
+        if (due[i] == REPEATED)
+            count_repeat(line(b, i)[0], last[i] >= from);
     return to;
 }
 
@@ -164,21 +202,4 @@ void compare_modelled(const struct bytes *b, const char *name, uint64_t *row)
 unsigned reason_due(size_t i)
 {
     return due[i];
-}
-
-/* With reason 2 or 5 an hour isn't repeated: its repeat has that reason too, by the same unit. */
-static const bool can_be_repeated[REASONS] = {[0] = true, [1] = true, [4] = true, [8] = true};
-static const bool can_be_lower[REASONS] = {[1] = true, [2] = true, [4] = true, [5] = true};
-
-void tell_modelled(void)
-{
-    for (unsigned i = 0; i < REASONS; i++)
-        if ((repeats[i] != 0) != can_be_repeated[i] || (lower[i] != 0) != can_be_lower[i]) {
-            printf("of reason %u are %lu hours that are repeated, %lu that stand before\n", i,
-                   repeats[i], lower[i]);
-            exit(1);
-        }
-    printf("hours set aside with reason 8: after one that counts %lu, with reason 1 %lu, 4 %lu, 8 "
-           "%lu\nhours that stand before and have a lower reason: 1 %lu, 2 %lu, 4 %lu, 5 %lu\n",
-           repeats[0], repeats[1], repeats[4], repeats[8], lower[1], lower[2], lower[4], lower[5]);
 }

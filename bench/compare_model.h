@@ -1,4 +1,4 @@
-/* Library, C and a model of hours that stand before, on one book. */
+/* Library, C and a model on one book: of hours and anodes that stand before, and of any anodes. */
 #ifndef COMPARE_MODEL_H
 #define COMPARE_MODEL_H
 
@@ -17,9 +17,5 @@ unsigned reason_due(size_t i);
 
 /* Stops the program, and says that this of a record is wrong. */
 void stop_at(const char *name, const char *what, size_t i);
-
-/* Says what was met, and stops unless that is every reason that an hour which stands before can
-   have, and whatever can have become of the earlier one. */
-void tell_modelled(void);
 
 #endif

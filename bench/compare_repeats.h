@@ -1,4 +1,4 @@
-/* Hours whose unit and number stand in an earlier record of the book. */
+/* Hours and anodes whose unit and number stand in an earlier record of the book. */
 #ifndef COMPARE_REPEATS_H
 #define COMPARE_REPEATS_H
 
