@@ -114,13 +114,13 @@ static struct times measure(work *work, const struct job *job)
 
 static void head(const char *title, const char *each)
 {
-    printf("\n%-44s %8s  %10s  %10s  %s\n", title, "records", "library", "C", "library / C");
-    printf("%-44s %8s  %10s  %10s\n", "", "", each, each);
+    printf("\n%-46s %8s  %10s  %10s  %s\n", title, "records", "library", "C", "library / C");
+    printf("%-46s %8s  %10s  %10s\n", "", "", each, each);
 }
 
 static void row(const char *name, size_t records, struct times t, double parts)
 {
-    printf("%-44s %8zu  %10.1f  %10.1f  %.2f\n", name, records, t.library / parts, t.plain / parts,
+    printf("%-46s %8zu  %10.1f  %10.1f  %.2f\n", name, records, t.library / parts, t.plain / parts,
            t.library / t.plain);
     fflush(stdout);
 }
@@ -146,6 +146,11 @@ static const struct recipe books[] = {
     {"full, rising hours, 64 units", RISING_HOURS, 0, 64, 0},
     {"full, repeated hours, 64 units", REPEATED_HOURS, 0, 64, 0},
     {"full, mixed, 64 units, 64 fuels", MIXED, 0, 64, 64},
+    {"full, smelter, 8 units, 8 fuels", SMELTER, 0, 8, 8},
+    {"full, smelter, 64 units, 64 fuels", SMELTER, 0, 64, 64},
+    {"a year of anodes, 8 units", ALL_ANODES, 8 * LAST_MONTH, 8, 0},
+    {"a year of anodes, 64 units", ALL_ANODES, 64 * LAST_MONTH, 64, 0},
+    {"full, repeated anodes, 64 units", ALL_ANODES, 0, 64, 0},
     {"small, mixed, 4 units, 4 fuels", MIXED, 1, 4, 4},
     {"small, mixed, 4 units, 4 fuels", MIXED, 10, 4, 4},
     {"small, mixed, 4 units, 4 fuels", MIXED, 100, 4, 4},
@@ -162,10 +167,12 @@ static void time_books(struct bytes *b)
     }
 }
 
-/* Whether a book is timed by wakes: a full one, of which a wake may look back. Dry hours do that as
-   wet ones do. */
+/* Whether a book is timed by wakes: a full one, of which a wake may look back, or a year of anodes,
+   after which more would repeat others. Dry hours look back as wet ones do. */
 static bool is_woken(const struct recipe *recipe)
 {
+    if (recipe->mix == ALL_ANODES)
+        return true;
     return recipe->records == 0 && recipe->mix != ALL_FUEL && recipe->mix != LOW_HEATS &&
            recipe->mix != DRY_HOURS;
 }
@@ -173,7 +180,7 @@ static bool is_woken(const struct recipe *recipe)
 static void time_wakes(struct bytes *b)
 {
     static const uint32_t budgets[] = {1, 10, 100};
-    head("a full book by wakes", "ns/wake");
+    head("a book by wakes", "ns/wake");
     for (int i = 0; i < BOOKS; i++)
         for (int j = 0; j < 3 && is_woken(&books[i]); j++) {
             struct job job = begin(b, &books[i]);
@@ -185,21 +192,28 @@ static void time_wakes(struct bytes *b)
         }
 }
 
-/* A wake of one record, the last of its kind. Fuel asks for nothing that stands before it, and an
-   hour for nearly a whole book. */
-static void time_last(struct bytes *b, const struct recipe *recipe, uint8_t kind)
+static const struct kind {
+    uint8_t number;
+    const char *name;
+} kinds[] = {{FUEL, "fuel"}, {HOUR, "an hour"}, {ANODES, "anodes"}};
+
+enum { KINDS = sizeof kinds / sizeof *kinds };
+
+/* A wake of one record, the last of its kind. Fuel asks for nothing that stands before it, an hour
+   and anodes for nearly a whole book. */
+static void time_last(struct bytes *b, const struct recipe *recipe, const struct kind *kind)
 {
     struct job job = begin(b, recipe);
     const struct job fresh = job;
     uint32_t i = (uint32_t)b->records;
     char name[64];
-    while (i > 0 && b->book[BOOK_LINE * (i - 1)] != kind)
+    while (i > 0 && b->book[BOOK_LINE * (i - 1)] != kind->number)
         i--;
     if (i == 0)
         return;
     plain_wake(b->book, b->length, fresh.start, SIZE, i - 1, job.start, SIZE);
     job.budget = 1;
-    snprintf(name, sizeof name, "%s, %s", kind == FUEL ? "fuel" : "an hour", recipe->name);
+    snprintf(name, sizeof name, "%s, %s", kind->name, recipe->name);
     row(name, i - 1, measure(do_one_wake, &job), 1);
 }
 
@@ -207,8 +221,8 @@ static void time_lasts(struct bytes *b)
 {
     head("one record, so many before it", "ns/wake");
     for (int i = 0; i < BOOKS; i++)
-        for (uint8_t kind = FUEL; kind <= HOUR && is_woken(&books[i]); kind++)
-            time_last(b, &books[i], kind);
+        for (int j = 0; j < KINDS && is_woken(&books[i]); j++)
+            time_last(b, &books[i], &kinds[j]);
 }
 
 static void time_opening(const struct job *job, const struct recipe *recipe, work *work,
@@ -230,15 +244,18 @@ static void time_openings(struct bytes *b)
         }
 }
 
-/* Time per record must not grow with the book: a wake of all, less a wake of none. */
+/* Time per record must not grow with the book: a wake of all, less a wake of none. Of anodes a full
+   book has repeats, the others none. */
 static void time_growth(struct bytes *b)
 {
     static const size_t sizes[] = {64, 512, 0};
+    static const struct recipe growing[] = {{"mixed, 8 units, 8 fuels", MIXED, 0, 8, 8},
+                                            {"all hours, 8 units", ALL_HOURS, 0, 8, 0},
+                                            {"all anodes, 64 units", ALL_ANODES, 0, 64, 0}};
     head("a wake of all less a wake of none", "ns/record");
-    for (int i = 0; i < 6; i++) {
-        const struct recipe mixed = {"mixed, 8 units, 8 fuels", MIXED, sizes[i % 3], 8, 8};
-        const struct recipe hours = {"all hours, 8 units", ALL_HOURS, sizes[i % 3], 8, 0};
-        const struct recipe recipe = i < 3 ? mixed : hours;
+    for (int i = 0; i < 9; i++) {
+        struct recipe recipe = growing[i / 3];
+        recipe.records = sizes[i % 3];
         struct job job = begin(b, &recipe);
         struct times none = measure(do_one_wake, &job);
         job.budget = UINT32_MAX;

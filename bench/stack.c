@@ -68,12 +68,24 @@ static void call_last(void)
     wake_from(but_one);
 }
 
-static void call_fuel(void)
+static bool has(uint8_t kind)
 {
     for (size_t i = 0; i < book->records; i++)
-        if (book->book[BOOK_LINE * i] == HOUR)
-            return;
-    wake_from(none);
+        if (book->book[BOOK_LINE * i] == kind)
+            return true;
+    return false;
+}
+
+static void call_fuel(void)
+{
+    if (!has(HOUR) && !has(ANODES))
+        wake_from(none);
+}
+
+static void call_anodes(void)
+{
+    if (!has(FUEL) && !has(HOUR))
+        call_wake();
 }
 
 static void call_report(void)
@@ -115,9 +127,13 @@ void tell_stack(struct bytes *b, const struct recipe *books, size_t count)
     static const struct {
         const char *name;
         void (*run)(void);
-    } calls[] = {{"fresh", call_fresh},   {"wake", call_wake},
-                 {"wake of one record", call_last}, {"wake of fuel alone", call_fuel},
-                 {"report", call_report}, {"left", call_left},
+    } calls[] = {{"fresh", call_fresh},
+                 {"wake", call_wake},
+                 {"wake of one record", call_last},
+                 {"wake of fuel alone", call_fuel},
+                 {"wake of anodes alone", call_anodes},
+                 {"report", call_report},
+                 {"left", call_left},
                  {"record", call_record}};
     enum { CALLS = sizeof calls / sizeof *calls };
     size_t used[CALLS] = {0};
