@@ -26,7 +26,7 @@
  * write to, and may read the same book. Of the C library memcpy and memset alone are linked. A
  * call's stack in bytes, measured by bench/run and not proved: fresh 320, wake 82,320, report 336,
  * left 240, record 192. So much a wake takes only where it goes through many records with an hour
- * among them, and else 1,888: a thread of 128 KiB has room for either.
+ * or anodes among them, and else 1,888: a thread of 128 KiB has room for either.
  */
 #ifndef WETHERSTEP_H
 #define WETHERSTEP_H
@@ -89,16 +89,17 @@ static inline uint32_t wetherstep_count(uint64_t reply) { return (uint32_t)(repl
                                         is for a unit whose monitor measures dry gas */
 #define WETHERSTEP_REASON_UNIT 2     /* the unit isn't listed: list it, or correct its number */
 #define WETHERSTEP_REASON_FUEL 3     /* the fuel isn't listed: list it, or correct its number */
-#define WETHERSTEP_REASON_RANGE 4    /* month, hour, amount, heat, carbon, moisture or reading: correct
-                                        it; a low heat value is for natural gas alone */
+#define WETHERSTEP_REASON_RANGE 4    /* month, hour, amount, heat, carbon, moisture, reading, metal, anode
+                                        use or impurities: correct it; a low heat value is for natural
+                                        gas alone */
 #define WETHERSTEP_REASON_MONITOR 5  /* an hour of a unit without a monitor: correct unit or flag */
 #define WETHERSTEP_REASON_METHOD 6   /* no permitted method: give the carbon, or check the rating */
 #define WETHERSTEP_REASON_HEAT 7     /* no heat in use: give it, or give the fuel a default */
-#define WETHERSTEP_REASON_REPEAT 8   /* an hour that an earlier record has: keep the right one, and
-                                        take the others out */
+#define WETHERSTEP_REASON_REPEAT 8   /* an hour, or anodes of a month, that an earlier record has: keep
+                                        the right one, and take the others out */
 
 /* METHODS by which a record counts. */
-#define WETHERSTEP_METHOD_HOUR 0           /* none: a monitor hour, by its readings and moisture */
+#define WETHERSTEP_METHOD_HOUR 0           /* none: a monitor hour or anodes, by what they tell */
 #define WETHERSTEP_METHOD_DEFAULT_HEAT 1   /* fuel, by its default heat */
 #define WETHERSTEP_METHOD_MEASURED_HEAT 2  /* fuel, by the heat measured, as a low value or not */
 #define WETHERSTEP_METHOD_CARBON 3         /* fuel, by the carbon measured */
