@@ -3,9 +3,8 @@ use Prim.Native.Nat.{ℕ, _+_, _-_, _*_, _/_, _<_, _≤_}
 use mathlib.Core.Bool.{true, false}
 use mathlib.Core.Path.{_≡_, refl}
 use native.Mathlib.Omega.{arith}
-use lib.Dec.{eqb, leb}
+use lib.Dec.{eqb}
 use borrow.Author.Tests.{eq-eqb, ne-eqb, eqb-true, eqb-false, leb-true, le-leb}
-use Rattle.choice.specs.Tests.{_also_}
 use Rattle.choice.proofs.Splitting.{if-test}
 use Rattle.choice.proofs.TestsLaws.{also-t, also-l, also-r, choose-t, choose-f}
 use Rattle.rules.specs.Table.{rowWords, lastPeriod, hasBit, bitOf}
@@ -41,16 +40,6 @@ pub hasBit-month : (k w : ℕ) → k ≡ 4 → 1 ≤ w → w ≤ 12 → hasBit k
 unfolding hasBit
 hasBit-month k w e first last = also-t (le-leb 1 w first) (le-leb w _ (omega (arith, lastPeriod-month k e)))
 
--- A fuel record has none.
-pub hasBit-fuel : (k w : ℕ) → k ≡ 1 → hasBit k w ≡ false
-unfolding hasBit
-hasBit-fuel k w e =
-    if-test (leb 1 w also leb w (lastPeriod k))
-    (λ t. let first = leb-true 1 w (also-l _ _ t) in
-    let last = leb-true w (lastPeriod k) (also-r _ _ t) in
-    absurd (omega (arith, first, last, lastPeriod-other k (λ h. omega arith) (λ h. omega arith))))
-    (λ f. f)
-
 -- Any statement on what has a bit is proved of hours and of months.
 if-hasBit : {G : Type 0} (k w : ℕ) → hasBit k w ≡ true → (k ≡ 2 → 1 ≤ w → w ≤ 8784 → bitOf k w ≡ w - 1 → G)
     → (k ≡ 4 → 1 ≤ w → w ≤ 12 → bitOf k w ≡ 8784 + w - 1 → G) → G
@@ -64,9 +53,15 @@ if-hasBit k w h hour month =
     (λ t. let e = eqb-true k 4 t in month e first (omega (arith, last, lastPeriod-month k e)) (bitOf-month k w e))
     (λ g. absurd (omega (arith, first, last, lastPeriod-other k (eqb-false k 2 f) (eqb-false k 4 g)))))
 
+-- A fuel record has none.
+pub hasBit-fuel : (k w : ℕ) → k ≡ 1 → hasBit k w ≡ false
+hasBit-fuel k w fuel =
+    if-test (hasBit k w)
+    (λ h. absurd (if-hasBit k w h (λ e a b q. omega arith) (λ e a b q. omega arith)))
+    (λ none. none)
+
 pub hasBit-first : (k w : ℕ) → hasBit k w ≡ true → 1 ≤ w
-unfolding hasBit
-hasBit-first k w h = leb-true 1 w (also-l _ _ h)
+hasBit-first k w h = if-hasBit k w h (λ e a b q. a) (λ e a b q. a)
 
 pub hasBit-last : (k w : ℕ) → hasBit k w ≡ true → w ≤ 8784
 hasBit-last k w h = if-hasBit k w h (λ e a b q. b) (λ e a b q. omega arith)
