@@ -8,6 +8,7 @@ pub mod ProductLaws
 pub mod MultipleLaws
 pub mod HourLaws
 pub mod FuelLaws
+pub mod GasLaws
 pub mod AnodeLaws
 pub mod LedgerLaws
 pub mod FiguresLaws

@@ -1,8 +1,9 @@
--- `nearestTo` case by case; it depends on the fraction alone and grows with it. Assumes nothing.
+-- `nearestTo` case by case, of a fraction and of a mixed number; it depends on the fraction alone and grows
+-- with it. Assumes nothing.
 use Prim.Native.Nat.{ℕ, _+_, _*_, _/_, _%_, _<_, _≤_, compare, Ordering, Ordering·lt, Ordering·eq, Ordering·gt}
 use mathlib.Core.Bool.{not}
 use mathlib.Core.Path.{_≡_, refl, sym, ap, _∙_, subst}
-use native.Mathlib.Nat.{not-le-of-lt, le-of-eq, le-of-lt, div-eq-of-lt, mod-eq-of-lt, mul-pos, mul-assoc}
+use native.Mathlib.Nat.{not-le-of-lt, le-of-eq, le-of-lt, div-eq-of-lt, mod-eq-of-lt, mul-pos, mul-assoc, mul-add, add-mul, mul-add-div-right, mul-add-mod-self-right, div-add-mod', mod-lt, mul-le-mul-left, lt-of-mul-lt-mul-right}
 use native.Mathlib.Numerals.{add-one}
 use native.Mathlib.Omega.{arith}
 use lib.Dec.{T, isLe, isEq, eqb, eqb-refl, eqb→eq, leb→le, nleb→lt}
@@ -40,6 +41,45 @@ pub nearestTo-zero : (n d : ℕ) → 2 * n < d → nearestTo n d ≡ 0
 nearestTo-zero n d h =
     let l : n < d = omega arith in
     nearestTo-below n d (subst (λ (m : ℕ). 2 * m < d) (sym (mod-eq-of-lt l)) h) ∙ div-eq-of-lt l
+
+-- ---- a mixed number: q, and r / d below 1
+module _ (q r d : ℕ) (proper : r < d) where
+  D : 0 < d
+  D = omega arith
+
+  div-mixed : (q * d + r) / d ≡ q
+  div-mixed = mul-add-div-right D q r ∙ omega (arith, div-eq-of-lt proper)
+
+  mod-mixed : (q * d + r) % d ≡ r
+  mod-mixed = mul-add-mod-self-right q d r ∙ mod-eq-of-lt proper
+
+  pub nearestTo-mixed-below : 2 * r < d → nearestTo (q * d + r) d ≡ q
+  nearestTo-mixed-below h = nearestTo-below (q * d + r) d (omega (arith, mod-mixed)) ∙ div-mixed
+
+  pub nearestTo-mixed-above : d < 2 * r → nearestTo (q * d + r) d ≡ q + 1
+  nearestTo-mixed-above h =
+      nearestTo-above (q * d + r) d (omega (arith, mod-mixed)) ∙ ap (λ (x : ℕ). x + 1) div-mixed
+
+  pub nearestTo-mixed-half : 2 * r ≡ d → nearestTo (q * d + r) d ≡ q + q % 2
+  nearestTo-mixed-half h =
+      nearestTo-half (q * d + r) d (omega (arith, mod-mixed)) ∙ ap (λ (x : ℕ). x + x % 2) div-mixed
+
+-- A product of a as a mixed number: b / d times a, and what is left of b.
+pub product-mixed : (a b d : ℕ) → (a * (b / d) + a * (b % d) / d) * d + a * (b % d) % d ≡ a * b
+product-mixed a b d =
+    let left = a * (b % d) in
+    let parts : (a * (b / d) + left / d) * d ≡ a * (b / d * d) + left / d * d =
+    add-mul (a * (b / d)) (left / d) d ∙ ap (λ (x : ℕ). x + left / d * d) (mul-assoc a (b / d) d) in
+    let whole : a * (b / d * d) + left ≡ a * b =
+    sym (mul-add a (b / d * d) (b % d)) ∙ ap (λ (x : ℕ). a * x) (div-add-mod' b d) in
+    omega (arith, div-add-mod' left d)
+
+-- Neither part of it passes its bound.
+pub product-left-lt : (a b d : ℕ) {m : ℕ} → 0 < d → a * d < m → a * (b % d) < m
+product-left-lt a b d D h = omega (arith, mul-le-mul-left a (le-of-lt (mod-lt b D)), h)
+
+pub product-whole-lt : (a b d : ℕ) {m : ℕ} → a * b < m * d → a * (b / d) + a * (b % d) / d < m
+product-whole-lt a b d h = lt-of-mul-lt-mul-right d (omega (arith, product-mixed a b d, h))
 
 -- ---- equal and larger fractions, by the kit's `closest`
 module _ (a b : ℕ) where

@@ -5,6 +5,7 @@ use Rattle.mass.proofs.fuel.weigh_by_heat.Reads as weigh-by-heat
 use Rattle.mass.proofs.fuel.weigh_by_carbon.Reads as weigh-by-carbon
 use Rattle.mass.proofs.fuel.weigh_trace.Reads as weigh-trace
 use Rattle.mass.proofs.fuel.find_high.Reads as find-high
+use Rattle.mass.proofs.gas.weigh.Reads as weigh-gas
 use Rattle.mass.proofs.anode.weigh.Reads as weigh-anodes
 use Rattle.mass.proofs.hour.judge.Reads as judge
 use Rattle.mass.proofs.hour.weigh.Reads as weigh
@@ -27,6 +28,10 @@ weigh-trace-unique κs a r s x y p q = p ∙ sym q
 pub find-high-unique : (κs : _) (a : _) (r s : _) (x y : _) → find-high.Post κs a r x → find-high.Post κs a s y
     → r ≡ s
 find-high-unique κs a r s x y p q = p ∙ sym q
+
+pub weigh-gas-unique : (κs : _) (a : _) (r s : _) (x y : _) → weigh-gas.Post κs a r x → weigh-gas.Post κs a s y
+    → r ≡ s
+weigh-gas-unique κs a r s x y p q = p ∙ sym q
 
 pub weigh-anodes-unique : (κs : _) (a : _) (r s : _) (x y : _) → weigh-anodes.Post κs a r x
     → weigh-anodes.Post κs a s y → r ≡ s

@@ -1,9 +1,10 @@
-// The arithmetic of masses: fuel burned, monitor hours, anodes used up, ledgers, and what a report says of
-// them.
+// The arithmetic of masses: fuel burned, gas analysed, monitor hours, anodes used up, ledgers, and what a
+// report says of them.
 // It knows no byte, record or book. Every mass has a type of its own, so that no unit meets another.
 pub mod anode;
 pub mod figures;
 pub mod fuel;
+pub mod gas;
 pub mod hour;
 pub mod ledger;
 mod reading;

@@ -1,6 +1,6 @@
 // Rounding to the nearest whole number, a half going to the even one: fractions, and multiples of a double.
 ghost use mathlib.Core.Path.{_≡_};
-ghost use Prim.Native.Nat.{_*_, _^_, _<_, _≤_};
+ghost use Prim.Native.Nat.{_+_, _*_, _^_, _<_, _≤_};
 ghost use lib.Dec.{T};
 ghost use lib.Ieee.{binary64};
 ghost use Rattle.mass.specs.Rounding.{nearestTo};
@@ -35,23 +35,43 @@ pub(crate) fn round_multiple(k: u64, p: f64) -> u64
     round_fraction(k * digits, 1u64 << (WHOLE - exponent))
 }
 
-// n / d, as it is taught: divide, and hold the remainder against half of the divisor, both doubled so that
-// an odd divisor has a half too. With the half asked first the compiler makes no jumps of the tests; one on
-// whether a remainder is above half would be foreseen half of the time.
+// n / d.
 pub(crate) fn round_fraction(n: u64, d: u64) -> u64
     requires room { ⌜ n < 2 ^ 63 ⌝ }
     requires some { ⌜ 0 < d ⌝ }
     ensures nearest { λ r. ⌜ r ≡ nearestTo n d ⌝ }
 {
-    let quotient = n / d;
-    let remainder = n % d;
-    let twice = 2 * remainder;
+    round_mixed(n / d, n % d, d)
+}
+
+// a × b / d, where 64 bits may not hold a × b: as often as d goes into b, a is taken whole, and what is left
+// of b makes a product that they hold.
+pub(crate) fn round_product(a: u64, b: u64, d: u64) -> u64
+    requires some { ⌜ 0 < d ⌝ }
+    requires room { ⌜ a * d < 2 ^ 63 ⌝ }
+    requires small { ⌜ a * b < 2 ^ 63 * d ⌝ }
+    ensures nearest { λ r. ⌜ r ≡ nearestTo (a * b) d ⌝ }
+{
+    let whole = a * (b / d);
+    let left = a * (b % d);
+    round_mixed(whole + left / d, left % d, d)
+}
+
+// q and r / d, as it is taught: hold the remainder against half of the divisor, both doubled so that an odd
+// divisor has a half too. With the half asked first the compiler makes no jumps of the tests; one on whether
+// a remainder is above half would be foreseen half of the time.
+fn round_mixed(q: u64, r: u64, d: u64) -> u64
+    requires room { ⌜ (q < 2 ^ 63) × (r < 2 ^ 63) ⌝ }
+    requires proper { ⌜ r < d ⌝ }
+    ensures nearest { λ x. ⌜ x ≡ nearestTo (q * d + r) d ⌝ }
+{
+    let twice = 2 * r;
     if twice == d {
         // An odd quotient goes up, an even one stays.
-        return quotient + quotient % 2;
+        return q + q % 2;
     }
     if d < twice {
-        return quotient + 1;
+        return q + 1;
     }
-    quotient
+    q
 }
