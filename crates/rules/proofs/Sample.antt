@@ -10,7 +10,7 @@ use lib.Seq.{getD-set-other}
 use Rattle.choice.proofs.TestsLaws.{choose-true, worked-out}
 use Rattle.rules.specs.declared.book.Head.{Head}
 use Rattle.rules.specs.Bytes.{word, bytesOf, line, lines, linesIn}
-use Rattle.rules.specs.Book.{lengthOk, startsOk, trailerOk, unitHeadOk, unitOk, kindClassOk, fuelHeadOk, fuelOk, linesOk, linesSound, headOf, accepted, opened, SetApart}
+use Rattle.rules.specs.Book.{lengthOk, startsOk, trailerOk, unitHeadOk, unitOk, kindClassOk, molarVolumeOk, fuelHeadOk, fuelOk, linesOk, linesSound, headOf, accepted, opened, SetApart}
 use Rattle.rules.specs.Repeat.{repeatable, repeated}
 use Rattle.rules.specs.Record.{check, unlessRepeated, outcomeAfter, outcomeAt}
 use Rattle.rules.proofs.ApartLaws.{naming, opened-apart}
@@ -35,7 +35,7 @@ sampleHead = record { n = 1; units = 32; fuels = 64; year = 2010; length = 128; 
 pub opened-sampleBook : opened sampleBook ≡ accepted sampleHead
 unfolding
     sampleBook opened lengthOk headOf trailerOk startsOk linesSound linesIn lines linesOk word
-    unitOk unitHeadOk fuelOk fuelHeadOk kindClassOk
+    unitOk unitHeadOk fuelOk fuelHeadOk kindClassOk molarVolumeOk
 opened-sampleBook = simp worked-out
 
 -- A fuel record repeats nothing.

@@ -5,6 +5,7 @@
 --     lengthOk s                the length is right (else 20)
 --     startsOk u f e            the two starts are right, the trailer starting at byte e
 --     trailerOk t e             t is a right trailer that starts at byte e (else 21)
+--     molarVolumeOk v           a fuel line may tell the molar volume v
 --     unitOk u, fuelOk f        a line that breaks no rule, its number aside
 --     linesOk ok before ls      no line of ls breaks a rule, `before` being the number before them
 --     linesSound ok s           at most `mostLines` lines in s, and none breaks a rule (else 22, 23)
@@ -31,7 +32,7 @@ use Rattle.rules.specs.declared.book.Opened.the-variants.{Wrong, Open}
 use Rattle.rules.specs.declared.book.Fault.{Fault}
 use Rattle.rules.specs.declared.book.Fault.the-variants.{Length, Trailer, Units, Fuels}
 use Rattle.rules.specs.Bytes.{byte, part, linesIn}
-use Rattle.rules.specs.Fields.{signed, version, trailerGap, unitStart, fuelStart, year, yearGap, warmingSetAt, warmingSet, trailerBlank, number, unitFlags, monitored, dry, unitGap, rating, unitBlank, fuelKind, fuelClass, defaultHeat, co2Factor, ch4Factor, n2oFactor, fuelBlank}
+use Rattle.rules.specs.Fields.{signed, version, trailerGap, unitStart, fuelStart, year, yearGap, warmingSetAt, warmingSet, trailerBlank, number, unitFlags, monitored, dry, unitGap, rating, unitBlank, fuelKind, fuelClass, defaultHeat, co2Factor, ch4Factor, n2oFactor, molarVolume, fuelBlank}
 
 abbrev pub longestBook : ℕ
 longestBook = 65536
@@ -79,6 +80,10 @@ kindClassOk kind class =
     either (eqb class 2 also eqb kind 2)
     either (eqb class 3 also eqb kind 1))
 
+-- A fuel of any kind may have one.
+unfoldable pub molarVolumeOk : ℕ → Bool
+molarVolumeOk v = eqb v 0 either (leb 20000 v also leb v 27000)
+
 unfoldable pub fuelHeadOk : List ℕ → Bool
 fuelHeadOk f =
     kindClassOk (fuelKind f) (fuelClass f)
@@ -87,6 +92,7 @@ fuelHeadOk f =
     also leb (co2Factor f) 200000
     also leb (ch4Factor f) 200000
     also leb (n2oFactor f) 200000
+    also molarVolumeOk (molarVolume f)
 
 unfoldable pub fuelOk : List ℕ → Bool
 fuelOk f = fuelHeadOk f also fuelBlank f

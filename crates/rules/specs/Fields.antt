@@ -4,7 +4,7 @@
 --     trailer t         signed, version, unitStart, fuelStart, year, warmingSet, which stands at warmingSetAt;
 --                       trailerGap, yearGap, trailerBlank
 --     unit line u       number, unitFlags, monitored, dry, rating; unitGap, unitBlank
---     fuel line f       number, fuelKind, fuelClass, defaultHeat, co2Factor, ch4Factor, n2oFactor;
+--     fuel line f       number, fuelKind, fuelClass, defaultHeat, co2Factor, ch4Factor, n2oFactor, molarVolume;
 --                       fuelBlank
 --     record l          kind, flags, unitNumber, fuelNumber, period
 --     fuel record l     heatMeasured, carbonMeasured, heatLow, month, amount, heat, carbon; fuelRecordBlank
@@ -94,8 +94,12 @@ ch4Factor f = word f 12 4
 abbrev pub n2oFactor : List ℕ → ℕ
 n2oFactor f = word f 16 4
 
+-- It is in litres for each kmol, and 0 where none is told.
+abbrev pub molarVolume : List ℕ → ℕ
+molarVolume f = word f 20 4
+
 abbrev pub fuelBlank : List ℕ → Bool
-fuelBlank f = zeros f 20 12
+fuelBlank f = zeros f 24 8
 
 -- ---- a record l
 abbrev pub kind : List ℕ → ℕ

@@ -28,7 +28,7 @@ headOk Fuel l = fuelHeadOk l
 
 abbrev pub blankFrom : Sort → ℕ
 blankFrom Unit = 8
-blankFrom Fuel = 20
+blankFrom Fuel = 24
 
 abbrev pub numberAt : ℕ → List ℕ → ℕ
 numberAt k s = number (line k s)

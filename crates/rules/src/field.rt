@@ -92,6 +92,13 @@ pub(crate) fn n2o_factor(l: &[u8]) -> u32
     bytes::read_word(l, 16, 4) as u32
 }
 
+pub(crate) fn molar_volume(l: &[u8]) -> u32
+    requires whole { ⌜ 32 ≤ length (now l) ⌝ }
+    ensures field { λ r. ⌜ r ≡ fields.molarVolume (now (l .entry)) ⌝ }
+{
+    bytes::read_word(l, 20, 4) as u32
+}
+
 // ---- a record
 pub(crate) fn kind(l: &[u8]) -> u8
     requires whole { ⌜ 32 ≤ length (now l) ⌝ }

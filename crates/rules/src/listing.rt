@@ -5,7 +5,7 @@ ghost use mathlib.Core.Path.{_≡_};
 ghost use Prim.Native.Nat.{_≤_};
 ghost use lib.ListN.{length};
 ghost use Rattle.rules.specs.Bytes.{linesIn};
-ghost use Rattle.rules.specs.Book.{unitHeadOk, kindClassOk, fuelHeadOk, linesSound};
+ghost use Rattle.rules.specs.Book.{unitHeadOk, kindClassOk, molarVolumeOk, fuelHeadOk, linesSound};
 ghost use Rattle.rules.specs.Place.{place};
 ghost use Rattle.rules.specs.Listing.{lineOk, Rising, headOk, blankFrom};
 
@@ -69,7 +69,7 @@ fn blank_from(sort: Sort) -> usize
 {
     match sort {
         Sort::Unit => 8,
-        Sort::Fuel => 20,
+        Sort::Fuel => 24,
     }
 }
 
@@ -93,7 +93,20 @@ fn is_fuel_head_right(f: &[u8]) -> bool
     let co2 = field::co2_factor(f);
     let ch4 = field::ch4_factor(f);
     let n2o = field::n2o_factor(f);
-    fits & (heat <= 200000) & (1 <= co2) & (co2 <= 200000) & (ch4 <= 200000) & (n2o <= 200000)
+    let volume_right = is_molar_volume_right(field::molar_volume(f));
+    fits
+        & (heat <= 200000)
+        & (1 <= co2)
+        & (co2 <= 200000)
+        & (ch4 <= 200000)
+        & (n2o <= 200000)
+        & volume_right
+}
+
+fn is_molar_volume_right(volume: u32) -> bool
+    ensures right { λ r. ⌜ r ≡ molarVolumeOk volume ⌝ }
+{
+    (volume == 0) | ((20000 <= volume) & (volume <= 27000))
 }
 
 fn do_agree(kind: u8, class: u8) -> bool
