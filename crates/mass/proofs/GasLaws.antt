@@ -3,7 +3,6 @@
 use Prim.Native.Nat.{ℕ, _*_, _^_, _<_, _≤_}
 use mathlib.Core.Path.{_≡_, sym, ap}
 use native.Mathlib.Nat.{le-trans, le-of-eq, lt-of-le-of-lt, lt-of-lt-of-le, mul-assoc, mul-le-mul, mul-le-mul-left, mul-le-mul-right}
-use native.Mathlib.Omega.{arith}
 use lib.Dec.{lit<, lit≤}
 use Rattle.mass.specs.declared.fuel.Amount.{Amount}
 use Rattle.mass.specs.declared.gas.CarbonShare.{CarbonShare}

@@ -17,11 +17,12 @@ use Rattle.mass.specs.Hour.{hourOf}
 use Rattle.rules.specs.declared.entry.Entry.{Entry}
 use Rattle.rules.specs.declared.record.Outcome.{Outcome}
 use Rattle.rules.specs.declared.record.Outcome.the-variants.{SetAside, Counted}
-use Rattle.rules.specs.Fields.{monitored, kind, unitNumber, fuelNumber, percentBits, flowBits}
+use Rattle.rules.specs.Fields.{monitored, kind, unitNumber, fuelNumber, fuelled, percentBits, flowBits}
 use Rattle.rules.specs.Method.{methodOf}
 use Rattle.rules.specs.Entry.{heatInUse, fuelEntry, hourEntry, anodesEntry}
 use Rattle.rules.specs.Record.{lastReason, check, fuelForm, hourForm, anodesForm, moistureForm, fuelRanges, hourRange, anodesRanges, fuelJudged, fuelOutcome, hourRead, hourJudged, hourOutcome, anodesOutcome, unfuelledOutcome, outcomeOf}
 use Rattle.rules.specs.Reason.{FuelRecord, MonitorHour, Anodes, Listed, Applies}
+use Rattle.rules.proofs.KindLaws.{fuelled-not-hour, fuelled-not-anodes}
 use Rattle.rules.proofs.ListedLaws.{if-listed, Once}
 
 pub clash : {t : Bool} → t ≡ true → t ≡ false → ⊥
@@ -93,10 +94,10 @@ module _ (before : List (List ℕ)) (l : List ℕ) (units fuels : List (List ℕ
   -- ---- a fuel record
   module _ (p : FuelRecord l) (U : Once units) (F : Once fuels) where
     no-hour : MonitorHour l → ⊥
-    no-hour q = absurd (omega arith)
+    no-hour q = fuelled-not-hour l p q
 
     no-anodes : Anodes l → ⊥
-    no-anodes q = absurd (omega arith)
+    no-anodes q = fuelled-not-anodes l p q
 
     fuel-not-1 : fuelForm l ≡ true → Applies before l units fuels 1 → ⊥
     fuel-not-1 h (Applies.wrongKind q r s) = q p
@@ -175,7 +176,7 @@ module _ (before : List (List ℕ)) (l : List ℕ) (units fuels : List (List ℕ
   -- ---- a monitor hour
   module _ (p : MonitorHour l) (U : Once units) where
     hour-no-fuel : FuelRecord l → ⊥
-    hour-no-fuel q = absurd (omega arith)
+    hour-no-fuel q = fuelled-not-hour l q p
 
     hour-no-anodes : Anodes l → ⊥
     hour-no-anodes q = absurd (omega arith)
@@ -243,7 +244,7 @@ module _ (before : List (List ℕ)) (l : List ℕ) (units fuels : List (List ℕ
   -- ---- anodes
   module _ (p : Anodes l) where
     anodes-no-fuel : FuelRecord l → ⊥
-    anodes-no-fuel q = absurd (omega arith)
+    anodes-no-fuel q = fuelled-not-anodes l q p
 
     anodes-no-hour : MonitorHour l → ⊥
     anodes-no-hour q = absurd (omega arith)
@@ -286,8 +287,8 @@ module _ (before : List (List ℕ)) (l : List ℕ) (units fuels : List (List ℕ
   pub alone-outcomeOf : Once units → Once fuels → Alone (outcomeOf l units fuels)
   unfolding outcomeOf unfuelledOutcome
   alone-outcomeOf U F =
-      if-choose Alone (eqb (kind l) 1) (λ fuel. alone-fuelOutcome (eqb-true _ _ fuel) U F) (λ no-fuel.
+      if-choose Alone (fuelled l) (λ fuel. alone-fuelOutcome fuel U F) (λ no-fuel.
       if-choose Alone (eqb (kind l) 2) (λ hour. alone-hourOutcome (eqb-true _ _ hour) U) (λ no-hour.
       alone-check (eqb (kind l) 4) 1 _
-      (λ t. Applies.wrongKind (eqb-false _ _ no-fuel) (eqb-false _ _ no-hour) (eqb-false _ _ t)) clear-one
+      (λ t. Applies.wrongKind (λ q. clash q no-fuel) (eqb-false _ _ no-hour) (eqb-false _ _ t)) clear-one
       (λ used. alone-anodesOutcome (eqb-true _ _ used))))

@@ -21,8 +21,8 @@ use Rattle.rules.specs.declared.record.Outcome.the-variants.{SetAside, C
 use Rattle.rules.specs.Bytes.{word, bytesOf}
 use Rattle.rules.specs.Fields.{moisture}
 use Rattle.rules.specs.Method.{methodOf}
-use Rattle.rules.specs.Entry.{measuredHeat, heatInUse, co2By, destinationBy, entryBy, fuelEntry, co2Alone, hourEntry}
-use Rattle.rules.specs.Record.{check, listed, fuelForm, hourForm, moistureForm, heatLimit, heatRange, carbonLimit, fuelRanges, hourRange, fuelJudged, fuelOutcome, hourRead, hourJudged, hourOutcome, unfuelledOutcome, outcomeOf}
+use Rattle.rules.specs.Entry.{measuredHeat, heatInUse, co2ByCarbon, co2By, destinationBy, entryBy, fuelEntry, co2Alone, hourEntry}
+use Rattle.rules.specs.Record.{check, listed, carbonForm, fuelForm, hourForm, moistureForm, heatLimit, heatRange, carbonLimit, carbonRange, fuelRanges, hourRange, fuelJudged, fuelOutcome, hourRead, hourJudged, hourOutcome, unfuelledOutcome, outcomeOf}
 
 -- ---- lines
 -- a unit line by its flags and rating
@@ -100,8 +100,8 @@ metered l usable weighed =
 pub worked-sums : WorkedSums
 unfolding
     outcomeOf unfuelledOutcome check listed word bytesOf
-    fuelOutcome fuelForm fuelRanges heatRange heatLimit carbonLimit fuelJudged methodOf fuelEntry destinationBy co2By
-    entryBy heatInUse measuredHeat
+    fuelOutcome carbonForm fuelForm fuelRanges heatRange heatLimit carbonRange carbonLimit fuelJudged methodOf fuelEntry
+    destinationBy co2ByCarbon co2By entryBy heatInUse measuredHeat
     hourOutcome hourForm moistureForm hourRange hourJudged
 worked-sums = record {
   p1 = simp worked-out (fuelled mass.p1-co2 mass.p1-ch4 mass.p1-n2o);

@@ -1,31 +1,33 @@
 -- What the tests of a record and of its fuel line say of the numbers that masses are made of, and how
 -- large an entry's numbers get. Assumes nothing.
-use Prim.Native.Nat.{ℕ, _≤_, zero-le}
+use Prim.Native.Nat.{ℕ, _<_, _≤_, zero-le}
 use mathlib.Core.Bool.{Bool, true, false, false≢true}
 use mathlib.Core.List.{List}
 use mathlib.Core.Path.{_≡_, refl, sym, _∙_}
 use native.Mathlib.Nat.{le-trans, le-of-eq}
 use native.Mathlib.Omega.{arith}
 use lib.Dec.{eqb, leb, lit≤}
-use borrow.Author.Tests.{leb-true, le-leb}
+use borrow.Author.Tests.{ltb-true, leb-true, le-leb, ne-eqb}
 use Rattle.choice.specs.Tests.{_also_}
 use Rattle.choice.proofs.Splitting.{if-test}
-use Rattle.choice.proofs.TestsLaws.{also-t, also-l, also-r, choose-t, choose-f, if-choose}
+use Rattle.choice.proofs.TestsLaws.{also-t, also-l, also-r, either-f, choose-t, choose-f, if-choose}
 use Rattle.mass.specs.declared.Ug.{Ug}
 use Rattle.mass.specs.declared.fuel.Heat.{Heat}
 use Rattle.mass.specs.declared.hour.Readings.{Readings}
 use Rattle.mass.specs.Fuel.{HeatInReach, CarbonInReach}
+use Rattle.mass.specs.Gas.{GasInReach}
 use Rattle.mass.specs.Hour.{InRange}
 use Rattle.mass.specs.Anode.{AnodesInReach}
 use Rattle.mass.proofs.FuelLaws.{mostEach, co2OfHeat-le, co2OfCarbon-le, traceOfHeat-le, highOf-le}
+use Rattle.mass.proofs.GasLaws.{co2OfGas-le}
 use Rattle.mass.proofs.HourLaws.{hourMass-le}
 use Rattle.mass.proofs.AnodeLaws.{co2OfAnodes-le}
 use Rattle.rules.specs.declared.entry.Entry.{Entry}
-use Rattle.rules.specs.Fields.{fuelKind, defaultHeat, co2Factor, ch4Factor, n2oFactor, heatMeasured, heatLow, amount, heat, carbon, moisture, month, metal, anodeUse, sulphur, ash, otherImpurities}
-use Rattle.rules.specs.Book.{fuelHeadOk, fuelOk}
+use Rattle.rules.specs.Fields.{fuelKind, defaultHeat, co2Factor, ch4Factor, n2oFactor, molarVolume, analysed, heatMeasured, heatLow, amount, heat, carbon, molecularWeight, moisture, month, metal, anodeUse, sulphur, ash, otherImpurities}
+use Rattle.rules.specs.Book.{molarVolumeOk, fuelHeadOk, fuelOk}
 use Rattle.rules.specs.Method.{methodOf}
-use Rattle.rules.specs.Entry.{measuredHeat, heatInUse, co2By, entryBy, fuelEntry, co2Alone, hourEntry, impurities, anodesEntry}
-use Rattle.rules.specs.Record.{heatLimit, heatRange, carbonLimit, fuelRanges, hourRange, anodesRanges}
+use Rattle.rules.specs.Entry.{measuredHeat, heatInUse, co2ByCarbon, co2By, entryBy, fuelEntry, co2Alone, hourEntry, impurities, anodesEntry}
+use Rattle.rules.specs.Record.{heatLimit, heatRange, carbonLimit, gasRange, carbonRange, fuelRanges, hourRange, anodesRanges}
 use Rattle.rules.proofs.MethodLaws.{methodOf-le}
 
 -- ---- ranges
@@ -50,6 +52,41 @@ heatRange-measured l f h measured =
 heatRange-of-fuelRanges : (l f : List ℕ) → fuelRanges l f ≡ true → heatRange l f ≡ true
 unfolding fuelRanges
 heatRange-of-fuelRanges l f h = also-r _ _ (also-l _ _ h)
+
+-- Whatever the kind of the record, its carbon is in the range of a gas.
+carbonRange-le : (l f : List ℕ) → carbonRange l f ≡ true → carbon l ≤ 4000000
+unfolding carbonRange gasRange
+carbonRange-le l f h =
+    if-test (analysed l)
+    (λ gas. le-trans (leb-true _ 1000000 (also-r _ _ (also-l _ _ (also-l _ _ (sym (choose-t _ gas refl) ∙ h))))) (lit≤ tt))
+    (λ other. le-trans (leb-true _ _ (sym (choose-f _ other refl) ∙ h)) (carbonLimit-le f))
+
+carbonRange-gas : (l f : List ℕ) → carbonRange l f ≡ true → analysed l ≡ true → gasRange l f ≡ true
+unfolding carbonRange
+carbonRange-gas l f h gas = sym (choose-t _ gas refl) ∙ h
+
+-- A molar volume that a fuel line tells is in its range.
+molarVolume-in : (v : ℕ) → molarVolumeOk v ≡ true → 0 < v → (20000 ≤ v) × (v ≤ 27000)
+unfolding molarVolumeOk
+molarVolume-in v h some =
+    let told = sym (either-f (ne-eqb v 0 (λ e. omega arith)) refl) ∙ h in
+    (leb-true 20000 v (also-l _ _ told), leb-true v 27000 (also-r _ _ told))
+
+-- What `mass` asks of analysed gas.
+gas-reach : (l f : List ℕ) → amount l ≤ 100000000 → gasRange l f ≡ true → molarVolumeOk (molarVolume f) ≡ true
+    → GasInReach (amount l) (carbon l) (molecularWeight l) (molarVolume f)
+unfolding gasRange
+gas-reach l f amount-in h k =
+    let weights = also-l _ _ h in
+    let carbons = also-l _ _ weights in
+    let volume = molarVolume-in (molarVolume f) k (ltb-true _ _ (also-r _ _ (also-l _ _ carbons))) in
+    record {
+      amount-le = amount-in;
+      carbon-le = leb-true _ _ (also-r _ _ carbons);
+      weight-le = leb-true _ _ (also-r _ _ h);
+      volume-ge = volume .0;
+      volume-le = volume .1;
+    }
 
 -- A record in its ranges gives no heat past the limit.
 pub heatLimit-le : (l f : List ℕ) → fuelRanges l f ≡ true → heatMeasured l ≡ true → heat l ≤ heatLimit l
@@ -118,14 +155,16 @@ pub record Reach (l f : List ℕ) : Type 0 where
   pub by-ch4 : HeatInReach (amount l) (heatInUse l f .0) (ch4Factor f)
   pub by-n2o : HeatInReach (amount l) (heatInUse l f .0) (n2oFactor f)
   pub by-carbon : CarbonInReach (amount l) (carbon l)
+  pub by-gas : analysed l ≡ true → GasInReach (amount l) (carbon l) (molecularWeight l) (molarVolume f)
 
 pub reach : (l f : List ℕ) → fuelRanges l f ≡ true → fuelOk f ≡ true → Reach l f
 unfolding fuelRanges fuelOk fuelHeadOk
 reach l f h k =
     let ranges = also-l _ _ h in
     let amount-in = leb-true _ _ (also-r _ _ (also-l _ _ ranges)) in
-    let carbon-in : carbon l ≤ carbonLimit f = leb-true _ _ (also-r _ _ h) in
+    let carbon-in : carbonRange l f ≡ true = also-r _ _ h in
     let head = also-l _ _ (also-l _ _ k) in
+    let volume-in = also-r _ _ (also-l _ _ k) in
     let n2o-in = leb-true _ _ (also-r _ _ head) in
     let ch4-in = leb-true _ _ (also-r _ _ (also-l _ _ head)) in
     let co2 = also-l _ _ (also-l _ _ head) in
@@ -136,7 +175,8 @@ reach l f h k =
       by-co2 = record { amount-le = amount-in; heat-le = heat-in; factor-le = co2-in };
       by-ch4 = record { amount-le = amount-in; heat-le = heat-in; factor-le = ch4-in };
       by-n2o = record { amount-le = amount-in; heat-le = heat-in; factor-le = n2o-in };
-      by-carbon = record { amount-le = amount-in; carbon-le = le-trans carbon-in (carbonLimit-le f) };
+      by-carbon = record { amount-le = amount-in; carbon-le = carbonRange-le l f carbon-in };
+      by-gas = λ gas. gas-reach l f amount-in (carbonRange-gas l f carbon-in gas) volume-in;
     }
 
 -- ---- no entry gives a ledger more than one record can, and its method is one of the list
@@ -146,15 +186,22 @@ pub record Bounded (e : Entry) : Type 0 where
   pub ch4-le : e .ch4 .0 ≤ mostEach
   pub n2o-le : e .n2o .0 ≤ mostEach
 
-co2By-le : (m : ℕ) (l f : List ℕ) → Reach l f → co2By m l f .0 ≤ mostEach
+abbrev Few : Ug → Type 0
+Few x = x .0 ≤ mostEach
+
+co2ByCarbon-le : (l f : List ℕ) → Reach l f → Few (co2ByCarbon l f)
+unfolding co2ByCarbon
+co2ByCarbon-le l f r =
+    if-choose Few (analysed l)
+    (λ gas. co2OfGas-le _ _ _ _ (r .by-gas gas))
+    (λ other. co2OfCarbon-le _ _ (r .by-carbon))
+
+co2By-le : (m : ℕ) (l f : List ℕ) → Reach l f → Few (co2By m l f)
 unfolding co2By
 co2By-le m l f r =
     if-choose Few (eqb m 4) (λ monitored. zero-le) (λ not-4.
-    if-choose Few (eqb m 3) (λ by-carbon. co2OfCarbon-le _ _ (r .by-carbon)) (λ by-heat.
+    if-choose Few (eqb m 3) (λ by-carbon. co2ByCarbon-le l f r) (λ by-heat.
     co2OfHeat-le _ _ _ (r .by-co2)))
-  where
-    Few : Ug → Type 0
-    Few x = x .0 ≤ mostEach
 
 pub bounded-fuelEntry : (l u f : List ℕ) → fuelRanges l f ≡ true → fuelOk f ≡ true → Bounded (fuelEntry l u f)
 unfolding fuelEntry entryBy

@@ -14,6 +14,7 @@ pub mod BitLaws
 pub mod RowLaws
 pub mod TableLaws
 pub mod NotedLaws
+pub mod KindLaws
 pub mod MethodLaws
 pub mod EntryLaws
 pub mod RecordLaws

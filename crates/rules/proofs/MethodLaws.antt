@@ -5,8 +5,8 @@ use mathlib.Core.List.{List}
 use mathlib.Core.Path.{_≡_, refl}
 use lib.Dec.{eqb, ltb, lit≤}
 use Rattle.choice.specs.Tests.{_either_, choose}
-use Rattle.choice.proofs.TestsLaws.{choose-t, choose-f, if-choose}
-use Rattle.rules.specs.Fields.{monitored, fuelClass, defaultHeat, heatMeasured, carbonMeasured}
+use Rattle.choice.proofs.TestsLaws.{either-t, choose-t, choose-f, if-choose}
+use Rattle.rules.specs.Fields.{monitored, fuelClass, defaultHeat, analysed, heatMeasured, carbonMeasured}
 use Rattle.rules.specs.Method.{small, methodOf}
 
 module _ (l u f : List ℕ) where
@@ -17,6 +17,10 @@ module _ (l u f : List ℕ) where
   pub methodOf-carbon : monitored u ≡ false → carbonMeasured l ≡ true → methodOf l u f ≡ 3
   unfolding methodOf
   methodOf-carbon m c = choose-f _ m (choose-t _ c refl)
+
+  -- Analysed gas is never without a method.
+  pub methodOf-analysed : monitored u ≡ false → analysed l ≡ true → methodOf l u f ≡ 3
+  methodOf-analysed m a = methodOf-carbon m (either-t _ a)
 
   pub methodOf-heat : monitored u ≡ false → carbonMeasured l ≡ false → heatMeasured l ≡ true →
       methodOf l u f ≡ choose (small u either eqb (fuelClass f) 1 either eqb (fuelClass f) 2) 2 0

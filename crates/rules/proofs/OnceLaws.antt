@@ -14,7 +14,7 @@ use Rattle.rules.specs.declared.listing.Found.the-variants.{At, Nothing}
 use Rattle.rules.specs.declared.record.Outcome.{Outcome}
 use Rattle.rules.specs.declared.record.Outcome.the-variants.{SetAside, Counted}
 use Rattle.rules.specs.Bytes.{line, linesIn}
-use Rattle.rules.specs.Fields.{kind, unitNumber, period}
+use Rattle.rules.specs.Fields.{kind, unitNumber, period, fuelled}
 use Rattle.rules.specs.Repeat.{stands, standsAmong, repeatable, repeated}
 use Rattle.rules.specs.Record.{check, listed, hourForm, anodesForm, moistureForm, hourRange, anodesRanges, fuelOutcome, hourJudged, hourOutcome, anodesOutcome, unfuelledOutcome, outcomeOf, unlessRepeated, outcomeAfter}
 use Rattle.rules.specs.Place.{place}
@@ -23,8 +23,9 @@ use Rattle.rules.specs.Table.{hasBit, bitOf, noted, isTable, noting, Kno
 use Rattle.rules.specs.Marks.{markedAt, wasNoted}
 use Rattle.rules.proofs.ListingLaws.{listed-at, listed-nothing, place-lt, place-number}
 use Rattle.rules.proofs.EntryLaws.{month-in}
+use Rattle.rules.proofs.KindLaws.{fuelled-not-hour, fuelled-not-anodes}
 use Rattle.rules.proofs.RecordLaws.{check-t, check-f}
-use Rattle.rules.proofs.RowLaws.{hasBit-hour, hasBit-month, hasBit-fuel}
+use Rattle.rules.proofs.RowLaws.{hasBit-hour, hasBit-month, hasBit-other}
 use Rattle.rules.proofs.TableLaws.{Shows, shows-known}
 
 -- ---- what can be a repeat
@@ -133,22 +134,23 @@ first (Counted e) = check-t 8 refl refl
 
 module _ (before : List (List ℕ)) (l : List ℕ) (units fuels : List (List ℕ)) where
   -- No fuel record is repeated.
-  pub outcomeAfter-fuel : kind l ≡ 1 → outcomeAfter before l units fuels ≡ fuelOutcome l units fuels
+  pub outcomeAfter-fuel : fuelled l ≡ true → outcomeAfter before l units fuels ≡ fuelOutcome l units fuels
   unfolding outcomeAfter outcomeOf repeated repeatable
   outcomeAfter-fuel fuel =
       ap₂ unlessRepeated
-      (also-f _ (either-f (ne-eqb (kind l) 2 (λ e. omega arith)) (ne-eqb (kind l) 4 (λ e. omega arith))))
-      (choose-t _ (eq-eqb (kind l) 1 fuel) refl)
+      (also-f _ (either-f (ne-eqb (kind l) 2 (fuelled-not-hour l fuel)) (ne-eqb (kind l) 4 (fuelled-not-anodes l fuel))))
+      (choose-t _ fuel refl)
       ∙ first (fuelOutcome l units fuels)
 
-  pub outcomeAfter-unfuelled : (kind l ≡ 1 → ⊥)
+  pub outcomeAfter-unfuelled : fuelled l ≡ false
       → outcomeAfter before l units fuels ≡ unlessRepeated (repeated l before) (unfuelledOutcome l units)
   unfolding outcomeAfter outcomeOf
-  outcomeAfter-unfuelled other = ap (unlessRepeated (repeated l before)) (choose-f _ (ne-eqb (kind l) 1 other) refl)
+  outcomeAfter-unfuelled other = ap (unlessRepeated (repeated l before)) (choose-f _ other refl)
 
 -- It has no bit either.
-pub noting-fuel : (l units t : List ℕ) → kind l ≡ 1 → noting l units t ≡ t
+pub noting-fuel : (l units t : List ℕ) → fuelled l ≡ true → noting l units t ≡ t
 unfolding noting noted
 noting-fuel l units t fuel =
-    let none : noted l units t ≡ t = choose-f _ (hasBit-fuel (kind l) (period l) fuel) refl in
+    let no-bit = hasBit-other (kind l) (period l) (fuelled-not-hour l fuel) (fuelled-not-anodes l fuel) in
+    let none : noted l units t ≡ t = choose-f _ no-bit refl in
     if-choose (λ (x : List ℕ). x ≡ t) (isTable units t) (λ table. none) (λ no-table. refl)

@@ -14,7 +14,7 @@ use Rattle.rules.specs.declared.book.Head.{Head}
 use Rattle.rules.specs.declared.record.Outcome.{Outcome}
 use Rattle.rules.specs.declared.record.Outcome.the-variants.{SetAside, Counted}
 use Rattle.rules.specs.Bytes.{line, linesIn}
-use Rattle.rules.specs.Fields.{number, monitored, kind, unitNumber, fuelNumber, percentBits, flowBits}
+use Rattle.rules.specs.Fields.{number, monitored, kind, unitNumber, fuelNumber, fuelled, percentBits, flowBits}
 use Rattle.rules.specs.Book.{unitOk, fuelOk, linesOk, linesSound, unitLines, fuelLines, opened, accepted}
 use Rattle.rules.specs.Method.{methodOf}
 use Rattle.rules.specs.Entry.{heatInUse}
@@ -102,7 +102,7 @@ module _ (l units fuels : List ℕ) (U : linesSound unitOk units ≡ true) (F : 
   pub within-outcomeOf : Within (outcomeOf l (linesIn units) (linesIn fuels))
   unfolding outcomeOf unfuelledOutcome
   within-outcomeOf =
-      chosen _ _ (eqb (kind l) 1) within-fuelOutcome
+      chosen _ _ (fuelled l) within-fuelOutcome
       (chosen _ _ (eqb (kind l) 2) within-hourOutcome
       (within-check (eqb (kind l) 4) 1 _ (lit≤ tt) (lit≤ tt) (λ used. within-anodesOutcome)))
 

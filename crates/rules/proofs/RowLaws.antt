@@ -53,11 +53,11 @@ if-hasBit k w h hour month =
     (λ t. let e = eqb-true k 4 t in month e first (omega (arith, last, lastPeriod-month k e)) (bitOf-month k w e))
     (λ g. absurd (omega (arith, first, last, lastPeriod-other k (eqb-false k 2 f) (eqb-false k 4 g)))))
 
--- A fuel record has none.
-pub hasBit-fuel : (k w : ℕ) → k ≡ 1 → hasBit k w ≡ false
-hasBit-fuel k w fuel =
+-- No other record has one.
+pub hasBit-other : (k w : ℕ) → (k ≡ 2 → ⊥) → (k ≡ 4 → ⊥) → hasBit k w ≡ false
+hasBit-other k w no-hour no-anodes =
     if-test (hasBit k w)
-    (λ h. absurd (if-hasBit k w h (λ e a b q. omega arith) (λ e a b q. omega arith)))
+    (λ h. absurd (if-hasBit k w h (λ e a b q. no-hour e) (λ e a b q. no-anodes e)))
     (λ none. none)
 
 pub hasBit-first : (k w : ℕ) → hasBit k w ≡ true → 1 ≤ w

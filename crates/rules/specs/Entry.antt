@@ -1,8 +1,9 @@
--- What a record that counts gives to the ledgers. RULES, "Fuel", "Monitor hours",
+-- What a record that counts gives to the ledgers. RULES, "Fuel", "Analysed gas", "Monitor hours",
 -- "Anodes" and "Ledgers".
 --
 --     measuredHeat l         the heat that the record gives: 1.11 times it where it is a low value
 --     heatInUse l f          the measured heat if flagged, else the fuel's default
+--     co2ByCarbon l f        CO2 of the record l of the fuel f by its carbon
 --     co2By m l f            CO2 of the record l of the fuel f by method m
 --     destinationBy m f      the ledger that this CO2 goes to
 --     entryBy m l f          what the record l of the fuel f gives by method m
@@ -22,12 +23,13 @@ use Rattle.mass.specs.declared.fuel.Amount.{Amount}
 use Rattle.mass.specs.declared.fuel.Heat.{Heat}
 use Rattle.mass.specs.declared.hour.Readings.{Readings}
 use Rattle.mass.specs.Fuel.{co2OfHeat, co2OfCarbon, traceOfHeat, highOf}
+use Rattle.mass.specs.Gas.{co2OfGas}
 use Rattle.mass.specs.Hour.{hourMass}
 use Rattle.mass.specs.Anode.{co2OfAnodes}
 use Rattle.rules.specs.declared.entry.Destination.{Destination}
 use Rattle.rules.specs.declared.entry.Destination.the-variants.{Fossil, Biomass, Nowhere}
 use Rattle.rules.specs.declared.entry.Entry.{Entry}
-use Rattle.rules.specs.Fields.{fuelClass, defaultHeat, co2Factor, ch4Factor, n2oFactor, heatMeasured, heatLow, amount, heat, carbon, moisture, metal, anodeUse, sulphur, ash, otherImpurities}
+use Rattle.rules.specs.Fields.{fuelClass, defaultHeat, co2Factor, ch4Factor, n2oFactor, molarVolume, analysed, heatMeasured, heatLow, amount, heat, carbon, molecularWeight, moisture, metal, anodeUse, sulphur, ash, otherImpurities}
 use Rattle.rules.specs.Method.{methodOf}
 
 unfoldable pub measuredHeat : List ℕ → Heat
@@ -39,11 +41,18 @@ heatInUse l f = choose (heatMeasured l) (measuredHeat l) (record { 0 = defaultHe
 abbrev pub amountOf : List ℕ → Amount
 amountOf l = record { 0 = amount l }
 
+-- The carbon of analysed gas is in a kilogram of it, and that of other fuel in its unit.
+unfoldable pub co2ByCarbon : List ℕ → List ℕ → Ug
+co2ByCarbon l f =
+    choose (analysed l)
+    (co2OfGas (amountOf l) (record { 0 = carbon l }) (record { 0 = molecularWeight l }) (record { 0 = molarVolume f }))
+    (co2OfCarbon (amountOf l) (record { 0 = carbon l }))
+
 -- A monitored unit's fuel gives no CO2: its hours do.
 unfoldable pub co2By : ℕ → List ℕ → List ℕ → Ug
 co2By m l f =
     choose (eqb m 4) (record { 0 = 0 })
-    (choose (eqb m 3) (co2OfCarbon (amountOf l) (record { 0 = carbon l }))
+    (choose (eqb m 3) (co2ByCarbon l f)
     (co2OfHeat (amountOf l) (heatInUse l f) (record { 0 = co2Factor f })))
 
 unfoldable pub destinationBy : ℕ → List ℕ → Destination

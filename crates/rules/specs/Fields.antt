@@ -7,7 +7,9 @@
 --     fuel line f       number, fuelKind, fuelClass, defaultHeat, co2Factor, ch4Factor, n2oFactor, molarVolume;
 --                       fuelBlank
 --     record l          kind, flags, unitNumber, fuelNumber, period
---     fuel record l     heatMeasured, carbonMeasured, heatLow, month, amount, heat, carbon; fuelRecordBlank
+--     fuel record l     fuelled, analysed, heatMeasured, carbonFlagged, carbonMeasured, heatLow, month, amount,
+--                       heat, carbon; fuelRecordBlank
+--     analysed gas l    molecularWeight; gasBlank
 --     monitor hour l    hour, percentBits, flowBits, moisture; hourBlank
 --     anodes l          month, metal, anodeUse, sulphur, ash, otherImpurities; anodesBlank
 --
@@ -17,6 +19,7 @@ use Prim.Native.Nat.{ℕ, _/_, _%_}
 use mathlib.Core.Bool.{Bool}
 use mathlib.Core.List.{List}
 use lib.Dec.{eqb}
+use Rattle.choice.specs.Tests.{_either_}
 use Rattle.rules.specs.Bytes.{byte, word, zeros}
 
 -- ---- a trailer t
@@ -119,11 +122,22 @@ abbrev pub period : List ℕ → ℕ
 period l = word l 6 2
 
 -- ---- a fuel record l; the month is that of anodes too
+-- Its kind is 1 or, of gas analysed by molecular weight, 3.
+abbrev pub analysed : List ℕ → Bool
+analysed l = eqb (kind l) 3
+
+abbrev pub fuelled : List ℕ → Bool
+fuelled l = eqb (kind l) 1 either analysed l
+
 abbrev pub heatMeasured : List ℕ → Bool
 heatMeasured l = eqb (flags l % 2) 1
 
+abbrev pub carbonFlagged : List ℕ → Bool
+carbonFlagged l = eqb (flags l / 2 % 2) 1
+
+-- An analysis measures the carbon.
 abbrev pub carbonMeasured : List ℕ → Bool
-carbonMeasured l = eqb (flags l / 2 % 2) 1
+carbonMeasured l = analysed l either carbonFlagged l
 
 -- The heat is a low value.
 abbrev pub heatLow : List ℕ → Bool
@@ -138,11 +152,20 @@ amount l = word l 8 4
 abbrev pub heat : List ℕ → ℕ
 heat l = word l 12 4
 
+-- It is in mg for each unit of fuel or, of analysed gas, for each kg.
 abbrev pub carbon : List ℕ → ℕ
 carbon l = word l 16 4
 
 abbrev pub fuelRecordBlank : List ℕ → Bool
 fuelRecordBlank l = zeros l 20 12
+
+-- ---- analysed gas l
+-- It is in g for each kmol.
+abbrev pub molecularWeight : List ℕ → ℕ
+molecularWeight l = word l 20 4
+
+abbrev pub gasBlank : List ℕ → Bool
+gasBlank l = zeros l 24 8
 
 -- ---- a monitor hour l, its readings by their bit patterns
 abbrev pub hour : List ℕ → ℕ

@@ -24,14 +24,15 @@ use Rattle.mass.specs.Hour.{hourOf}
 use Rattle.rules.specs.declared.entry.Entry.{Entry}
 use Rattle.rules.specs.declared.record.Outcome.{Outcome}
 use Rattle.rules.specs.declared.record.Outcome.the-variants.{SetAside, Counted}
-use Rattle.rules.specs.Fields.{number, monitored, kind, unitNumber, fuelNumber, period, percentBits, flowBits}
+use Rattle.rules.specs.Fields.{number, monitored, kind, unitNumber, fuelNumber, period, fuelled, percentBits, flowBits}
 use Rattle.rules.specs.Method.{methodOf}
 use Rattle.rules.specs.Entry.{heatInUse, fuelEntry, hourEntry, anodesEntry}
 use Rattle.rules.specs.Repeat.{repeatable}
 use Rattle.rules.specs.Record.{fuelForm, hourForm, anodesForm, moistureForm, fuelRanges, hourRange, anodesRanges}
 
+-- Analysed gas is fuel too.
 abbrev pub FuelRecord : List ℕ → Type 0
-FuelRecord l = kind l ≡ 1
+FuelRecord l = fuelled l ≡ true
 
 abbrev pub MonitorHour : List ℕ → Type 0
 MonitorHour l = kind l ≡ 2
@@ -60,7 +61,8 @@ pub data Applies (before : List (List ℕ)) (l : List ℕ) (units fuels : List (
   -- 3: fuel not listed.
   noFuel : FuelRecord l → Lacks (fuelNumber l) fuels → Applies before l units fuels 3
   -- 4: month, amount, heat or carbon out of range, the limit of carbon being that of the fuel's kind, or a
-  -- low heat of a fuel that isn't natural gas;
+  -- low heat of a fuel that isn't natural gas; of analysed gas, its molecular weight too, a fuel that isn't a
+  -- gas, or one that tells no molar volume;
   fuelOutside : (f : List ℕ) → FuelRecord l → Listed (fuelNumber l) fuels f → fuelRanges l f ≡ false
       → Applies before l units fuels 4
   -- hour, moisture or reading out of range;

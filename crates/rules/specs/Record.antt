@@ -5,11 +5,14 @@
 --     check t k rest               rest if t passes, else the record is set aside with reason k
 --     listed x ls k rest           rest of the first line of ls with number x; set aside with reason k
 --                                  if there is none
+--     carbonForm l                 the flag of the carbon, and the bytes from it on, are right
 --     fuelForm l, hourForm l, anodesForm l
 --                                  reason 1 doesn't apply, the moisture of an hour aside
 --     moistureForm l u             nor does it by the moisture: only a dry unit's hour has one
 --     heatLimit l, carbonLimit f   the most heat and carbon that the record may give
 --     heatRange l f                the heat is in its range, if it was measured
+--     gasRange l f                 the fuel is a gas that tells its molar volume, and the analysis is in its ranges
+--     carbonRange l f              the carbon is in its range
 --     fuelRanges l f, hourRange l, anodesRanges l
 --                                  reason 4 doesn't apply, the readings of an hour aside
 --     fuelJudged l u f             what becomes of a fuel record once unit and fuel are known
@@ -38,7 +41,7 @@ use Rattle.rules.specs.declared.book.Head.{Head}
 use Rattle.rules.specs.declared.record.Outcome.{Outcome}
 use Rattle.rules.specs.declared.record.Outcome.the-variants.{SetAside, Counted}
 use Rattle.rules.specs.Bytes.{line, lines, linesIn}
-use Rattle.rules.specs.Fields.{number, monitored, dry, fuelKind, fuelClass, kind, flags, unitNumber, fuelNumber, heatMeasured, carbonMeasured, heatLow, month, amount, heat, carbon, fuelRecordBlank, hour, percentBits, flowBits, moisture, hourBlank, metal, anodeUse, sulphur, ash, otherImpurities, anodesBlank}
+use Rattle.rules.specs.Fields.{number, monitored, dry, fuelKind, fuelClass, molarVolume, kind, flags, unitNumber, fuelNumber, fuelled, analysed, heatMeasured, carbonFlagged, heatLow, month, amount, heat, carbon, fuelRecordBlank, molecularWeight, gasBlank, hour, percentBits, flowBits, moisture, hourBlank, metal, anodeUse, sulphur, ash, otherImpurities, anodesBlank}
 use Rattle.rules.specs.Book.{unitLines, fuelLines}
 use Rattle.rules.specs.Method.{methodOf}
 use Rattle.rules.specs.Entry.{heatInUse, fuelEntry, hourEntry, impurities, anodesEntry}
@@ -55,14 +58,20 @@ listed x [] k rest = SetAside k
 listed x (l ∷ ls) k rest = choose (eqb (number l) x) (rest l) (listed x ls k rest)
 
 -- ---- reason 1: flags, and bytes that must be 0
+-- An analysis tells the carbon always, so that no flag does.
+unfoldable pub carbonForm : List ℕ → Bool
+carbonForm l =
+    choose (analysed l)
+    (not (carbonFlagged l) also gasBlank l)
+    ((carbonFlagged l either eqb (carbon l) 0) also fuelRecordBlank l)
+
 -- A low value is a measured one.
 unfoldable pub fuelForm : List ℕ → Bool
 fuelForm l =
     leb (flags l) 7
     also (heatMeasured l either not (heatLow l))
     also (heatMeasured l either eqb (heat l) 0)
-    also (carbonMeasured l either eqb (carbon l) 0)
-    also fuelRecordBlank l
+    also carbonForm l
 
 unfoldable pub hourForm : List ℕ → Bool
 hourForm l = eqb (flags l) 0 also eqb (fuelNumber l) 0 also hourBlank l
@@ -87,13 +96,24 @@ heatRange l f =
 unfoldable pub carbonLimit : List ℕ → ℕ
 carbonLimit f = choose (eqb (fuelKind f) 3) 4000000 1000000
 
+unfoldable pub gasRange : List ℕ → List ℕ → Bool
+gasRange l f =
+    eqb (fuelKind f) 3
+    also ltb 0 (molarVolume f)
+    also leb (carbon l) 1000000
+    also leb 1 (molecularWeight l)
+    also leb (molecularWeight l) 200000
+
+unfoldable pub carbonRange : List ℕ → List ℕ → Bool
+carbonRange l f = choose (analysed l) (gasRange l f) (leb (carbon l) (carbonLimit f))
+
 unfoldable pub fuelRanges : List ℕ → List ℕ → Bool
 fuelRanges l f =
     leb 1 (month l)
     also leb (month l) 12
     also leb (amount l) 100000000
     also heatRange l f
-    also leb (carbon l) (carbonLimit f)
+    also carbonRange l f
 
 unfoldable pub hourRange : List ℕ → Bool
 hourRange l = leb 1 (hour l) also leb (hour l) 8784 also leb (moisture l) 1000
@@ -158,7 +178,7 @@ unfuelledOutcome l units =
     (check (eqb (kind l) 4) 1 (anodesOutcome l units))
 
 unfoldable pub outcomeOf : List ℕ → List (List ℕ) → List (List ℕ) → Outcome
-outcomeOf l units fuels = choose (eqb (kind l) 1) (fuelOutcome l units fuels) (unfuelledOutcome l units)
+outcomeOf l units fuels = choose (fuelled l) (fuelOutcome l units fuels) (unfuelledOutcome l units)
 
 -- ---- reason 8: the same hour or month twice
 unfoldable pub unlessRepeated : Bool → Outcome → Outcome

@@ -13,6 +13,10 @@ use mass::fuel::Co2Factor;
 use mass::fuel::Heat;
 use mass::fuel::LowHeat;
 use mass::fuel::TraceFactor;
+use mass::gas;
+use mass::gas::CarbonShare;
+use mass::gas::MolarVolume;
+use mass::gas::MolecularWeight;
 ghost use mathlib.Core.Bool.{true};
 ghost use mathlib.Core.Path.{_≡_};
 ghost use Prim.Native.Nat.{_≤_};
@@ -20,7 +24,7 @@ ghost use lib.ListN.{length};
 ghost use Rattle.rules.specs.Fields.{heat};
 ghost use Rattle.rules.specs.Book.{fuelOk};
 ghost use Rattle.rules.specs.Record.{heatLimit, fuelRanges, anodesRanges};
-ghost use Rattle.rules.specs.Entry.{measuredHeat, heatInUse, co2By, destinationBy, entryBy, co2Alone, impurities, anodesEntry};
+ghost use Rattle.rules.specs.Entry.{measuredHeat, heatInUse, co2ByCarbon, co2By, destinationBy, entryBy, co2Alone, impurities, anodesEntry};
 
 // The ledger that a record's CO2 goes to. CH4 and N2O have one each.
 pub enum Destination {
@@ -109,11 +113,27 @@ fn weigh_co2(method: u8, h: Heat, l: &[u8], f: &[u8]) -> Ug
     if method == 4 {
         return Ug(0);
     }
-    let a = Amount(field::amount(l));
     if method == 3 {
-        return fuel::weigh_by_carbon(a, Carbon(field::carbon(l)));
+        return weigh_carbon(l, f);
     }
+    let a = Amount(field::amount(l));
     fuel::weigh_by_heat(a, h, Co2Factor(field::co2_factor(f)))
+}
+
+fn weigh_carbon(l: &[u8], f: &[u8]) -> Ug
+    requires whole { ⌜ (32 ≤ length (now l)) × (32 ≤ length (now f)) ⌝ }
+    requires ranges { ⌜ fuelRanges (now l) (now f) ≡ true ⌝ }
+    requires fuel { ⌜ fuelOk (now f) ≡ true ⌝ }
+    ensures co2 { λ r. ⌜ r ≡ co2ByCarbon (now (l .entry)) (now (f .entry)) ⌝ }
+{
+    let a = Amount(field::amount(l));
+    let carbon = field::carbon(l);
+    if field::is_analysed(l) {
+        let weight = MolecularWeight(field::molecular_weight(l));
+        let volume = MolarVolume(field::molar_volume(f));
+        return gas::weigh(a, CarbonShare(carbon), weight, volume);
+    }
+    fuel::weigh_by_carbon(a, Carbon(carbon))
 }
 
 // What a record of no fuel gives.

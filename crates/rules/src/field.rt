@@ -137,6 +137,20 @@ pub(crate) fn period(l: &[u8]) -> u64
 }
 
 // ---- a fuel record
+pub(crate) fn is_fuelled(l: &[u8]) -> bool
+    requires whole { ⌜ 32 ≤ length (now l) ⌝ }
+    ensures field { λ r. ⌜ r ≡ fields.fuelled (now (l .entry)) ⌝ }
+{
+    (l[0] == 1) | is_analysed(l)
+}
+
+pub(crate) fn is_analysed(l: &[u8]) -> bool
+    requires whole { ⌜ 32 ≤ length (now l) ⌝ }
+    ensures field { λ r. ⌜ r ≡ fields.analysed (now (l .entry)) ⌝ }
+{
+    l[0] == 3
+}
+
 pub(crate) fn is_heat_measured(l: &[u8]) -> bool
     requires whole { ⌜ 32 ≤ length (now l) ⌝ }
     ensures field { λ r. ⌜ r ≡ fields.heatMeasured (now (l .entry)) ⌝ }
@@ -144,11 +158,18 @@ pub(crate) fn is_heat_measured(l: &[u8]) -> bool
     l[1] % 2 == 1
 }
 
+pub(crate) fn is_carbon_flagged(l: &[u8]) -> bool
+    requires whole { ⌜ 32 ≤ length (now l) ⌝ }
+    ensures field { λ r. ⌜ r ≡ fields.carbonFlagged (now (l .entry)) ⌝ }
+{
+    l[1] / 2 % 2 == 1
+}
+
 pub(crate) fn is_carbon_measured(l: &[u8]) -> bool
     requires whole { ⌜ 32 ≤ length (now l) ⌝ }
     ensures field { λ r. ⌜ r ≡ fields.carbonMeasured (now (l .entry)) ⌝ }
 {
-    l[1] / 2 % 2 == 1
+    is_analysed(l) | is_carbon_flagged(l)
 }
 
 pub(crate) fn is_heat_low(l: &[u8]) -> bool
@@ -184,6 +205,21 @@ pub(crate) fn is_fuel_record_blank(l: &[u8]) -> bool
     ensures field { λ r. ⌜ r ≡ fields.fuelRecordBlank (now (l .entry)) ⌝ }
 {
     bytes::are_zero(l, 20, 32)
+}
+
+// ---- analysed gas
+pub(crate) fn molecular_weight(l: &[u8]) -> u32
+    requires whole { ⌜ 32 ≤ length (now l) ⌝ }
+    ensures field { λ r. ⌜ r ≡ fields.molecularWeight (now (l .entry)) ⌝ }
+{
+    bytes::read_word(l, 20, 4) as u32
+}
+
+pub(crate) fn is_gas_blank(l: &[u8]) -> bool
+    requires whole { ⌜ 32 ≤ length (now l) ⌝ }
+    ensures field { λ r. ⌜ r ≡ fields.gasBlank (now (l .entry)) ⌝ }
+{
+    bytes::are_zero(l, 24, 32)
 }
 
 // ---- a monitor hour

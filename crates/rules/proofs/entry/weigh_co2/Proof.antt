@@ -5,85 +5,68 @@ use native.Mathlib.Omega.{arith}
 use borrow.Author.Needs.{needs}
 use borrow.Author.Tests.{eq-eqb, ne-eqb}
 use Rattle.choice.proofs.TestsLaws.{choose-t, choose-f}
-use Rattle.mass.specs.Fuel.{co2OfHeat, co2OfCarbon}
+use Rattle.mass.specs.Fuel.{co2OfHeat}
 use Rattle.rules.specs.Entry.{heatInUse, co2By}
-use Rattle.rules.proofs.EntryLaws.{Reach, reach}
+use Rattle.rules.proofs.EntryLaws.{reach}
 use Rattle.rules.proofs.entry.weigh_co2.Statement.{statement}
 use Rattle.rules.proofs.entry.weigh_co2.Tie as tie
 
-in-reach : (c : tie.After-amount)
-    → Reach (c .before .before .before .before .args .l .now) (c .before .before .before .before .args .f .now)
-in-reach c =
-    let h = c .before .before .before .before .pre in
-    reach _ _ (h .1 .0) (h .1 .1 .0)
+abbrev entry : tie.After-amount → tie.Start
+entry c = c .before .before .before .before .before
 
-used : (c : tie.After-amount) →
-    let a = c .before .before .before .before .args in
-    a .h ≡ heatInUse (a .l .now) (a .f .now)
-used c = c .before .before .before .before .pre .1 .1 .1
+used : (c : tie.After-amount) → entry c .args .h ≡ heatInUse (entry c .args .l .now) (entry c .args .f .now)
+used c = entry c .pre .1 .1 .1
 
 returns : tie.Need-returns
 unfolding co2By
 returns c = sym (choose-t _ (eq-eqb _ _ (c .if1 .taken)) refl)
 
-amount-requires : tie.Need-amount-requires
-amount-requires c κs = search needs
-
-carbon-requires : tie.Need-carbon-requires
-carbon-requires c κs = search needs
-
-weigh-by-carbon-requires : tie.Need-weigh-by-carbon-requires
-weigh-by-carbon-requires c κs =
-    let a = c .before .before in
-    let amount = a .amount .ensures in
-    let carbon = c .carbon .ensures in
-    let r = in-reach a .by-carbon in
-    record { amount-le = omega arith; carbon-le = omega arith }
+weigh-carbon-requires : tie.Need-weigh-carbon-requires
+weigh-carbon-requires c κs =
+    let h = c .before .before .before .before .pre in
+    (h .0, (h .1 .0, h .1 .1 .0))
 
 returns-2 : tie.Need-returns-2
 unfolding co2By
 returns-2 c =
-    let a = c .before .before .before in
-    let amount = a .amount .ensures in
-    let carbon = c .before .carbon .ensures in
-    c .weigh-by-carbon .ensures
-    ∙ (λ i. co2OfCarbon (record { 0 = amount i }) (record { 0 = carbon i }))
-    ∙ sym (choose-f _ (ne-eqb _ _ (a .before .if1 .left))
-    (choose-t _ (eq-eqb _ _ (c .before .before .if2 .taken)) refl))
+    c .weigh-carbon .ensures
+    ∙ sym (choose-f _ (ne-eqb _ _ (c .before .before .if1 .left)) (choose-t _ (eq-eqb _ _ (c .before .if2 .taken)) refl))
+
+amount-requires : tie.Need-amount-requires
+amount-requires c κs = search needs
 
 co2-factor-requires : tie.Need-co2-factor-requires
 co2-factor-requires c κs = search needs
 
 weigh-by-heat-requires : tie.Need-weigh-by-heat-requires
 weigh-by-heat-requires c κs =
-    let a = c .before .before in
+    let a = c .before in
     let amount = a .amount .ensures in
     let factor = c .co2-factor .ensures in
-    let r = in-reach a .by-co2 in
+    let h = entry a .pre in
+    let r = reach _ _ (h .1 .0) (h .1 .1 .0) .by-co2 in
     let heat-in = le-trans (le-of-eq (λ i. used a i .0)) (r .heat-le) in
     record { amount-le = omega arith; heat-le = heat-in; factor-le = omega arith }
 
 returns-3 : tie.Need-returns-3
 unfolding co2By
 returns-3 c =
-    let a = c .before .before .before in
+    let a = c .before .before in
     let amount = a .amount .ensures in
     let heat = used a in
     let factor = c .before .co2-factor .ensures in
     c .weigh-by-heat .ensures
     ∙ (λ i. co2OfHeat (record { 0 = amount i }) (heat i) (record { 0 = factor i }))
-    ∙ sym (choose-f _ (ne-eqb _ _ (a .before .if1 .left))
-    (choose-f _ (ne-eqb _ _ (c .before .before .if2 .left)) refl))
+    ∙ sym (choose-f _ (ne-eqb _ _ (a .before .before .if1 .left)) (choose-f _ (ne-eqb _ _ (a .before .if2 .left)) refl))
 
 pub weigh-co2-spec : {M : Type 1} → statement M
 weigh-co2-spec =
     tie.close
     (tie.spec
     returns
-    amount-requires
-    carbon-requires
-    weigh-by-carbon-requires
+    weigh-carbon-requires
     returns-2
+    amount-requires
     co2-factor-requires
     weigh-by-heat-requires
     returns-3)
