@@ -1,5 +1,6 @@
 // What a record that counts gives to the ledgers.
 use crate::field;
+use crate::listed;
 use mass::Ng;
 use mass::Ug;
 use mass::anode;
@@ -54,8 +55,8 @@ pub(crate) fn make_entry(method: u8, h: Heat, l: &[u8], f: &[u8]) -> Entry
     let destination = find_destination(method, f);
     let co2 = weigh_co2(method, h, l, f);
     let a = Amount(field::amount(l));
-    let ch4 = fuel::weigh_trace(a, h, TraceFactor(field::ch4_factor(f)));
-    let n2o = fuel::weigh_trace(a, h, TraceFactor(field::n2o_factor(f)));
+    let ch4 = fuel::weigh_trace(a, h, TraceFactor(listed::ch4_factor(f)));
+    let n2o = fuel::weigh_trace(a, h, TraceFactor(listed::n2o_factor(f)));
     Entry {
         method,
         destination,
@@ -74,7 +75,7 @@ pub(crate) fn find_heat(l: &[u8], f: &[u8]) -> Heat
     if field::is_heat_measured(l) {
         return find_measured(l);
     }
-    Heat(field::default_heat(f))
+    Heat(listed::default_heat(f))
 }
 
 // The heat that the record gives.
@@ -97,7 +98,7 @@ fn find_destination(by: u8, f: &[u8]) -> Destination
     if by == 4 {
         return Destination::Nowhere;
     }
-    if field::fuel_class(f) == 3 {
+    if listed::fuel_class(f) == 3 {
         return Destination::Biomass;
     }
     Destination::Fossil
@@ -117,7 +118,7 @@ fn weigh_co2(method: u8, h: Heat, l: &[u8], f: &[u8]) -> Ug
         return weigh_carbon(l, f);
     }
     let a = Amount(field::amount(l));
-    fuel::weigh_by_heat(a, h, Co2Factor(field::co2_factor(f)))
+    fuel::weigh_by_heat(a, h, Co2Factor(listed::co2_factor(f)))
 }
 
 fn weigh_carbon(l: &[u8], f: &[u8]) -> Ug
@@ -130,7 +131,7 @@ fn weigh_carbon(l: &[u8], f: &[u8]) -> Ug
     let carbon = field::carbon(l);
     if field::is_analysed(l) {
         let weight = MolecularWeight(field::molecular_weight(l));
-        let volume = MolarVolume(field::molar_volume(f));
+        let volume = MolarVolume(listed::molar_volume(f));
         return gas::weigh(a, CarbonShare(carbon), weight, volume);
     }
     fuel::weigh_by_carbon(a, Carbon(carbon))

@@ -2,7 +2,7 @@
 // against the line: a wrong one would cost a search and change no result.
 use crate::book::Head;
 use crate::bytes;
-use crate::field;
+use crate::listed;
 ghost use mathlib.Core.Path.{_≡_};
 ghost use Prim.Native.Nat.{_/_, _≤_};
 ghost use lib.ListN.{length};
@@ -37,7 +37,7 @@ fn note(s: &[u8]) -> [u8; 256]
     let n = s.len() / 32;
     let mut i = 0;
     while i < n {
-        let last = (field::number(bytes::take_line(s, i)) % 256) as usize;
+        let last = (listed::number(bytes::take_line(s, i)) % 256) as usize;
         places[last] = i as u8;
         i += 1;
     }

@@ -1,6 +1,6 @@
 // The unit lines and the fuel lines of a book: whether they are sound, and the line with a number.
 use crate::bytes;
-use crate::field;
+use crate::listed;
 ghost use mathlib.Core.Path.{_≡_};
 ghost use Prim.Native.Nat.{_≤_};
 ghost use lib.ListN.{length};
@@ -30,7 +30,7 @@ pub(crate) fn are_sound(s: &[u8], sort: Sort) -> bool
     let mut i = 0;
     'lines: while i < n {
         let l = bytes::take_line(s, i);
-        let number = field::number(l);
+        let number = listed::number(l);
         if number <= before {
             ok = false;
             break 'lines;
@@ -77,10 +77,10 @@ fn is_unit_head_right(u: &[u8]) -> bool
     requires whole { ⌜ 32 ≤ length (now u) ⌝ }
     ensures head { λ r. ⌜ r ≡ unitHeadOk (now (u .entry)) ⌝ }
 {
-    let flags = field::unit_flags(u);
-    let dry_monitored = field::is_monitored(u) | !field::is_dry(u);
-    let gap = field::is_unit_gap(u);
-    let rating = field::rating(u);
+    let flags = listed::unit_flags(u);
+    let dry_monitored = listed::is_monitored(u) | !listed::is_dry(u);
+    let gap = listed::is_unit_gap(u);
+    let rating = listed::rating(u);
     (flags <= 3) & dry_monitored & gap & (1 <= rating) & (rating <= 100000)
 }
 
@@ -88,12 +88,12 @@ fn is_fuel_head_right(f: &[u8]) -> bool
     requires whole { ⌜ 32 ≤ length (now f) ⌝ }
     ensures head { λ r. ⌜ r ≡ fuelHeadOk (now (f .entry)) ⌝ }
 {
-    let fits = do_agree(field::fuel_kind(f), field::fuel_class(f));
-    let heat = field::default_heat(f);
-    let co2 = field::co2_factor(f);
-    let ch4 = field::ch4_factor(f);
-    let n2o = field::n2o_factor(f);
-    let volume_right = is_molar_volume_right(field::molar_volume(f));
+    let fits = do_agree(listed::fuel_kind(f), listed::fuel_class(f));
+    let heat = listed::default_heat(f);
+    let co2 = listed::co2_factor(f);
+    let ch4 = listed::ch4_factor(f);
+    let n2o = listed::n2o_factor(f);
+    let volume_right = is_molar_volume_right(listed::molar_volume(f));
     fits
         & (heat <= 200000)
         & (1 <= co2)
@@ -133,7 +133,7 @@ pub(crate) fn find(s: &[u8], hints: &[u8], x: u64) -> Found
     if last < hints.len() {
         let hint = hints[last] as usize;
         if hint < s.len() / 32 {
-            if field::number(bytes::take_line(s, hint)) == x {
+            if listed::number(bytes::take_line(s, hint)) == x {
                 return Found::At(hint);
             }
         }
@@ -151,7 +151,7 @@ fn halve(s: &[u8], x: u64) -> Found
     let mut high = s.len() / 32;
     while low < high {
         let mid = low + (high - low) / 2;
-        let number = field::number(bytes::take_line(s, mid));
+        let number = listed::number(bytes::take_line(s, mid));
         if number == x {
             return Found::At(mid);
         }

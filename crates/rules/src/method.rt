@@ -1,5 +1,6 @@
 // The method by which a fuel record's CO2 is worked out.
 use crate::field;
+use crate::listed;
 ghost use mathlib.Core.Path.{_≡_};
 ghost use Prim.Native.Nat.{_≤_};
 ghost use lib.ListN.{length};
@@ -14,21 +15,21 @@ pub(crate) fn choose_method(l: &[u8], u: &[u8], f: &[u8]) -> u8
     requires whole { ⌜ (32 ≤ length (now l)) × (32 ≤ length (now u)) × (32 ≤ length (now f)) ⌝ }
     ensures chosen { λ r. ⌜ r ≡ methodOf (now (l .entry)) (now (u .entry)) (now (f .entry)) ⌝ }
 {
-    if field::is_monitored(u) {
+    if listed::is_monitored(u) {
         return 4;
     }
     if field::is_carbon_measured(l) {
         return 3;
     }
-    let small = field::rating(u) <= SMALL_RATING;
+    let small = listed::rating(u) <= SMALL_RATING;
     if field::is_heat_measured(l) {
-        let class = field::fuel_class(f);
+        let class = listed::fuel_class(f);
         if small | (class == 1) | (class == 2) {
             return 2;
         }
         return 0;
     }
-    if field::default_heat(f) == 0 {
+    if listed::default_heat(f) == 0 {
         return 0;
     }
     if small {
