@@ -20,7 +20,7 @@ pub record GasInReach (a c w v : ℕ) : Type 0 where
   pub volume-ge : 20000 ≤ v
   pub volume-le : v ≤ 27000
 
--- Method 3 for a gas in EPA's support document, with 3.664 for 44 / 12. A gram for each litre is a kilogram
--- for each cubic metre, so that milligrams of carbon for each kilogram become milligrams.
+-- Eq. 20-7 of WCI. Molecular weight over molar volume is grams for each litre, or kilograms for each cubic
+-- metre, of which each has so many milligrams of carbon.
 unfoldable pub co2OfGas : Amount → CarbonShare → MolecularWeight → MolarVolume → Ug
 co2OfGas a c w v = record { 0 = nearestTo (a .0 * c .0 * w .0 * perCarbon) (v .0) }

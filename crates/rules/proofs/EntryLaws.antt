@@ -53,13 +53,10 @@ heatRange-of-fuelRanges : (l f : List ℕ) → fuelRanges l f ≡ true → heatR
 unfolding fuelRanges
 heatRange-of-fuelRanges l f h = also-r _ _ (also-l _ _ h)
 
--- Whatever the kind of the record, its carbon is in the range of a gas.
-carbonRange-le : (l f : List ℕ) → carbonRange l f ≡ true → carbon l ≤ 4000000
-unfolding carbonRange gasRange
-carbonRange-le l f h =
-    if-test (analysed l)
-    (λ gas. le-trans (leb-true _ 1000000 (also-r _ _ (also-l _ _ (also-l _ _ (sym (choose-t _ gas refl) ∙ h))))) (lit≤ tt))
-    (λ other. le-trans (leb-true _ _ (sym (choose-f _ other refl) ∙ h)) (carbonLimit-le f))
+-- What it asks of the carbon, by the kind of the record.
+carbonRange-other : (l f : List ℕ) → carbonRange l f ≡ true → analysed l ≡ false → carbon l ≤ carbonLimit f
+unfolding carbonRange
+carbonRange-other l f h other = leb-true _ _ (sym (choose-f _ other refl) ∙ h)
 
 carbonRange-gas : (l f : List ℕ) → carbonRange l f ≡ true → analysed l ≡ true → gasRange l f ≡ true
 unfolding carbonRange
@@ -154,7 +151,7 @@ pub record Reach (l f : List ℕ) : Type 0 where
   pub by-co2 : HeatInReach (amount l) (heatInUse l f .0) (co2Factor f)
   pub by-ch4 : HeatInReach (amount l) (heatInUse l f .0) (ch4Factor f)
   pub by-n2o : HeatInReach (amount l) (heatInUse l f .0) (n2oFactor f)
-  pub by-carbon : CarbonInReach (amount l) (carbon l)
+  pub by-carbon : analysed l ≡ false → CarbonInReach (amount l) (carbon l)
   pub by-gas : analysed l ≡ true → GasInReach (amount l) (carbon l) (molecularWeight l) (molarVolume f)
 
 pub reach : (l f : List ℕ) → fuelRanges l f ≡ true → fuelOk f ≡ true → Reach l f
@@ -175,7 +172,10 @@ reach l f h k =
       by-co2 = record { amount-le = amount-in; heat-le = heat-in; factor-le = co2-in };
       by-ch4 = record { amount-le = amount-in; heat-le = heat-in; factor-le = ch4-in };
       by-n2o = record { amount-le = amount-in; heat-le = heat-in; factor-le = n2o-in };
-      by-carbon = record { amount-le = amount-in; carbon-le = carbonRange-le l f carbon-in };
+      by-carbon = λ other. record {
+        amount-le = amount-in;
+        carbon-le = le-trans (carbonRange-other l f carbon-in other) (carbonLimit-le f);
+      };
       by-gas = λ gas. gas-reach l f amount-in (carbonRange-gas l f carbon-in gas) volume-in;
     }
 
@@ -194,7 +194,7 @@ unfolding co2ByCarbon
 co2ByCarbon-le l f r =
     if-choose Few (analysed l)
     (λ gas. co2OfGas-le _ _ _ _ (r .by-gas gas))
-    (λ other. co2OfCarbon-le _ _ (r .by-carbon))
+    (λ other. co2OfCarbon-le _ _ (r .by-carbon other))
 
 co2By-le : (m : ℕ) (l f : List ℕ) → Reach l f → Few (co2By m l f)
 unfolding co2By

@@ -45,7 +45,8 @@ amountOf l = record { 0 = amount l }
 unfoldable pub co2ByCarbon : List ℕ → List ℕ → Ug
 co2ByCarbon l f =
     choose (analysed l)
-    (co2OfGas (amountOf l) (record { 0 = carbon l }) (record { 0 = molecularWeight l }) (record { 0 = molarVolume f }))
+    (co2OfGas (amountOf l) (record { 0 = carbon l }) (record { 0 = molecularWeight l })
+    (record { 0 = molarVolume f }))
     (co2OfCarbon (amountOf l) (record { 0 = carbon l }))
 
 -- A monitored unit's fuel gives no CO2: its hours do.

@@ -68,7 +68,7 @@ weigh-by-carbon-requires c κs =
     let read = c .before .before in
     let amount = read .before .amount .ensures in
     let carbon = read .carbon .ensures in
-    let r = in-reach read .by-carbon in
+    let r = in-reach read .by-carbon (is (c .before .is-analysed .ensures) (c .if1 .left)) in
     record { amount-le = omega arith; carbon-le = omega arith }
 
 returns-2 : tie.Need-returns-2
