@@ -89,9 +89,10 @@ static inline uint32_t wetherstep_count(uint64_t reply) { return (uint32_t)(repl
                                         is for a unit whose monitor measures dry gas */
 #define WETHERSTEP_REASON_UNIT 2     /* the unit isn't listed: list it, or correct its number */
 #define WETHERSTEP_REASON_FUEL 3     /* the fuel isn't listed: list it, or correct its number */
-#define WETHERSTEP_REASON_RANGE 4    /* month, hour, amount, heat, carbon, moisture, reading, metal, anode
-                                        use or impurities: correct it; a low heat value is for natural
-                                        gas alone */
+#define WETHERSTEP_REASON_RANGE 4    /* month, hour, amount, heat, carbon, molecular weight, moisture,
+                                        reading, metal, anode use or impurities: correct it; a low heat
+                                        value is for natural gas alone, and a molecular weight for a gas
+                                        whose line has a molar volume */
 #define WETHERSTEP_REASON_MONITOR 5  /* an hour of a unit without a monitor: correct unit or flag */
 #define WETHERSTEP_REASON_METHOD 6   /* no permitted method: give the carbon, or check the rating */
 #define WETHERSTEP_REASON_HEAT 7     /* no heat in use: give it, or give the fuel a default */
@@ -102,7 +103,7 @@ static inline uint32_t wetherstep_count(uint64_t reply) { return (uint32_t)(repl
 #define WETHERSTEP_METHOD_HOUR 0           /* none: a monitor hour or anodes, by what they tell */
 #define WETHERSTEP_METHOD_DEFAULT_HEAT 1   /* fuel, by its default heat */
 #define WETHERSTEP_METHOD_MEASURED_HEAT 2  /* fuel, by the heat measured, as a low value or not */
-#define WETHERSTEP_METHOD_CARBON 3         /* fuel, by the carbon measured */
+#define WETHERSTEP_METHOD_CARBON 3         /* fuel, by the carbon measured, in a unit or in a kg of it */
 #define WETHERSTEP_METHOD_MONITORED 4      /* fuel of a monitored unit, whose hours give the CO2 */
 #define WETHERSTEP_NO_RECORD 255           /* the book has no record with this index */
 
