@@ -21,7 +21,7 @@ pub fn weigh(a: Amount, c: CarbonShare, w: MolecularWeight, v: MolarVolume) -> U
     ensures exact { λ r. ⌜ r ≡ co2OfGas a c w v ⌝ }
 {
     let carbon = a.0 as u64 * c.0 as u64;
-    let weight = w.0 as u64 * fuel::CO2_OF_CARBON;
-    let co2 = rounding::round_product(carbon, weight, v.0 as u64);
+    let weight = w.0 * fuel::CO2_OF_CARBON as u32;
+    let co2 = rounding::round_product(carbon, weight, v.0);
     Ug(co2)
 }

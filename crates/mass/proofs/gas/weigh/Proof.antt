@@ -4,7 +4,7 @@ use native.Mathlib.Nat.{lt-of-lt-of-le}
 use native.Mathlib.Omega.{arith}
 use lib.Dec.{lit<}
 use borrow.Author.Needs.{needs}
-use Rattle.mass.proofs.GasLaws.{gas-carbon-le, gas-left-lt, gas-whole-lt, co2OfGas-product}
+use Rattle.mass.proofs.GasLaws.{gas-carbon-le, gas-weight-le, gas-left-lt, gas-whole-lt, co2OfGas-product}
 use Rattle.mass.proofs.gas.weigh.Statement.{statement}
 use Rattle.mass.proofs.gas.weigh.Tie as tie
 
@@ -21,19 +21,16 @@ cast-weight : tie.Need-cast-weight
 cast-weight c = search needs
 
 mul-weight : tie.Need-mul-weight
-mul-weight c = search needs
-
-cast-round-product : tie.Need-cast-round-product
-cast-round-product c = search needs
+mul-weight c = omega (arith, gas-weight-le (c .before .before .before .pre))
 
 round-product-requires : tie.Need-round-product-requires
 round-product-requires c κs =
-    let r = c .before .before .before .before .pre in
+    let r = c .before .before .before .pre in
     (lt-of-lt-of-le (lit< tt) (r .volume-ge), (gas-left-lt r, gas-whole-lt r))
 
 returns : tie.Need-returns
 returns c =
-    let a = c .before .before .before .before .before .args in
+    let a = c .before .before .before .before .args in
     let mass = c .round-product .ensures ∙ co2OfGas-product (a .a) (a .c) (a .w) (a .v) in
     λ i. record { 0 = mass i }
 
@@ -46,6 +43,5 @@ weigh-spec =
     mul-carbon
     cast-weight
     mul-weight
-    cast-round-product
     round-product-requires
     returns)

@@ -2,7 +2,7 @@
 -- room. Assumes nothing.
 use Prim.Native.Nat.{ℕ, _+_, _*_, _/_, _%_, _^_, _<_}
 use mathlib.Core.Path.{ap, _∙_}
-use native.Mathlib.Nat.{mod-le, mod-lt}
+use native.Mathlib.Nat.{div-le-self, mod-le, mod-lt}
 use native.Mathlib.Omega.{arith}
 use borrow.Author.Needs.{needs}
 use Rattle.mass.specs.Rounding.{nearestTo}
@@ -21,11 +21,17 @@ left-lt c = product-left-lt (c .args .a) (c .args .b) (c .args .d) (c .pre .0) (
 div-whole : tie.Need-div-whole
 div-whole c = search needs
 
+cast-whole : tie.Need-cast-whole
+cast-whole c = omega (arith, div-le-self (c .args .b) (c .args .d), c .fits)
+
 mul-whole : tie.Need-mul-whole
 mul-whole c = omega (arith, whole-lt c)
 
 rem-left : tie.Need-rem-left
 rem-left c = search needs
+
+cast-left : tie.Need-cast-left
+cast-left c = omega (arith, mod-le (c .args .b) (c .args .d), c .fits)
 
 mul-left : tie.Need-mul-left
 mul-left c = omega (arith, left-lt c)
@@ -54,8 +60,10 @@ round-product-spec =
     tie.close
     (tie.spec
     div-whole
+    cast-whole
     mul-whole
     rem-left
+    cast-left
     mul-left
     div-round-mixed
     add-round-mixed
