@@ -5,6 +5,8 @@ mod accounts;
 #[path = "explain/anodes.rs"]
 mod anodes;
 mod folder;
+#[path = "explain/hours.rs"]
+mod hours;
 #[path = "explain/on_files.rs"]
 mod on_files;
 #[path = "explain/refused.rs"]
