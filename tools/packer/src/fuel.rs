@@ -5,6 +5,7 @@ use std::ops::RangeInclusive;
 const HEATS: RangeInclusive<u32> = 0..=200_000;
 const CO2_FACTORS: RangeInclusive<u32> = 1..=200_000;
 const OTHER_FACTORS: RangeInclusive<u32> = 0..=200_000;
+const MOLAR_VOLUMES: RangeInclusive<u32> = 20_000..=27_000;
 
 pub struct Fuel {
     pub number: u16,
@@ -15,6 +16,8 @@ pub struct Fuel {
     pub co2: u32,
     pub ch4: u32,
     pub n2o: u32,
+    /// In litres per kmol; 0 stands for none.
+    pub molar_volume: u32,
 }
 
 #[derive(Clone, Copy, PartialEq)]
@@ -84,7 +87,11 @@ impl Fuel {
         self.check_value("heat", self.heat, HEATS)?;
         self.check_value("co2", self.co2, CO2_FACTORS)?;
         self.check_value("ch4", self.ch4, OTHER_FACTORS)?;
-        self.check_value("n2o", self.n2o, OTHER_FACTORS)
+        self.check_value("n2o", self.n2o, OTHER_FACTORS)?;
+        if self.molar_volume == 0 {
+            return Ok(());
+        }
+        self.check_value("molar-volume", self.molar_volume, MOLAR_VOLUMES)
     }
 
     fn check_value(

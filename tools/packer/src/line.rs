@@ -95,6 +95,7 @@ pub fn encode_fuel(fuel: &Fuel) -> Line {
     put32(&mut line, 8, fuel.co2);
     put32(&mut line, 12, fuel.ch4);
     put32(&mut line, 16, fuel.n2o);
+    put32(&mut line, 20, fuel.molar_volume);
     line
 }
 
@@ -109,6 +110,7 @@ pub fn decode_fuel(line: &Line) -> Result<Fuel, String> {
         co2: get32(line, 8),
         ch4: get32(line, 12),
         n2o: get32(line, 16),
+        molar_volume: get32(line, 20),
     };
     match first_difference(line, &encode_fuel(&fuel)) {
         None => Ok(fuel),

@@ -114,6 +114,7 @@ fn parse_fuel(words: &mut Words) -> Result<Fuel, String> {
     let co2 = number_after(words, "co2")?;
     let ch4 = number_after(words, "ch4")?;
     let n2o = number_after(words, "n2o")?;
+    let molar_volume = number_if_said(words, "molar-volume")?.unwrap_or(0);
     words.end()?;
     Ok(Fuel {
         number,
@@ -123,6 +124,7 @@ fn parse_fuel(words: &mut Words) -> Result<Fuel, String> {
         co2,
         ch4,
         n2o,
+        molar_volume,
     })
 }
 

@@ -36,12 +36,10 @@ fn unit_line(unit: &Unit) -> String {
 }
 
 fn fuel_line(fuel: &Fuel) -> String {
-    let heat = match fuel.heat {
-        0 => String::new(),
-        heat => format!(" heat {heat}"),
-    };
+    let heat = words_unless_0("heat", fuel.heat);
+    let molar_volume = words_unless_0("molar-volume", fuel.molar_volume);
     format!(
-        "fuel {} {} {}{heat} co2 {} ch4 {} n2o {}",
+        "fuel {} {} {}{heat} co2 {} ch4 {} n2o {}{molar_volume}",
         fuel.number,
         fuel.kind.word(),
         fuel.class.word(),
@@ -49,6 +47,14 @@ fn fuel_line(fuel: &Fuel) -> String {
         fuel.ch4,
         fuel.n2o
     )
+}
+
+/// What a fuel line has none of goes without saying.
+fn words_unless_0(name: &str, value: u32) -> String {
+    match value {
+        0 => String::new(),
+        _ => format!(" {name} {value}"),
+    }
 }
 
 pub fn record_line(record: &Record) -> String {

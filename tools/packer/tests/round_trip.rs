@@ -129,6 +129,29 @@ fn the_line_of_a_unit_says_whether_its_monitor_is_dry() {
     }
 }
 
+#[test]
+fn the_molar_volume_of_a_fuel_is_its_bytes_20_to_23() {
+    for (said, unpacked, litres) in [
+        ("", "", 0_u32),
+        (" molar-volume 0", "", 0),
+        (" molar-volume 20000", " molar-volume 20000", 20_000),
+        (" molar-volume 024060", " molar-volume 24060", 24_060),
+        (" molar-volume 27000", " molar-volume 27000", 27_000),
+    ] {
+        for (kind, words) in [(3, "gas"), (2, "liquid"), (1, "solid")] {
+            let with = |end| {
+                let other = TEXT.replace("gas natural-gas", &format!("{words} other"));
+                other.replace("n2o 90", &format!("n2o 90{end}"))
+            };
+            let mut bytes = BYTES.to_vec();
+            bytes[2 * LINE + 2..2 * LINE + 4].copy_from_slice(&[kind, 0]);
+            bytes[2 * LINE + 20..2 * LINE + 24].copy_from_slice(&litres.to_le_bytes());
+            assert_eq!(unpack(&bytes), Ok(with(unpacked)));
+            assert_eq!(pack(with(said).as_bytes()), Ok(bytes), "{words}{said}");
+        }
+    }
+}
+
 /// In tenths, whether or not the library lets it count.
 #[test]
 fn the_moisture_of_an_hour_is_its_bytes_16_and_17() {

@@ -74,6 +74,17 @@ fn dry_gas_without_a_monitor_is_told_without_asking() {
     }
 }
 
+#[test]
+fn a_molar_volume_out_of_range_is_told_without_asking() {
+    for (litres, at, value) in [(1, 0, 1), (256, 1, 1), (16_777_216, 3, 1)] {
+        let refusal = format!(
+            "refused 23: fuel line 1 at byte 224: fuel 1 has molar-volume {litres}; its \
+             molar-volume is from 20000 to 27000"
+        );
+        assert_told_without_asking(changed(224 + 20 + at, value), &refusal, FUELS);
+    }
+}
+
 /// `lines` decides, also where this crate would let the book pass.
 #[test]
 fn a_refusal_by_lines_is_told() {

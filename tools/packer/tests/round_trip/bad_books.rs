@@ -69,7 +69,14 @@ const CHANGES: &str = "
 72 410d03 23 fuel 1 has co2 200001
 76 410d03 23 fuel 1 has ch4 200001
 80 410d03 23 fuel 1 has n2o 200001
-84 01 23 byte 20 of the line has a bit that must be 0
+84 01 23 fuel line 1 at byte 64: fuel 1 has molar-volume 1; its molar-volume is from 20000 to 27000
+84 1f4e 23 fuel 1 has molar-volume 19999; its molar-volume is from 20000 to 27000
+84 7969 23 fuel 1 has molar-volume 27001; its molar-volume is from 20000 to 27000
+84 ffffffff 23 fuel 1 has molar-volume 4294967295
+87 01 23 fuel 1 has molar-volume 16777216
+66 0200010000000100000000000000000000001f4e 23 fuel 1 has molar-volume 19999
+88 01 23 byte 24 of the line has a bit that must be 0
+95 01 23 byte 31 of the line has a bit that must be 0
 
 104 00 22 unit line 1 at byte 0: byte 8 of the line has a bit that must be 0
 108 60 22 unit line 2 at byte 64: byte 3 of the line has a bit that must be 0

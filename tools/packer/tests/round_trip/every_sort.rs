@@ -59,6 +59,22 @@ fn random_units_and_hours_are_of_every_sort() {
 }
 
 #[test]
+fn random_fuels_of_every_kind_have_a_molar_volume_or_none() {
+    let mut fuels = [[0; 2]; 3];
+    each_random_book(|sample, _| {
+        for said in sample.fuels {
+            let kind = usize::from(said.line[2]) - 1;
+            let is_told = said.line[20..24] != [0; 4];
+            fuels[kind][usize::from(is_told)] += 1;
+        }
+    });
+    assert!(
+        fuels.iter().flatten().all(|&count| count >= 1000),
+        "{fuels:?}"
+    );
+}
+
+#[test]
 fn random_anodes_are_of_every_sort() {
     let [mut sound, mut too_much, mut sum_too_large, mut sum_past_16_bits] = [0; 4];
     each_random_book(|sample, _| {

@@ -53,23 +53,26 @@ pub fn fuel(number: u16, dice: &mut Dice) -> Said {
     let co2 = dice.within(1, 200_000);
     let ch4 = dice.within(0, 200_000);
     let n2o = dice.within(0, 200_000);
+    let told = dice.within(20_000, 27_000);
+    let molar_volume = dice.pick(&[0, told]);
     let mut line = [0; LINE];
     put(&mut line, 0, 2, number.into());
     put(&mut line, 2, 1, kind);
     put(&mut line, 3, 1, class);
-    for (at, value) in [(4, heat), (8, co2), (12, ch4), (16, n2o)] {
+    let values = [heat, co2, ch4, n2o, molar_volume];
+    for (at, value) in (4..).step_by(4).zip(values) {
         put(&mut line, at, 4, value);
     }
     let factors = format!("co2 {co2} ch4 {ch4} n2o {n2o}");
-    let with_heat = format!("fuel {number} {kind_and_class} heat {heat} {factors}");
-    let words = match heat {
-        0 => format!("fuel {number} {kind_and_class} {factors}"),
-        _ => with_heat.clone(),
-    };
+    let start = format!("fuel {number} {kind_and_class}");
+    let heat_words = format!(" heat {heat}");
+    let volume_words = format!(" molar-volume {molar_volume}");
+    let [said_heat, said_volume] = [(heat, &heat_words), (molar_volume, &volume_words)]
+        .map(|(value, words)| if value == 0 { "" } else { words });
     Said {
         line,
-        words,
-        loosely: with_heat,
+        words: format!("{start}{said_heat} {factors}{said_volume}"),
+        loosely: format!("{start}{heat_words} {factors}{volume_words}"),
     }
 }
 
