@@ -215,8 +215,9 @@ hour unit 2 hour 1 percent 12.5 flow 2000000
 hour unit 2 hour 1 percent 12.5 flow 2000000  # resent by the logger
 anodes unit 1 month 4 metal 1000000 use 420 sulphur 1.25 ash 0.40 other 0.00
 anodes unit 1 month 4 metal 1010000 use 418 sulphur 1.25 ash 0.40 other 0.00  # this was May
+gas-delivery unit 1 fuel 1 month 7 amount 1000 carbon 748600 molecular-weight 16040
 """
-EXPLAINED = """north.book: 4 of 7 records are set aside
+EXPLAINED = """north.book: 5 of 8 records are set aside
 north.txt:6: record 1: delivery unit 1 fuel 1 month 13 amount 1000
   reason 4: a value is out of range: month 13 isn't from 1 to 12
   to do: correct the month
@@ -229,13 +230,16 @@ north.txt:9: record 4: hour unit 2 hour 1 percent 12.5 flow 2000000
 north.txt:11: record 6: anodes unit 1 month 4 metal 1010000 use 418 sulphur 1.25 ash 0.40 other 0.00
   reason 8: it repeats an earlier record: record 5 at north.txt:10 has anodes of unit 1 for month 4 too
   to do: keep the right record of this month's anodes and take the others out, or correct the unit or the month
+north.txt:12: record 7: gas-delivery unit 1 fuel 1 month 7 amount 1000 carbon 748600 molecular-weight 16040
+  reason 4: a value is out of range: a gas-delivery needs a molar volume, and fuel 1 has none
+  to do: give fuel 1 its `molar-volume`, or correct the fuel
 """
 
 
 def try_explain(_, cases):
     """The reasons are those that the built `lines` tells."""
     command = ROOT / "tools/book"
-    with memory_folder() as folder, cases.case("tools/book explain: four records set aside"):
+    with memory_folder() as folder, cases.case("tools/book explain: five records set aside"):
         pathlib.Path(folder, "north.txt").write_text(MISTAKEN, encoding="utf-8")
         packed = run_command(command, "pack", "north.txt", "north.book", cwd=folder)
         expect(packed.status, WORKED, f"with {packed.err!r} on standard error, the packer's end")

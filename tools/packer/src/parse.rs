@@ -2,7 +2,7 @@
 
 use crate::book::{Book, Monitor, Unit, Warming, LINE};
 use crate::fuel::{Class, Fuel, Kind};
-use crate::record::{Anodes, Delivery, Heat, Hour, Record};
+use crate::record::{Anodes, Carbon, Delivery, Heat, Hour, Record};
 use crate::words::Words;
 
 /// What is wrong with a text, and at which of its lines, counting from 1.
@@ -71,12 +71,13 @@ fn add_line(first: &str, words: &mut Words, book: &mut Book) -> Result<(), Strin
         "unit" => book.add_unit(parse_unit(words)?),
         "fuel" => book.add_fuel(parse_fuel(words)?),
         "delivery" => book.add_record(Record::Delivery(parse_delivery(words)?)),
+        "gas-delivery" => book.add_record(Record::Delivery(parse_gas_delivery(words)?)),
         "hour" => book.add_record(Record::Hour(parse_hour(words)?)),
         "anodes" => book.add_record(Record::Anodes(parse_anodes(words)?)),
         "raw" => book.add_record(Record::Raw(parse_raw(words)?)),
         _ => Err(format!(
-            "no line starts with `{first}`; lines start with unit, fuel, delivery, hour, anodes or \
-             raw"
+            "no line starts with `{first}`; lines start with unit, fuel, delivery, gas-delivery, \
+             hour, anodes or raw"
         )),
     }
 }
@@ -129,20 +130,41 @@ fn parse_fuel(words: &mut Words) -> Result<Fuel, String> {
 }
 
 fn parse_delivery(words: &mut Words) -> Result<Delivery, String> {
-    let unit = short_after(words, "unit")?;
-    let fuel = short_after(words, "fuel")?;
-    let month = short_after(words, "month")?;
-    let amount = number_after(words, "amount")?;
+    let unmeasured = unmeasured_delivery(words)?;
     let heat = heat_if_said(words)?;
-    let carbon = number_if_said(words, "carbon")?;
+    let carbon = number_if_said(words, "carbon")?.map(Carbon::PerUnit);
     words.end()?;
     Ok(Delivery {
-        unit,
-        fuel,
-        month,
-        amount,
         heat,
         carbon,
+        ..unmeasured
+    })
+}
+
+fn parse_gas_delivery(words: &mut Words) -> Result<Delivery, String> {
+    let unmeasured = unmeasured_delivery(words)?;
+    let carbon = Carbon::ByWeight {
+        per_kg: number_after(words, "carbon")?,
+        molecular_weight: number_after(words, "molecular-weight")?,
+    };
+    let heat = heat_if_said(words)?;
+    words.end()?;
+    Ok(Delivery {
+        heat,
+        carbon: Some(carbon),
+        ..unmeasured
+    })
+}
+
+/// Reads what a delivery of either sort starts with.
+fn unmeasured_delivery(words: &mut Words) -> Result<Delivery, String> {
+    Ok(Delivery {
+        unit: short_after(words, "unit")?,
+        fuel: short_after(words, "fuel")?,
+        month: short_after(words, "month")?,
+        amount: number_after(words, "amount")?,
+        heat: None,
+        carbon: None,
     })
 }
 

@@ -1,5 +1,5 @@
-//! Which values of a record are out of which range: docs/FORMAT.md, "Fuel record", "Monitor hour",
-//! "Anodes".
+//! Which values of a record are out of which range: docs/FORMAT.md, "Fuel record", "Analysed gas",
+//! "Monitor hour", "Anodes".
 
 use std::fmt::Display;
 use std::ops::RangeInclusive;
@@ -7,7 +7,7 @@ use std::ops::RangeInclusive;
 use crate::book::{in_hundredths, in_tenths};
 use crate::fuel::{Class, Fuel, Kind};
 use crate::reasons::Account;
-use crate::record::{Anodes, Delivery, Heat, Hour, Record};
+use crate::record::{Anodes, Carbon, Delivery, Heat, Hour, Record};
 use crate::single;
 
 const MONTHS: RangeInclusive<u32> = 1..=12;
@@ -16,6 +16,8 @@ const MEASURED_HEATS: RangeInclusive<u32> = 1..=200_000;
 const LOW_HEATS: RangeInclusive<u32> = 1..=180_000;
 const CARBONS: RangeInclusive<u32> = 0..=1_000_000;
 const GAS_CARBONS: RangeInclusive<u32> = 0..=4_000_000;
+/// In g per kmol.
+const MOLECULAR_WEIGHTS: RangeInclusive<u32> = 1..=200_000;
 const HOURS: RangeInclusive<u32> = 1..=8_784;
 const MOST_PERCENT: u32 = 100;
 const MOST_FLOW: u32 = 1_000_000_000;
@@ -44,15 +46,27 @@ pub fn beyond(record: &Record, fuel: Option<&Fuel>) -> Vec<Beyond> {
 }
 
 fn of_delivery(delivery: &Delivery, fuel: Option<&Fuel>) -> Vec<Option<Beyond>> {
-    let is_gas = fuel.is_some_and(|fuel| fuel.kind == Kind::Gas);
-    let carbons = if is_gas { GAS_CARBONS } else { CARBONS };
-    let carbon = delivery.carbon;
-    vec![
+    let mut found = vec![
         number("month", delivery.month.into(), MONTHS),
         number("amount", delivery.amount, AMOUNTS),
         delivery.heat.and_then(measured),
-        carbon.and_then(|carbon| number("carbon", carbon, carbons)),
-    ]
+    ];
+    let is_gas = fuel.is_some_and(|fuel| fuel.kind == Kind::Gas);
+    match delivery.carbon {
+        None => {}
+        Some(Carbon::PerUnit(carbon)) => {
+            let carbons = if is_gas { GAS_CARBONS } else { CARBONS };
+            found.push(number("carbon", carbon, carbons));
+        }
+        Some(Carbon::ByWeight {
+            per_kg,
+            molecular_weight,
+        }) => found.extend([
+            number("carbon", per_kg, CARBONS),
+            number("molecular-weight", molecular_weight, MOLECULAR_WEIGHTS),
+        ]),
+    }
+    found
 }
 
 fn of_hour(hour: &Hour) -> Vec<Option<Beyond>> {
@@ -110,6 +124,30 @@ pub fn low_of_other_class(record: &Record, fuel: Option<&Fuel>) -> Option<Accoun
     Some(Account {
         why: format!("low-heat {value} is for natural-gas alone, and fuel {number} is {class}"),
         remedy: "give the high value as `heat`, or correct the fuel".to_string(),
+    })
+}
+
+/// Says of an analysed gas that its fuel, if it is listed, is none, or tells no molar volume.
+pub fn no_gas_to_weigh(record: &Record, fuel: Option<&Fuel>) -> Option<Account> {
+    let Record::Delivery(Delivery {
+        carbon: Some(Carbon::ByWeight { .. }),
+        ..
+    }) = record
+    else {
+        return None;
+    };
+    let fuel = fuel?;
+    let number = fuel.number;
+    if fuel.kind != Kind::Gas {
+        let kind = fuel.kind.word();
+        return Some(Account {
+            why: format!("a gas-delivery is of gas alone, and fuel {number} is {kind}"),
+            remedy: "say it as a `delivery`, or correct the fuel".to_string(),
+        });
+    }
+    (fuel.molar_volume == 0).then(|| Account {
+        why: format!("a gas-delivery needs a molar volume, and fuel {number} has none"),
+        remedy: format!("give fuel {number} its `molar-volume`, or correct the fuel"),
     })
 }
 

@@ -4,7 +4,7 @@
 use crate::book::{in_tenths, Book, Monitor, Unit};
 use crate::fuel::Fuel;
 use crate::method::no_method;
-use crate::ranges::{beyond, low_of_other_class, more_than_all};
+use crate::ranges::{beyond, low_of_other_class, more_than_all, no_gas_to_weigh};
 use crate::record::{Delivery, Hour, Record};
 use crate::record_bytes::form_fault;
 use crate::repeats::repeated;
@@ -40,14 +40,14 @@ pub fn general(reason: u8) -> (&'static str, &'static str) {
     match reason {
         1 => (
             "its form is wrong",
-            "say it as a `delivery`, an `hour` or `anodes`",
+            "say it as a `delivery`, a `gas-delivery`, an `hour` or `anodes`",
         ),
         2 => ("its unit isn't listed", "list it, or correct its number"),
         3 => ("its fuel isn't listed", "list it, or correct its number"),
         4 => (
             "a value is out of range",
-            "correct its month, hour, amount, heat, carbon, reading, moisture, metal, use or \
-             impurities",
+            "correct its month, hour, amount, heat, carbon, molecular weight, reading, moisture, \
+             metal, use or impurities",
         ),
         5 => (
             "an hour of a unit without a monitor",
@@ -161,7 +161,11 @@ fn range(record: &Record, fuel: Option<&Fuel>) -> Option<Account> {
     if !fields.is_empty() {
         remedies.push(format!("correct the {}", fields.join(", ")));
     }
-    let together = [low_of_other_class(record, fuel), more_than_all(record)];
+    let together = [
+        low_of_other_class(record, fuel),
+        no_gas_to_weigh(record, fuel),
+        more_than_all(record),
+    ];
     for Account { why, remedy } in together.into_iter().flatten() {
         whys.push(why);
         remedies.push(remedy);

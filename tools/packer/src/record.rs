@@ -16,7 +16,7 @@ pub struct Delivery {
     pub month: u16,
     pub amount: u32,
     pub heat: Option<Heat>,
-    pub carbon: Option<u32>,
+    pub carbon: Option<Carbon>,
 }
 
 /// A measured heat in kJ per unit of fuel, as the supplier quotes it.
@@ -25,6 +25,15 @@ pub enum Heat {
     High(u32),
     /// Without the heat of the water vapour. That of natural gas counts 1.11 times.
     Low(u32),
+}
+
+/// Measured carbon, as the laboratory tells it. By it a delivery is of the one kind or the other.
+#[derive(Clone, Copy)]
+pub enum Carbon {
+    /// In mg per unit of fuel.
+    PerUnit(u32),
+    /// That of an analysed gas, in mg per kg, with its molecular weight in g per kmol.
+    ByWeight { per_kg: u32, molecular_weight: u32 },
 }
 
 pub struct Hour {

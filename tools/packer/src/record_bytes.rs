@@ -2,10 +2,11 @@
 
 use crate::book::LINE;
 use crate::line::{first_difference, get16, get32, must_be_zero, put16, put32, Line};
-use crate::record::{Anodes, Delivery, Heat, Hour, Record};
+use crate::record::{Anodes, Carbon, Delivery, Heat, Hour, Record};
 
 const DELIVERY: u8 = 1;
 const HOUR: u8 = 2;
+const GAS_DELIVERY: u8 = 3;
 const ANODES: u8 = 4;
 const HEAT_MEASURED: u8 = 1;
 const CARBON_MEASURED: u8 = 2;
@@ -22,15 +23,17 @@ pub fn encode_record(record: &Record) -> Line {
 
 fn encode_delivery(delivery: &Delivery) -> Line {
     let mut line = [0; LINE];
-    line[0] = DELIVERY;
     let (heat_flags, heat) = encode_heat(delivery.heat);
-    line[1] = heat_flags | delivery.carbon.map_or(0, |_| CARBON_MEASURED);
+    let (kind, carbon_flags, carbon, molecular_weight) = encode_carbon(delivery.carbon);
+    line[0] = kind;
+    line[1] = heat_flags | carbon_flags;
     put16(&mut line, 2, delivery.unit);
     put16(&mut line, 4, delivery.fuel);
     put16(&mut line, 6, delivery.month);
     put32(&mut line, 8, delivery.amount);
     put32(&mut line, 12, heat);
-    put32(&mut line, 16, delivery.carbon.unwrap_or(0));
+    put32(&mut line, 16, carbon);
+    put32(&mut line, 20, molecular_weight);
     line
 }
 
@@ -39,6 +42,18 @@ fn encode_heat(heat: Option<Heat>) -> (u8, u32) {
         None => (0, 0),
         Some(Heat::High(value)) => (HEAT_MEASURED, value),
         Some(Heat::Low(value)) => (HEAT_MEASURED | HEAT_LOW, value),
+    }
+}
+
+/// Gives the kind, the flags, the carbon and the molecular weight.
+fn encode_carbon(carbon: Option<Carbon>) -> (u8, u8, u32, u32) {
+    match carbon {
+        None => (DELIVERY, 0, 0, 0),
+        Some(Carbon::PerUnit(value)) => (DELIVERY, CARBON_MEASURED, value, 0),
+        Some(Carbon::ByWeight {
+            per_kg,
+            molecular_weight,
+        }) => (GAS_DELIVERY, 0, per_kg, molecular_weight),
     }
 }
 
@@ -102,15 +117,19 @@ pub fn form_fault(line: &Line) -> Option<String> {
     let kind = line[0];
     let Some(record) = in_words(line) else {
         return Some(format!(
-            "kind {kind} is none of {DELIVERY}, a delivery, {HOUR}, an hour, and {ANODES}, anodes"
+            "kind {kind} is none of {DELIVERY}, a delivery, {HOUR}, an hour, {GAS_DELIVERY}, a \
+             gas-delivery, and {ANODES}, anodes"
         ));
     };
     let at = first_difference(line, &encode_record(&record))?;
     Some(match (kind, at) {
-        (DELIVERY, 1) if line[1] & !(HEAT_LOW | CARBON_MEASURED) == 0 => {
+        (GAS_DELIVERY, 1) if line[1] & CARBON_MEASURED != 0 => {
+            "it has the flag of measured carbon, and a gas-delivery has none".to_string()
+        }
+        (DELIVERY | GAS_DELIVERY, 1) if line[1] & !(HEAT_LOW | CARBON_MEASURED) == 0 => {
             "it has the flag of a low heat without that of a measured one".to_string()
         }
-        (DELIVERY, 12..=15) => "it has a heat without the flag for one".to_string(),
+        (DELIVERY | GAS_DELIVERY, 12..=15) => "it has a heat without the flag for one".to_string(),
         (DELIVERY, 16..=19) => "it has carbon without the flag for it".to_string(),
         (ANODES, 4..=5) => format!("it names fuel {}, and anodes have none", get16(line, 4)),
         _ => must_be_zero(at),
@@ -119,7 +138,7 @@ pub fn form_fault(line: &Line) -> Option<String> {
 
 fn in_words(line: &Line) -> Option<Record> {
     match line[0] {
-        DELIVERY => Some(Record::Delivery(decode_delivery(line))),
+        DELIVERY | GAS_DELIVERY => Some(Record::Delivery(decode_delivery(line))),
         HOUR => Some(Record::Hour(decode_hour(line))),
         ANODES => Some(Record::Anodes(decode_anodes(line))),
         _ => None,
@@ -133,7 +152,7 @@ fn decode_delivery(line: &Line) -> Delivery {
         month: get16(line, 6),
         amount: get32(line, 8),
         heat: decode_heat(line),
-        carbon: (line[1] & CARBON_MEASURED != 0).then(|| get32(line, 16)),
+        carbon: decode_carbon(line),
     }
 }
 
@@ -142,6 +161,17 @@ fn decode_heat(line: &Line) -> Option<Heat> {
     let is_low = line[1] & HEAT_LOW != 0;
     let heat = if is_low { Heat::Low } else { Heat::High };
     (line[1] & HEAT_MEASURED != 0).then(|| heat(value))
+}
+
+fn decode_carbon(line: &Line) -> Option<Carbon> {
+    let value = get32(line, 16);
+    if line[0] == GAS_DELIVERY {
+        return Some(Carbon::ByWeight {
+            per_kg: value,
+            molecular_weight: get32(line, 20),
+        });
+    }
+    (line[1] & CARBON_MEASURED != 0).then_some(Carbon::PerUnit(value))
 }
 
 fn decode_hour(line: &Line) -> Hour {

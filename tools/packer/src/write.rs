@@ -2,7 +2,7 @@
 
 use crate::book::{in_hundredths, in_tenths, Book, Monitor, Unit, Warming};
 use crate::fuel::Fuel;
-use crate::record::{Anodes, Delivery, Heat, Hour, Record};
+use crate::record::{Anodes, Carbon, Delivery, Heat, Hour, Record};
 use crate::single;
 
 pub fn text(book: &Book) -> String {
@@ -78,9 +78,16 @@ fn delivery_line(delivery: &Delivery) -> String {
         heat,
         carbon,
     } = delivery;
+    let start = format!("delivery unit {unit} fuel {fuel} month {month} amount {amount}");
     let heat = heat.map_or(String::new(), heat_words);
-    let carbon = carbon.map_or(String::new(), |carbon| format!(" carbon {carbon}"));
-    format!("delivery unit {unit} fuel {fuel} month {month} amount {amount}{heat}{carbon}")
+    match carbon {
+        None => format!("{start}{heat}"),
+        Some(Carbon::PerUnit(carbon)) => format!("{start}{heat} carbon {carbon}"),
+        Some(Carbon::ByWeight {
+            per_kg,
+            molecular_weight,
+        }) => format!("gas-{start} carbon {per_kg} molecular-weight {molecular_weight}{heat}"),
+    }
 }
 
 fn heat_words(heat: Heat) -> String {

@@ -5,6 +5,8 @@ mod accounts;
 #[path = "explain/anodes.rs"]
 mod anodes;
 mod folder;
+#[path = "explain/gas.rs"]
+mod gas;
 #[path = "explain/hours.rs"]
 mod hours;
 #[path = "explain/on_files.rs"]
@@ -162,7 +164,8 @@ fn the_example_of_the_readme_is_true() {
     let printed = format!(
         "record 0 {COUNTS}\nrecord 1 reason 4\nrecord 2 reason 5\n\
          record 3 hour fossil co2-ug 12950000000000 ch4-ng 0 n2o-ng 0\nrecord 4 reason 8\n\
-         record 5 anodes fossil co2-ug 1513488480000000 ch4-ng 0 n2o-ng 0\nrecord 6 reason 8\n"
+         record 5 anodes fossil co2-ug 1513488480000000 ch4-ng 0 n2o-ng 0\nrecord 6 reason 8\n\
+         record 7 reason 4\n"
     );
     let explanation = explain(&book, Some(&text), |_| Ok(printed)).unwrap();
     let command = "tools/book explain north.book north.txt";

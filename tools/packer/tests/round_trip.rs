@@ -12,6 +12,8 @@ mod dice;
 #[path = "round_trip/every_sort.rs"]
 mod every_sort;
 mod folder;
+#[path = "round_trip/gas.rs"]
+mod gas;
 #[path = "round_trip/program.rs"]
 mod program;
 #[path = "round_trip/random_books.rs"]

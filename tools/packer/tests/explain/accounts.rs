@@ -1,24 +1,27 @@
 //! Records with a reason each, what is said of them, and what is to be done: three lines a record.
 
 use crate::anodes::{ANODES, UNSUPPORTED_ANODES};
+use crate::gas::{GAS, UNSUPPORTED_GAS};
 use crate::hours::{FAULTY_HOURS, HOURS};
 use crate::repeats::GENERAL_REMEDY;
 use crate::unsupported::UNSUPPORTED;
 
 /// Unit 1 is at the limit of default heats, 2 is past it, 3 has a monitor, and 4 a dry one. Fuels 1
-/// and 2 are of classes whose measured heat does for every unit; 4 to 6 have no default heat.
+/// and 2 are of classes whose measured heat does for every unit; 4 to 6 have no default heat; 4, 6
+/// and 7 have no molar volume.
 pub const LISTS: &str = "\
 year 2010
 unit 1 rating 250
 unit 2 rating 250.1
 unit 3 rating 410.5 monitor
 unit 4 rating 410.5 monitor dry
-fuel 1 gas natural-gas heat 38000 co2 50000 ch4 900 n2o 90
-fuel 2 liquid distillate-oil heat 38000 co2 70000 ch4 2800 n2o 570
-fuel 3 gas other heat 38000 co2 50000 ch4 900 n2o 90
+fuel 1 gas natural-gas heat 38000 co2 50000 ch4 900 n2o 90 molar-volume 24060
+fuel 2 liquid distillate-oil heat 38000 co2 70000 ch4 2800 n2o 570 molar-volume 24060
+fuel 3 gas other heat 38000 co2 50000 ch4 900 n2o 90 molar-volume 23670
 fuel 4 solid pure-biomass co2 95000 ch4 30000 n2o 4000
-fuel 5 gas natural-gas co2 50000 ch4 900 n2o 90
+fuel 5 gas natural-gas co2 50000 ch4 900 n2o 90 molar-volume 27000
 fuel 6 liquid other co2 70000 ch4 2800 n2o 570
+fuel 7 gas other heat 38000 co2 50000 ch4 900 n2o 90
 ";
 
 const FORMS: &str = "
@@ -64,11 +67,11 @@ const LISTED: &str = "
 2 hour unit 65535 hour 1 percent 1 flow 1
   its unit isn't listed: unit 65535 is none of 1, 2, 3, 4
   list unit 65535, or correct the record's unit
-3 delivery unit 1 fuel 7 month 1 amount 1
-  its fuel isn't listed: fuel 7 is none of 1, 2, 3, 4, 5, 6
-  list fuel 7, or correct the record's fuel
+3 delivery unit 1 fuel 8 month 1 amount 1
+  its fuel isn't listed: fuel 8 is none of 1, 2, 3, 4, 5, 6, 7
+  list fuel 8, or correct the record's fuel
 3 delivery unit 1 fuel 0 month 13 amount 1
-  its fuel isn't listed: fuel 0 is none of 1, 2, 3, 4, 5, 6
+  its fuel isn't listed: fuel 0 is none of 1, 2, 3, 4, 5, 6, 7
   correct the record's fuel; fuel numbers start at 1
 ";
 
@@ -155,8 +158,14 @@ const CHOICES: &str = "
 
 /// What stands for words that many rows share.
 const SHORT: [(&str, &str); 7] = [
-    ("FORM", "say it as a `delivery`, an `hour` or `anodes`"),
-    ("KINDS", "none of 1, a delivery, 2, an hour, and 4, anodes"),
+    (
+        "FORM",
+        "say it as a `delivery`, a `gas-delivery`, an `hour` or `anodes`",
+    ),
+    (
+        "KINDS",
+        "none of 1, a delivery, 2, an hour, 3, a gas-delivery, and 4, anodes",
+    ),
     (
         "DRY",
         "add `dry` to the `monitor` of unit 3 if its analyser dries the sample, or take the \
@@ -165,8 +174,8 @@ const SHORT: [(&str, &str); 7] = [
     ("RANGE", "a value is out of range"),
     (
         "ANY",
-        "correct its month, hour, amount, heat, carbon, reading, moisture, metal, use or \
-         impurities",
+        "correct its month, hour, amount, heat, carbon, molecular weight, reading, moisture, \
+         metal, use or impurities",
     ),
     ("NONE", "no method is permitted"),
     ("REPEAT", GENERAL_REMEDY),
@@ -187,8 +196,10 @@ pub fn rows() -> Vec<Row> {
         HOURS,
         FAULTY_HOURS,
         CHOICES,
+        GAS,
         ANODES,
         UNSUPPORTED,
+        UNSUPPORTED_GAS,
         UNSUPPORTED_ANODES,
     ];
     let lines = tables.iter().flat_map(|table| table.lines());

@@ -10,14 +10,16 @@ fn random_books_are_of_every_sort() {
     let (mut no_records, mut full, mut no_units, mut most_units, mut most_fuels) = (0, 0, 0, 0, 0);
     let starts = [
         "delivery ",
+        "gas-delivery ",
         "hour ",
         "anodes ",
         "raw 01",
         "raw 02",
+        "raw 03",
         "raw 04",
         "raw FF",
     ];
-    let mut records = [0; 7];
+    let mut records = [0; 9];
     let mut warmings = [0; 2];
     each_random_book(|sample, _| {
         warmings[usize::from(sample.warming)] += 1;

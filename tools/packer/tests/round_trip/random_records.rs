@@ -3,9 +3,10 @@
 use crate::dice::Dice;
 use crate::random_lines::{put, raw, said, spellings, Said, LINE};
 
-/// Every sort of record that a book can hold; the last eight can't be said in words.
-pub const SORTS: [fn(&mut Dice) -> Said; 11] = [
+/// Every sort of record that a book can hold; the last ten can't be said in words.
+pub const SORTS: [fn(&mut Dice) -> Said; 14] = [
     delivery,
+    gas_delivery,
     hour,
     anodes,
     unknown_kind,
@@ -14,6 +15,8 @@ pub const SORTS: [fn(&mut Dice) -> Said; 11] = [
     heat_unflagged,
     carbon_unflagged,
     delivery_with_tail,
+    gas_with_unknown_flags,
+    gas_with_stray_byte,
     hour_with_stray_byte,
     anodes_with_stray_byte,
 ];
@@ -42,27 +45,49 @@ const READINGS: [(u32, &str); 19] = [
 ];
 
 fn delivery(dice: &mut Dice) -> Said {
+    let (mut line, mut words) = unmeasured("delivery", 1, dice);
+    let heat = dice.pick(&[("heat", 12, 1), ("low-heat", 12, 5)]);
+    for (name, at, flags) in [heat, ("carbon", 16, 2)] {
+        if dice.one_in(2) {
+            line[1] |= flags;
+            put_value(&mut line, &mut words, name, at, dice);
+        }
+    }
+    said(line, words)
+}
+
+fn gas_delivery(dice: &mut Dice) -> Said {
+    let (mut line, mut words) = unmeasured("gas-delivery", 3, dice);
+    for (name, at) in [("carbon", 16), ("molecular-weight", 20)] {
+        put_value(&mut line, &mut words, name, at, dice);
+    }
+    if dice.one_in(2) {
+        let (name, flags) = dice.pick(&[("heat", 1), ("low-heat", 5)]);
+        line[1] = flags;
+        put_value(&mut line, &mut words, name, 12, dice);
+    }
+    said(line, words)
+}
+
+/// Gives the bytes and the words that a delivery of either sort starts with.
+fn unmeasured(sort: &str, kind: u8, dice: &mut Dice) -> ([u8; LINE], String) {
     let mut line = [0; LINE];
-    line[0] = 1;
-    let mut words = "delivery".to_string();
+    line[0] = kind;
+    let mut words = sort.to_string();
     for (name, at) in [("unit", 2), ("fuel", 4), ("month", 6)] {
         let value = dice.within(0, 65_535);
         put(&mut line, at, 2, value);
         words += &format!(" {name} {value}");
     }
-    let amount = dice.within(0, u32::MAX.into());
-    put(&mut line, 8, 4, amount);
-    words += &format!(" amount {amount}");
-    let heat = dice.pick(&[("heat", 12, 1), ("low-heat", 12, 5)]);
-    for (name, at, flags) in [heat, ("carbon", 16, 2)] {
-        if dice.one_in(2) {
-            let value = dice.within(0, u32::MAX.into());
-            line[1] |= flags;
-            put(&mut line, at, 4, value);
-            words += &format!(" {name} {value}");
-        }
-    }
-    said(line, words)
+    put_value(&mut line, &mut words, "amount", 8, dice);
+    (line, words)
+}
+
+/// Says a random value of four bytes.
+fn put_value(line: &mut [u8; LINE], words: &mut String, name: &str, at: usize, dice: &mut Dice) {
+    let value = dice.within(0, u32::MAX.into());
+    put(line, at, 4, value);
+    *words += &format!(" {name} {value}");
 }
 
 fn hour(dice: &mut Dice) -> Said {
@@ -169,7 +194,7 @@ fn spellings_of_hundredths(hundredths: u64) -> (String, String) {
 
 fn unknown_kind(dice: &mut Dice) -> Said {
     let mut line = std::array::from_fn(|_| dice.next() as u8);
-    line[0] = dice.pick(&[0, 3, 5, 128, 255]);
+    line[0] = dice.pick(&[0, 5, 6, 128, 255]);
     raw(line)
 }
 
@@ -202,6 +227,19 @@ fn carbon_unflagged(dice: &mut Dice) -> Said {
 fn delivery_with_tail(dice: &mut Dice) -> Said {
     let mut line = delivery(dice).line;
     line[20 + dice.below(12) as usize] = 1 + dice.below(255) as u8;
+    raw(line)
+}
+
+/// The flag of carbon is none that such a record has.
+fn gas_with_unknown_flags(dice: &mut Dice) -> Said {
+    let mut line = gas_delivery(dice).line;
+    line[1] |= dice.pick(&[2, 8, 128]);
+    raw(line)
+}
+
+fn gas_with_stray_byte(dice: &mut Dice) -> Said {
+    let mut line = gas_delivery(dice).line;
+    line[24 + dice.below(8) as usize] = 1 + dice.below(255) as u8;
     raw(line)
 }
 
