@@ -12,17 +12,29 @@ LONGEST_PART = 131_072  # bytes that a frame may have of a book, a checkpoint an
 SET_AT = 20  # the byte of the trailer that names a book's set of warming values
 WARMING = ((21, 310), (25, 298))  # those of CH4 and N2O, by set
 LEDGERS = ("fossil", "biomass", "ch4", "n2o")
+LEDGER_NAMES = ("none", "fossil", "biomass")  # by what `replay` answers
 
 
 def pad(content):
     return content.ljust(LINE, b"\0")
 
 
-def fuel_record(amount=1000, unit=1, fuel=1, month=6, heat=None, carbon=None, low_heat=None):
+def heat_flags(heat, low_heat):
     """At most one of the two heats is given."""
-    flags = (heat is not None) + 2 * (carbon is not None) + 5 * (low_heat is not None)
+    return (heat is not None) + 5 * (low_heat is not None)
+
+
+def fuel_record(amount=1000, unit=1, fuel=1, month=6, heat=None, carbon=None, low_heat=None):
+    flags = heat_flags(heat, low_heat) + 2 * (carbon is not None)
     return pad(struct.pack("<BBHHHIII", 1, flags, unit, fuel, month, amount,
                            heat or low_heat or 0, carbon or 0))
+
+
+def gas_record(amount=1000, carbon=748_600, weight=16_040, unit=1, fuel=1, month=6, heat=None,
+               low_heat=None):
+    """Analysed gas, as it stands methane: carbon in mg per kg, molecular weight in g per kmol."""
+    return pad(struct.pack("<BBHHHIIII", 3, heat_flags(heat, low_heat), unit, fuel, month, amount,
+                           heat or low_heat or 0, carbon, weight))
 
 
 def hour_record(percent, flow, unit=1, hour=1, moisture=0):
@@ -39,8 +51,10 @@ def unit_line(number=1, rating=2500, monitor=False, dry=False):
     return pad(struct.pack("<HBxI", number, monitor + 2 * dry, rating))
 
 
-def fuel_line(number=1, kind=3, fuel_class=1, heat=38000, co2=50000, ch4=900, n2o=90):
-    return pad(struct.pack("<HBBIIII", number, kind, fuel_class, heat, co2, ch4, n2o))
+def fuel_line(number=1, kind=3, fuel_class=1, heat=38000, co2=50000, ch4=900, n2o=90,
+              molar_volume=0):
+    return pad(struct.pack("<HBBIIIII", number, kind, fuel_class, heat, co2, ch4, n2o,
+                           molar_volume))
 
 
 def trailer(units_at, fuels_at, year=2010, version=1, warming_set=0):

@@ -3,25 +3,36 @@ programs have to print, save and answer of them at every place of a job."""
 import itertools
 import struct
 
-from program_books import book, checkpoint, fuel_record, masses_of, unit_line
+from program_books import COUNTED, LEDGER_NAMES, book, checkpoint, fuel_record, masses_of
+from program_books import unit_line
 from program_dry import hour_of
 from program_jobs import ALL, Plan, end_of
-from program_judge import judge_anodes, judge_hour
+from program_judge import judge_anodes, judge_gas, judge_hour
 from program_lines import FUELS, UNITS
 from program_replay import BLANK, RECORD, REPORT, WAKE, answer, frame, record_answer
 from program_runs import expect, expect_told
 
-HOUR, ANODES = 2, 4  # byte 0 of a record
+HOUR, GAS, ANODES = 2, 3, 4  # byte 0 of a record
 LISTED = [*UNITS, unit_line(259, monitor=True)]
 # FAR differs from WET in the higher byte alone. UNLISTED is no unit of the book.
 UNMONITORED, WET, UNLISTED, DRY, FAR = 1, 3, 4, 5, 259
 BUDGETS = (1, 2, 3, 4, 10, int(ALL))
 
+
+def fuel_words(method, ledger, co2, ch4, n2o):
+    return f"method {method} {ledger} co2-ug {co2} ch4-ng {ch4} n2o-ng {n2o}"
+
+
+def burned(method, co2, ch4=34_200_000_000, n2o=3_420_000_000):
+    """What stands behind the index of fossil fuel, with CH4 and N2O of P1 if none are given."""
+    return fuel_words(method, "none" if method == 4 else "fossil", co2, ch4, n2o)
+
+
 # Deliveries, with what stands behind their index. The last has bytes 2 to 7 of the hour 7, and 8 to
 # 11 of its percent, 12.5; so it names fuel 0.
 DELIVERY, IN_MONTH_7 = fuel_record(unit=WET), fuel_record(unit=WET, month=7)
 AS_HOUR = fuel_record(0x41480000, WET, fuel=0, month=7)
-BURNED = "method 4 none co2-ug 0 ch4-ng 34200000000 n2o-ng 3420000000"
+BURNED = burned(4, 0)
 OTHERS = {DELIVERY: BURNED, IN_MONTH_7: BURNED, AS_HOUR: "reason 3"}
 
 
@@ -33,9 +44,16 @@ def anodes_of(co2):
 ONCE = {HOUR: (judge_hour, hour_of), ANODES: (judge_anodes, anodes_of)}
 
 
-def words_of(record, is_repeat, units):
+def gas_words(record, units, fuels):
+    told, *numbers = judge_gas(record, b"".join(units), b"".join(fuels))
+    return fuel_words(*numbers) if told == "fuel" else f"reason {numbers[0]}"
+
+
+def words_of(record, is_repeat, units, fuels):
     """What stands behind the index of a record. One of another kind, or with the readings of an hour
     where nothing is flagged, has a wrong form."""
+    if record[0] == GAS:
+        return gas_words(record, units, fuels)
     if record[0] not in ONCE:
         return OTHERS.get(record, "reason 1")
     judge, counted = ONCE[record[0]]
@@ -45,12 +63,12 @@ def words_of(record, is_repeat, units):
     return "reason 8" if is_repeat else counted(number)
 
 
-def judged(records, units):
+def judged(records, units, fuels=FUELS):
     """The same of all records. An earlier one of the same kind counts as sent whatever it holds."""
     before, told = set(), []
     for record in records:
         named = record[:1] + record[2:4] + record[6:8]
-        told.append(words_of(record, named in before, units))
+        told.append(words_of(record, named in before, units, fuels))
         before.add(named)
     return told
 
@@ -68,7 +86,7 @@ def plan_of(records, units=LISTED, fuels=FUELS):
     of = book(records, units, fuels)
     ledgers, aside, first = (0, 0, 0, 0), 0, (0, 0)
     places = [checkpoint(of)]
-    for index, words in enumerate(judged(records, units)):
+    for index, words in enumerate(judged(records, units, fuels)):
         reason = reason_in(words)
         if reason:
             first, aside = first if aside else (index, reason), aside + 1
@@ -83,10 +101,9 @@ def answer_of(words):
     reason = reason_in(words)
     if reason:
         return record_answer(reason=reason)
-    (fossil, _, ch4, n2o), = masses_of(lines_of([words]))
-    if words == BURNED:
-        return record_answer(method=4, masses=(0, ch4, n2o))
-    return record_answer(ledger=1, masses=(fossil // 1000, ch4, n2o))
+    _, method, ledger, *masses = COUNTED.fullmatch(f"record 0 {words}").groups()
+    return record_answer(method=int(method or 0), ledger=LEDGER_NAMES.index(ledger),
+                         masses=map(int, masses))
 
 
 def calls_of(plan, told, places):
@@ -116,7 +133,7 @@ def expect_answered(programs, calls):
 
 def expect_by_model(programs, records, units=LISTED, fuels=FUELS):
     """What `lines` and `annual` print, and what `replay` answers, at all places of a short book."""
-    plan, told = plan_of(records, units, fuels), judged(records, units)
+    plan, told = plan_of(records, units, fuels), judged(records, units, fuels)
     expect_told(programs.run("lines", data=plan.book), lines_of(told))
     expect_told(programs.run("annual", data=plan.book), plan.ended)
     places = range(plan.count + 1) if plan.count < 30 else (0, 1, plan.count // 2, plan.count - 1)
