@@ -9,16 +9,19 @@ import shlex
 from program_annual import try_reports, try_set_aside
 from program_anodes import try_anode_book
 from program_dry import try_dry_book
+from program_gas import METHANE_MASS, OIL, ROWS, try_gas_book
 from program_hours import try_hour_lines
 from program_jobs import plan_plant
 from program_kept import try_kept_answers
 from program_lines import try_plant
 from program_low_heat import try_low_lines
+from program_model import burned
 from program_months import try_month_book
 from program_repeats import try_repeat_book
 from program_replay import try_answers, try_heads
 from program_resent import try_anode_steps, try_hour_steps
 from program_runs import Cases, Programs, Wrong, expect, memory_folder
+from program_volumes import try_gas_volumes
 from program_wake import try_jobs
 from program_warming import try_warming_changes, try_warming_reports
 
@@ -38,6 +41,25 @@ def counting_repeats(after=None, as_if="hour fossil co2-ug 12950000000000 ch4-ng
 def with_anodes(words):
     """For a body: what stands behind the index of the common anodes is this."""
     return f"spoil sed 's/{ANODES}$/{words}/'"
+
+
+def with_gas(name, words):
+    """For a body: what stands behind the index of this row of analysed gas is something else."""
+    place = [row for row, *_ in ROWS].index(name)
+    return f"spoil sed 's/^record {place} .*/record {place} {words}/'"
+
+
+def with_volumes(change):
+    """For a body: the real program reads the book with its molar volumes changed."""
+    return f"""
+python3 -c '
+import struct, sys
+of = bytearray(sys.stdin.buffer.read())
+for at in range(struct.unpack_from("<I", of, len(of) - 20)[0], len(of) - 32, 32):
+    volume, = struct.unpack_from("<I", of, at + 20)
+    struct.pack_into("<I", of, at + 20, {change})
+sys.stdout.buffer.write(of)' | real "$@"
+"""
 
 
 ANODES = "anodes fossil co2-ug 1513488480000000 ch4-ng 0 n2o-ng 0"
@@ -132,6 +154,47 @@ WRONG = [
     ("lines", "a month of anodes counts twice", counting_repeats(as_if=ANODES), try_month_book),
     ("lines", "a month whose first anodes were set aside counts",
      counting_repeats("reason 4$", ANODES), try_month_book),
+    ("lines", "analysed gas isn't known", "spoil sed 's/method 3 .*/reason 1/'", try_gas_book),
+    ("lines", "a mass of gas is cut off",
+     "spoil sed 's/co2-ug 1828580266667 /co2-ug 1828580266666 /'", try_gas_book),
+    ("lines", "a half of a gas's mass goes up", "spoil sed 's/co2-ug 1030 /co2-ug 1031 /'",
+     try_gas_book),
+    ("lines", "a half of a gas's mass goes down", "spoil sed 's/co2-ug 344 /co2-ug 343 /'",
+     try_gas_book),
+    ("lines", "a half goes by what is even of the part alone",
+     "spoil sed 's/co2-ug 3092 /co2-ug 3091 /'", try_gas_book),
+    # 7.328 × 10^22 less a multiple of 2^64, by 20,000.
+    ("lines", "a gas's product has 64 bits",
+     "spoil sed 's/co2-ug 3664000000000000000 /co2-ug 476626961283049 /'", try_gas_book),
+    ("lines", "the carbon of gas becomes CO2 by 3.667",
+     "spoil sed 's/co2-ug 1828580266667 /co2-ug 1830077466667 /'", try_gas_book),
+    ("lines", "the first fuel's molar volume is every fuel's",
+     "spoil sed 's/co2-ug 1858708965610 /co2-ug 1828580266667 /'", try_gas_book),
+    ("lines", "the molar volume is 24,060 litres always", with_volumes("volume and 24060"),
+     try_gas_book),
+    ("lines", "a molecular weight has 16 bits",
+     with_gas("a molecular weight in the third byte", "reason 4"), try_gas_book),
+    # 1,000 × 4,000,000 × 16,040 × 3,664 / 24,060.
+    ("lines", "a kilogram of gas may have as much carbon as a cubic metre",
+     with_gas("carbon 4000000", burned(3, 9_770_666_666_667)), try_gas_book),
+    ("lines", "gas without a molar volume has no CO2",
+     with_gas("a gas without a molar volume", burned(3, 0)), try_gas_book),
+    ("lines", "whatever has a molar volume is gas", with_gas(
+        f"a molar volume of a fuel that isn't a gas, {OIL}", burned(3, METHANE_MASS)),
+     try_gas_book),
+    ("lines", "gas of a unit with a monitor has CO2",
+     with_gas("a unit with a monitor", burned(3, METHANE_MASS)), try_gas_book),
+    ("lines", "analysed gas of a large unit needs a measured heat",
+     with_gas("a large unit", "reason 6"), try_gas_book),
+    ("lines", "gas without a heat has no CH4 and no N2O",
+     with_gas("no heat", burned(3, 2_199_782_060_800, 0, 0)), try_gas_book),
+    ("lines", "a low value beside gas is its heat", with_gas(
+        "a low value", burned(3, METHANE_MASS, 31_500_000_000, 3_150_000_000)), try_gas_book),
+    ("lines", "analysed gas may have the flag of carbon",
+     with_gas("flags 2", burned(3, METHANE_MASS)), try_gas_book),
+    ("lines", "every molar volume is right", with_volumes("0"), try_gas_volumes),
+    ("annual", "every molar volume is right", with_volumes("0"), try_gas_volumes),
+    ("annual", "no molar volume is right", with_volumes("volume and 1"), try_gas_volumes),
     ("replay", "it says nothing", "spoil true", try_answers),
     ("replay", "a wrong head is no failure", 'real "$@"; exit 0', try_heads),
     ("replay", "a wrong head isn't told", 'real "$@" 2>/dev/null', try_heads),

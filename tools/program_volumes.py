@@ -29,9 +29,10 @@ def expect_numbers(programs, books, wanted):
     expect(numbers, wanted, "the list of numbers")
 
 
-def try_volume_books(programs, cases):
+def try_volume_books(programs, cases, name):
     """A book with a molar volume is refused, or its deliveries are what they are without one."""
-    for (name, (kind, fuel_class)), volume in itertools.product(SORTS.items(), EDGES):
+    kind, fuel_class = SORTS[name]
+    for volume in EDGES:
         of = book(fuels=[fuel_line(1, kind, fuel_class, molar_volume=volume)])
         fossil, _, ch4, n2o = P1_MASSES
         is_wood = fuel_class == 3
@@ -43,6 +44,10 @@ def try_volume_books(programs, cases):
         with cases.case(f"lines and annual: {name} with a molar volume of {volume}"):
             expect_told(programs.run("lines", data=of), lines)
             expect_told(programs.run("annual", data=of), told)
+
+
+def try_gas_volumes(programs, cases):
+    try_volume_books(programs, cases, "natural gas")
 
 
 def try_volume_bytes(programs, cases):
@@ -101,6 +106,7 @@ def try_own_volumes(programs, cases):
 
 
 def try_volumes(programs, cases):
-    for attempt in (try_volume_books, try_volume_bytes, try_volume_places, try_every_volume,
-                    try_own_volumes):
+    for name in SORTS:
+        try_volume_books(programs, cases, name)
+    for attempt in (try_volume_bytes, try_volume_places, try_every_volume, try_own_volumes):
         attempt(programs, cases)
