@@ -2,19 +2,21 @@
 import struct
 
 from program_annual import BOOKS, ONE, try_failures, try_usage
-from program_books import anodes_record, book, fuel_line, fuel_record, hour_record, masses_of, pad
-from program_books import patch, report, trailer, unit_line
+from program_books import anodes_record, book, fuel_line, fuel_record, gas_record, hour_record
+from program_books import masses_of, pad, patch, report, trailer, unit_line
 from program_runs import PLANT, ROOT, expect, expect_told
 
 # Unit 1 is at the limit of default heats, 2 is past it, 3 has a monitor, and 5 one of dry gas.
 UNITS = [unit_line(1), unit_line(2, 2501), unit_line(3, 2501, monitor=True),
          unit_line(5, 2501, monitor=True, dry=True)]
-# Fuel 1 is the requirements' gas, 2 the same of class 0, 3 wood, 4 has no default heat, 6 is oil.
-FUELS = [fuel_line(1), fuel_line(2, fuel_class=0), fuel_line(3, 1, 3, 17500, 95000, 30000, 4000),
-         fuel_line(4, heat=0), fuel_line(6, 2, 2)]
+# Fuel 1 is the requirements' gas with a molar volume, 2 one of class 0 without, 3 wood, 4 has no
+# default heat, 6 is oil.
+FUELS = [fuel_line(1, molar_volume=24_060), fuel_line(2, fuel_class=0),
+         fuel_line(3, 1, 3, 17500, 95000, 30000, 4000), fuel_line(4, heat=0), fuel_line(6, 2, 2)]
 
 # Each record with what stands behind its index. Masses: amount × heat × factor, amount × carbon ×
-# 3,664, 518 × R, and metal × use × (10,000 − impurities) × 366.4.
+# 3,664, amount × carbon × molecular weight × 3,664 / molar volume, 518 × R, and metal × use ×
+# (10,000 − impurities) × 366.4.
 FORMS = [
     ("P1", fuel_record(),
      "method 1 fossil co2-ug 1900000000000 ch4-ng 34200000000 n2o-ng 3420000000"),
@@ -37,6 +39,10 @@ FORMS = [
     ("wood", fuel_record(fuel=3),
      "method 1 biomass co2-ug 1662500000000 ch4-ng 525000000000 n2o-ng 70000000000"),
     ("an amount of 0", fuel_record(0), "method 1 fossil co2-ug 0 ch4-ng 0 n2o-ng 0"),
+    ("analysed gas", gas_record(),
+     "method 3 fossil co2-ug 1828580266667 ch4-ng 34200000000 n2o-ng 3420000000"),
+    ("a monitored unit's analysed gas", gas_record(unit=3),
+     "method 4 none co2-ug 0 ch4-ng 34200000000 n2o-ng 3420000000"),
     ("anodes", anodes_record(), "anodes fossil co2-ug 1513488480000000 ch4-ng 0 n2o-ng 0"),
     ("zeros", pad(b""), "reason 1"),
     ("an unlisted unit", fuel_record(unit=4), "reason 2"),
@@ -45,6 +51,7 @@ FORMS = [
     ("percent just above 100", hour_record(struct.unpack("<f", b"\1\0\xc8\x42")[0], 1.0, unit=3),
      "reason 4"),
     ("percent NaN", patch(hour_record(0, 1.0, unit=3), 8, b"\0\0\xc0\x7f"), "reason 4"),
+    ("analysed gas without a molar volume", gas_record(fuel=2), "reason 4"),
     ("an hour of a unit without monitor", hour_record(12.5, 1.0), "reason 5"),
     ("carbon measured, no heat anywhere", fuel_record(fuel=4, carbon=520000), "reason 7"),
 ]
