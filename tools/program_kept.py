@@ -1,11 +1,13 @@
 """The books in tools/kept, of which every program prints and saves what is kept beside them."""
 import collections
 
+from program_books import LINE, count_of
 from program_jobs import ALL, Plan, job_on
 from program_runs import ROOT, expect, expect_told
 
 FOLDER = ROOT / "tools/kept"
-NAMES = ("anodes", "biomass", "dry-hours", "empty", "hours", "low-heats", "methods", "reasons")
+NAMES = ("analysed-gas", "anodes", "biomass", "dry-hours", "empty", "hours", "low-heats", "methods",
+         "reasons")
 STEP = 3  # records of a wake, which divides the number of some books' records and not of others
 
 Kept = collections.namedtuple("Kept", "book annual lines checkpoint")
@@ -17,12 +19,21 @@ def kept_books():
         yield name, Kept(*((FOLDER / f"{name}.{part}").read_bytes() for part in Kept._fields))
 
 
+def kinds_of(kept):
+    """Byte 0 of each record that counts."""
+    records = [kept.book[LINE * index] for index in range(count_of(kept.book))]
+    return [kind for kind, line in zip(records, kept.lines.splitlines()) if b" co2-ug " in line]
+
+
 def try_kept_folder(cases):
     """A file that got lost would be a promise less, and one that nobody reads is none."""
     with cases.case("tools/kept: its files are those that are tried"):
         files = [f"{name}.{part}" for name in NAMES for part in Kept._fields]
         expect(sorted(path.name for path in FOLDER.iterdir()), sorted(["README.md", *files]),
                "the list of files")
+    with cases.case("tools/kept: records of every kind count"):
+        expect({kind for _, kept in kept_books() for kind in kinds_of(kept)}, {1, 2, 3, 4},
+               "the set of kinds")
 
 
 def wake_to_end(programs, kept, budget):
