@@ -11,7 +11,6 @@ CHECKPOINT = 96  # bytes
 LONGEST_PART = 131_072  # bytes that a frame may have of a book, a checkpoint and a buffer each
 SET_AT = 20  # the byte of the trailer that names a book's set of warming values
 WARMING = ((21, 310), (25, 298))  # those of CH4 and N2O, by set
-LEDGERS = ("fossil", "biomass", "ch4", "n2o")
 LEDGER_NAMES = ("none", "fossil", "biomass")  # by what `replay` answers
 
 
