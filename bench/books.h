@@ -7,7 +7,7 @@
 
 enum { LONGEST_BOOK = 65536, BOOK_LINE = 32, WARMING_SETS = 2, LAST_HOUR = 8784, LAST_MONTH = 12 };
 enum { YEAR_AT = 16, SET_AT = 20 }; /* bytes of the trailer */
-enum { FUEL = 1, HOUR = 2, ANODES = 4 }; /* kinds of records, in byte 0 */
+enum { FUEL = 1, HOUR = 2, GAS = 3, ANODES = 4 }; /* kinds of records, in byte 0 */
 
 /* LOW_HEATS: natural gas by its low value. DRY_HOURS: of units that measure dry gas. RISING_HOURS:
    each unit's rise by one, where others are in any order. REPEATED_HOURS: every second record has

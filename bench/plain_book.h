@@ -21,6 +21,7 @@ struct fuel {
     uint32_t heat, co2, ch4, n2o, most_carbon;
     bool biomass, natural_gas;
     bool refined; /* natural gas or distillate oil: method 2 at any rating */
+    uint32_t molar_volume; /* 0 unless it is of a gas, which alone is analysed */
 };
 
 struct book {
@@ -100,7 +101,7 @@ static bool decode_fuels(struct book *k, const uint8_t *l)
     if (k->fuels > MOST_LINES)
         return false;
     for (uint32_t i = 0; i < k->fuels; i++, l += LINE) {
-        uint32_t number = read16(l), kind = l[2], class = l[3];
+        uint32_t number = read16(l), kind = l[2], class = l[3], volume = read32(l + 20);
         struct fuel f = {.heat = read32(l + 4),
                          .co2 = read32(l + 8),
                          .ch4 = read32(l + 12),
@@ -108,10 +109,11 @@ static bool decode_fuels(struct book *k, const uint8_t *l)
                          .most_carbon = kind == 3 ? 4000000 : 1000000,
                          .biomass = class == 3,
                          .natural_gas = class == 1,
-                         .refined = class == 1 || class == 2};
-        uint64_t blank = read32(l + 20) | read64(l + 24);
+                         .refined = class == 1 || class == 2,
+                         .molar_volume = kind == 3 ? volume : 0};
         if (number <= before || !is_kind_right(kind, class) || f.heat > 200000 ||
-            !in_range(f.co2, 1, 200000) || f.ch4 > 200000 || f.n2o > 200000 || blank != 0)
+            !in_range(f.co2, 1, 200000) || f.ch4 > 200000 || f.n2o > 200000 ||
+            (volume != 0 && !in_range(volume, 20000, 27000)) || read64(l + 24) != 0)
             return false;
         k->fuel_number[i] = (uint16_t)number;
         k->fuel[i] = f;

@@ -14,7 +14,8 @@ static uint64_t reply(unsigned number, unsigned reason, unsigned method, unsigne
 static uint64_t tell_fuel(const struct book *k, const uint8_t *l)
 {
     const struct fuel *f = &k->fuel[find(k->fuel_number, k->fuels, read16(l + 4))];
-    uint32_t flags = l[1], i = find(k->unit_number, k->units, read16(l + 2));
+    uint32_t flags = l[1] | (l[0] == GAS ? 2 : 0); /* carbon of analysed gas is always told */
+    uint32_t i = find(k->unit_number, k->units, read16(l + 2));
     enum source source = choose(flags, k->unit[i], f);
     if (source == MONITOR)
         return reply(0, 0, 4, 0);
@@ -38,5 +39,5 @@ uint64_t plain_record(const uint8_t *book, size_t book_len, uint32_t index, uint
     masses[0] = (uint64_t)(sums.co2[0] + sums.co2[1]);
     masses[1] = (uint64_t)sums.ch4;
     masses[2] = (uint64_t)sums.n2o;
-    return l[0] == FUEL ? tell_fuel(&k, l) : reply(0, 0, 0, 1);
+    return l[0] == FUEL || l[0] == GAS ? tell_fuel(&k, l) : reply(0, 0, 0, 1);
 }
