@@ -31,7 +31,7 @@ static bool has_hours_alone(enum mix mix)
    big one. */
 static bool is_monitored(enum mix mix, size_t i)
 {
-    return has_hours_alone(mix) || (mix != ALL_FUEL && i % 4 == 0);
+    return has_hours_alone(mix) || (mix != ALL_FUEL && mix != ALL_GAS && i % 4 == 0);
 }
 
 static bool is_big(size_t i)
@@ -46,17 +46,43 @@ void write_unit(uint8_t *l, enum mix mix, size_t i)
     put(l + 4, is_big(i) ? 9000 : 2500, 4);
 }
 
+struct sort {
+    uint8_t kind, class;
+};
+
+/* Of four fuels in turn one has each class; in a refinery the one of class 0 is a gas too. */
+static struct sort sort_of(enum mix mix, size_t fuel)
+{
+    static const struct sort natural_gas = {3, 1}, other_gas = {3, 0};
+    static const struct sort usual[4] = {{3, 1}, {2, 2}, {1, 3}, {1, 0}};
+    static const struct sort refinery[4] = {{3, 1}, {2, 2}, {3, 0}, {1, 3}};
+    if (mix == LOW_HEATS || (mix == ALL_GAS && fuel % 2 == 0))
+        return natural_gas;
+    if (mix == ALL_GAS)
+        return other_gas;
+    return mix == REFINERY ? refinery[fuel % 4] : usual[fuel % 4];
+}
+
+/* Fuel 0 has that of 20 degrees, others are all over the range: no two of 64 are alike. In books of
+   analysed gas solids and liquids have one too, which isn't used. */
+static uint32_t molar_volume_of(enum mix mix, size_t fuel)
+{
+    if (mix != ALL_GAS && mix != REFINERY)
+        return 0;
+    return 20000 + (4060 + 1201 * (uint32_t)fuel) % 7001;
+}
+
 void write_fuel(uint8_t *l, enum mix mix, size_t i)
 {
-    static const uint8_t kinds[4] = {3, 2, 1, 1}, classes[4] = {1, 2, 3, 0};
-    size_t sort = mix == LOW_HEATS ? 0 : i % 4;
+    const struct sort sort = sort_of(mix, i);
     put(l, number_of(i), 2);
-    put(l + 2, kinds[sort], 1);
-    put(l + 3, classes[sort], 1);
+    put(l + 2, sort.kind, 1);
+    put(l + 3, sort.class, 1);
     put(l + 4, 38000 + (uint32_t)i, 4);
     put(l + 8, 50000 + 100 * (uint32_t)i, 4);
     put(l + 12, 900 + (uint32_t)i, 4);
     put(l + 16, 90 + (uint32_t)i, 4);
+    put(l + 20, molar_volume_of(mix, i), 4);
 }
 
 /* A big unit gets its carbon measured: no other method is permitted for every class. */
@@ -119,9 +145,36 @@ void write_monthly(uint8_t *l, size_t units, size_t i, uint64_t *row)
     write_anodes(l, &anodes);
 }
 
+/* Heat is measured or not, and that of natural gas high or low. */
+static void write_analysed(uint8_t *l, size_t unit, size_t fuel, bool is_natural, uint64_t *row)
+{
+    const bool has_heat = draw(row, 2), is_low = has_heat && is_natural && draw(row, 2);
+    put(l, GAS, 1);
+    put(l + 1, is_low ? 5 : has_heat, 1);
+    put(l + 2, number_of(unit), 2);
+    put(l + 4, number_of(fuel), 2);
+    put(l + 6, 1 + draw(row, LAST_MONTH), 2);
+    put(l + 8, draw(row, 100000001), 4);
+    if (has_heat)
+        put(l + 12, 1 + draw(row, is_low ? 180000 : 200000), 4);
+    put(l + 16, draw(row, 1000001), 4);
+    put(l + 20, 1 + draw(row, 200000), 4);
+}
+
 static bool is_mixed(enum mix mix)
 {
-    return mix == MIXED || mix == SMELTER;
+    return mix == MIXED || mix == SMELTER || mix == REFINERY;
+}
+
+static void write_fuel_record(uint8_t *l, enum mix mix, size_t unit, size_t fuel, uint64_t *row)
+{
+    const struct sort sort = sort_of(mix, fuel);
+    if (mix == ALL_GAS || (mix == REFINERY && sort.kind == 3 && draw(row, 2)))
+        write_analysed(l, unit, fuel, sort.class == 1, row);
+    else if (mix == LOW_HEATS)
+        write_low(l, unit, fuel, row);
+    else
+        write_burned(l, unit, fuel, row);
 }
 
 void write_record(uint8_t *l, const struct recipe *recipe, size_t unit, uint64_t *row)
@@ -131,8 +184,6 @@ void write_record(uint8_t *l, const struct recipe *recipe, size_t unit, uint64_t
         write_dry(l, unit, row);
     else if (has_hours_alone(mix) || (is_mixed(mix) && is_monitored(mix, unit) && draw(row, 2)))
         write_hour(l, unit, row);
-    else if (mix == LOW_HEATS)
-        write_low(l, unit, draw(row, (uint32_t)recipe->fuels), row);
     else
-        write_burned(l, unit, draw(row, (uint32_t)recipe->fuels), row);
+        write_fuel_record(l, mix, unit, draw(row, (uint32_t)recipe->fuels), row);
 }

@@ -13,7 +13,8 @@ enum { FUEL = 1, HOUR = 2, GAS = 3, ANODES = 4 }; /* kinds of records, in byte 0
    each unit's rise by one, where others are in any order. REPEATED_HOURS: every second record has
    an hour that stands before, one line up or anywhere, with its readings or with others.
    ALL_ANODES: month by month those of all units, and after the last month the same year anew.
-   SMELTER: such a year, at most half of the records, in any places of a mixed book. */
+   SMELTER: such a year, at most half of the records, in any places of a mixed book. ALL_GAS:
+   analysed gas by method 3. REFINERY: a mixed book, half of whose records of a gas are analysed. */
 enum mix {
     MIXED,
     ALL_FUEL,
@@ -23,7 +24,9 @@ enum mix {
     RISING_HOURS,
     REPEATED_HOURS,
     ALL_ANODES,
-    SMELTER
+    SMELTER,
+    ALL_GAS,
+    REFINERY
 };
 
 struct recipe {
