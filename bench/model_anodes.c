@@ -4,16 +4,9 @@
  */
 #include "model_anodes.h"
 
-#include <stdbool.h>
-#include <string.h>
+#include "model_lines.h"
 
-static uint64_t number_at(const uint8_t *l, size_t at, size_t bytes)
-{
-    uint64_t number = 0;
-    while (bytes-- > 0)
-        number = 256 * number + l[at + bytes];
-    return number;
-}
+#include <stdbool.h>
 
 static bool has_blanks(const uint8_t *l)
 {
@@ -21,14 +14,6 @@ static bool has_blanks(const uint8_t *l)
         if ((at == 1 || at == 4 || at == 5 || at >= 22) && l[at] != 0)
             return false;
     return true;
-}
-
-static bool is_listed(const struct bytes *b, const uint8_t *l)
-{
-    for (size_t i = b->records; i < b->records + b->units; i++)
-        if (memcmp(b->book + BOOK_LINE * i, l + 2, 2) == 0)
-            return true;
-    return false;
 }
 
 enum { MONTH, METAL, USE, SULPHUR, ASH, OTHERS, FIELDS };
@@ -59,7 +44,7 @@ unsigned reason_of_anodes(const struct bytes *b, size_t i)
     const uint8_t *l = b->book + BOOK_LINE * i;
     if (!has_blanks(l))
         return 1;
-    if (!is_listed(b, l))
+    if (unit_line_of(b, l) == NULL)
         return 2;
     return is_in_range(l) ? 0 : 4;
 }
