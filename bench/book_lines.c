@@ -82,7 +82,7 @@ void write_fuel(uint8_t *l, enum mix mix, size_t i)
     put(l + 8, 50000 + 100 * (uint32_t)i, 4);
     put(l + 12, 900 + (uint32_t)i, 4);
     put(l + 16, 90 + (uint32_t)i, 4);
-    put(l + 20, molar_volume_of(mix, i), 4);
+    put(l + VOLUME_AT, molar_volume_of(mix, i), 4);
 }
 
 /* A big unit gets its carbon measured: no other method is permitted for every class. */
@@ -145,20 +145,31 @@ void write_monthly(uint8_t *l, size_t units, size_t i, uint64_t *row)
     write_anodes(l, &anodes);
 }
 
+void write_gas(uint8_t *l, const struct gas *gas)
+{
+    put(l, GAS, 1);
+    put(l + 1, gas->flags, 1);
+    put(l + 2, number_of(gas->unit), 2);
+    put(l + 4, number_of(gas->fuel), 2);
+    put(l + 6, gas->month, 2);
+    put(l + 8, gas->amount, 4);
+    put(l + 12, gas->heat, 4);
+    put(l + 16, gas->carbon, 4);
+    put(l + 20, gas->weight, 4);
+}
+
 /* Heat is measured or not, and that of natural gas high or low. */
 static void write_analysed(uint8_t *l, size_t unit, size_t fuel, bool is_natural, uint64_t *row)
 {
     const bool has_heat = draw(row, 2), is_low = has_heat && is_natural && draw(row, 2);
-    put(l, GAS, 1);
-    put(l + 1, is_low ? 5 : has_heat, 1);
-    put(l + 2, number_of(unit), 2);
-    put(l + 4, number_of(fuel), 2);
-    put(l + 6, 1 + draw(row, LAST_MONTH), 2);
-    put(l + 8, draw(row, 100000001), 4);
+    struct gas gas = {.unit = unit, .fuel = fuel, .flags = is_low ? 5 : has_heat};
+    gas.month = 1 + draw(row, LAST_MONTH);
+    gas.amount = draw(row, 100000001);
     if (has_heat)
-        put(l + 12, 1 + draw(row, is_low ? 180000 : 200000), 4);
-    put(l + 16, draw(row, 1000001), 4);
-    put(l + 20, 1 + draw(row, 200000), 4);
+        gas.heat = 1 + draw(row, is_low ? 180000 : 200000);
+    gas.carbon = draw(row, 1000001);
+    gas.weight = 1 + draw(row, 200000);
+    write_gas(l, &gas);
 }
 
 static bool is_mixed(enum mix mix)

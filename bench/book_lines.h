@@ -4,6 +4,8 @@
 
 #include "books.h"
 
+enum { VOLUME_AT = 20 }; /* of a fuel line */
+
 /* A little-endian number of so many bytes. */
 void put(uint8_t *at, uint64_t value, size_t bytes);
 
@@ -20,8 +22,9 @@ void write_hour(uint8_t *l, size_t unit, uint64_t *row);
 /* Anodes that count: place i of a year that goes month by month, and in each through all units. */
 void write_monthly(uint8_t *l, size_t units, size_t i, uint64_t *row);
 
-/* Anodes as they are given, right or not. */
+/* Anodes and analysed gas as they are given, right or not. */
 void write_anodes(uint8_t *l, const struct anodes *anodes);
+void write_gas(uint8_t *l, const struct gas *gas);
 
 /* A record of this unit by the recipe. */
 void write_record(uint8_t *l, const struct recipe *recipe, size_t unit, uint64_t *row);

@@ -172,6 +172,38 @@ void write_consumed(struct bytes *b, size_t i, const struct anodes *anodes)
     write_anodes(line(b, i), anodes);
 }
 
+static uint8_t *fuel_line(struct bytes *b, size_t fuel)
+{
+    return line(b, b->records + b->units + fuel);
+}
+
+void write_fuel_sorts(struct bytes *b)
+{
+    static const uint8_t kinds[NO_FUEL] = {3, 3, 3, 3, 2, 1}, classes[NO_FUEL] = {1, 0, 1, 0, 2, 3};
+    for (size_t fuel = 0; fuel < NO_FUEL; fuel++) {
+        put(fuel_line(b, fuel) + 2, kinds[fuel], 1);
+        put(fuel_line(b, fuel) + 3, classes[fuel], 1);
+    }
+    put(fuel_line(b, NO_HEAT) + 4, 0, 4);
+    write_volume(b, NO_VOLUME, 0);
+}
+
+void write_volume(struct bytes *b, size_t fuel, uint32_t volume)
+{
+    put(fuel_line(b, fuel) + VOLUME_AT, volume, 4);
+}
+
+void write_rating(struct bytes *b, size_t unit, uint32_t rating)
+{
+    put(line(b, b->records + unit) + 4, rating, 4);
+}
+
+void write_analysis(struct bytes *b, size_t i, const struct gas *gas)
+{
+    memset(line(b, i), 0, BOOK_LINE);
+    write_gas(line(b, i), gas);
+}
+
 /* No unit has number 1. */
 void spoil(struct bytes *b, size_t i, unsigned reason)
 {

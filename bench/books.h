@@ -87,6 +87,35 @@ struct anodes {
 /* Record i becomes these anodes. */
 void write_consumed(struct bytes *b, size_t i, const struct anodes *anodes);
 
+/* Fuels that a record may name: all but two have a default heat and a molar volume. */
+enum fuel_sort {
+    NATURAL_GAS,
+    OTHER_GAS,
+    NO_HEAT, /* natural gas */
+    NO_VOLUME, /* a gas of class 0 */
+    LIQUID,
+    SOLID,
+    NO_FUEL,
+    FUEL_SORTS
+};
+
+/* The six fuels of a book of gas become one of each sort; the next number isn't listed. */
+void write_fuel_sorts(struct bytes *b);
+
+/* A fuel gets this molar volume, right or not, and a unit this rating. */
+void write_volume(struct bytes *b, size_t fuel, uint32_t volume);
+void write_rating(struct bytes *b, size_t unit, uint32_t rating);
+
+/* What analysed gas holds, right or not: the amount in m3, heat in kJ for each, carbon in mg per kg
+   and the molecular weight in g per kmol. A unit or a fuel past the last isn't listed. */
+struct gas {
+    size_t unit, fuel;
+    uint32_t flags, month, amount, heat, carbon, weight;
+};
+
+/* Record i becomes this gas. */
+void write_analysis(struct bytes *b, size_t i, const struct gas *gas);
+
 /* Makes record i of a mixed book one with this reason, 1 to 7. For 7 the last fuel line loses its
    default heat. */
 void spoil(struct bytes *b, size_t i, unsigned reason);

@@ -4,18 +4,21 @@
 #include "compare_anodes.h"
 #include "compare_calls.h"
 #include "compare_dry.h"
+#include "compare_gas.h"
+#include "compare_gas_co2.h"
 #include "compare_repeats.h"
 #include "compare_tallies.h"
 
 #include <string.h>
 
-enum { FUZZED = 37500, DRAWN = 20000 };
+enum { FUZZED = 45000, DRAWN = 20000 };
 
 static const struct recipe small = {"small", MIXED, 10, 4, 4};
 static const struct recipe low = {"small, low", LOW_HEATS, 10, 4, 4};
 static const struct recipe dry = {"small, dry", DRY_HOURS, 10, 4, 4};
 static const struct recipe repeated = {"small, repeated", REPEATED_HOURS, 10, 4, 4};
-static const struct recipe smelter = {"small, smelter", SMELTER, 9, 4, 4}; /* of all kinds */
+static const struct recipe smelter = {"small, smelter", SMELTER, 9, 4, 4};
+static const struct recipe refinery = {"small, refinery", REFINERY, 10, 4, 4};
 
 /* Every record, and two that aren't there. */
 static void compare_records(const struct bytes *b, const char *name)
@@ -125,13 +128,13 @@ static void compare_heats(struct bytes *b)
                 compare_heats_of(b, unit, fuel, flags);
 }
 
-/* Every pattern of a unit's flags, with records of fuel, hours and anodes, and with moisture. */
+/* Every pattern of a unit's flags, with records of every kind, and with moisture. */
 static void compare_flags(struct bytes *b)
 {
-    static const struct recipe *const kinds[2] = {&smelter, &dry};
+    static const struct recipe *const kinds[3] = {&smelter, &refinery, &dry};
     for (uint32_t flags = 0; flags < 256; flags++)
         for (size_t unit = 0; unit < 4; unit++)
-            for (int i = 0; i < 2; i++) {
+            for (int i = 0; i < 3; i++) {
                 make_under(b, kinds[i], 0);
                 write_flags(b, unit, flags);
                 compare_book(b, "flags");
@@ -197,7 +200,8 @@ static void compare_too_many(struct bytes *b)
 /* Each reason, and a byte or two damaged, in small books of this set. */
 static void compare_faults(struct bytes *b, unsigned set)
 {
-    static const struct recipe *const kinds[5] = {&low, &dry, &repeated, &small, &smelter};
+    static const struct recipe *const kinds[6] = {&low,   &dry,     &repeated,
+                                                  &small, &smelter, &refinery};
     uint64_t row = 5;
     for (unsigned reason = 1; reason <= 7; reason++) {
         make_under(b, &small, set);
@@ -205,7 +209,7 @@ static void compare_faults(struct bytes *b, unsigned set)
         compare_book(b, "spoiled");
     }
     for (int i = 0; i < FUZZED; i++) {
-        make_under(b, kinds[i % 5], set);
+        make_under(b, kinds[i % 6], set);
         for (uint32_t more = 1 + draw(&row, 2); more != 0; more--)
             damage(b->book, b->length, &row);
         compare_book(b, "damaged");
@@ -225,11 +229,15 @@ void compare_damaged(void)
     compare_flags(&b);
     compare_dry(&b);
     compare_anodes(&b);
+    compare_gas(&b);
+    compare_gas_co2(&b);
     compare_repeats(&b);
     compare_decisions(&b);
     compare_too_many(&b);
     tell_compared();
     tell_dry();
     tell_anodes();
+    tell_gas();
+    tell_gas_co2();
     tell_tallies();
 }

@@ -23,9 +23,9 @@ static unsigned long compared, counts[CALLS][FIELDS][256];
 /* Reports by the book's set of warming values and by the decision, 1 if the site must report. */
 static unsigned long reports[WARMING_SETS][2];
 
-/* Records that count with a low value, by their method; hours that count with moisture; anodes that
-   count. */
-static unsigned long lows[5], moist, anodes;
+/* Records that count with a low value, and analysed gas that counts, by their method; hours that
+   count with moisture; anodes that count. */
+static unsigned long lows[5], gases[5], moist, anodes;
 
 static struct out filled(void)
 {
@@ -110,6 +110,8 @@ static void count_record(const uint8_t *l, uint64_t reply)
         lows[wetherstep_method(reply)]++;
     if (l[0] == HOUR && (l[16] | l[17]) != 0)
         moist++;
+    if (l[0] == GAS)
+        gases[wetherstep_method(reply)]++;
     if (l[0] == ANODES)
         anodes++;
 }
@@ -185,10 +187,12 @@ void tell_compared(void)
     see_lows();
     see_counted(moist, "hour with moisture");
     see_counted(anodes, "anodes");
+    see_counted(gases[3], "analysed gas by method 3");
+    see_counted(gases[4], "analysed gas by method 4");
     printf("compared: %lu calls, every number, reason, method and ledger among them; all alike\n"
            "reports with figures: %lu under the first warming values, %lu under the second\n"
            "records that count with a low value: %lu; hours that count with moisture: %lu; anodes "
-           "that count: %lu\n",
+           "that count: %lu; analysed gas that counts by method 3: %lu, by method 4: %lu\n",
            compared, reports[0][0] + reports[0][1], reports[1][0] + reports[1][1],
-           lows[2] + lows[3] + lows[4], moist, anodes);
+           lows[2] + lows[3] + lows[4], moist, anodes, gases[3], gases[4]);
 }

@@ -36,7 +36,8 @@ uint64_t compare_left(const struct bytes *b, const char *name, const struct out 
 
 /* Says how many calls were compared, and stops unless each call gave every number, reason, method
    and ledger that it can, reports each decision under each set of warming values, records with a
-   low value each method that they can have, and some hour counted with moisture and some anodes. */
+   low value and analysed gas each method that they can have, and some hour counted with moisture
+   and some anodes. */
 void tell_compared(void);
 
 #endif

@@ -1,14 +1,15 @@
 /*
  * The model of records that stand before, by the requirements: a record has the reason that it has
  * as the only record of its book, or else, if it is an hour or anodes that stand before, reason 8.
- * To look at all earlier records for each is slow, and plain to see. What anodes give as the only
- * record is held against the model of anodes.
+ * To look at all earlier records for each is slow, and plain to see. What anodes and analysed gas
+ * give as the only record is held against models of their own.
  */
 #include "compare_model.h"
 
 #include "compare_calls.h"
 #include "compare_tallies.h"
 #include "model_anodes.h"
+#include "model_gas.h"
 
 #include <stdio.h>
 #include <stdlib.h>
@@ -81,6 +82,23 @@ static void see_anodes(const struct bytes *b, const char *name, size_t i)
         stop_at(name, "a mass of the anodes", i);
 }
 
+static void see_gas(const struct bytes *b, const char *name, size_t i)
+{
+    const struct look *look = &alone[i];
+    const struct gas_due gas = due_of_gas(b, i);
+    const uint64_t ledger = gas.method == 4 ? WETHERSTEP_LEDGER_NONE : WETHERSTEP_LEDGER_FOSSIL;
+    if (wetherstep_reason(look->reply) != gas.reason)
+        stop_at(name, "the reason of the gas", i);
+    if (gas.reason != 0)
+        return;
+    if (look->reply != (ledger << 24 | gas.method << 16))
+        stop_at(name, "method or ledger of the gas", i);
+    if (look->masses[WETHERSTEP_MASS_CO2] != gas.co2 ||
+        look->masses[WETHERSTEP_MASS_CH4] != gas.ch4 ||
+        look->masses[WETHERSTEP_MASS_N2O] != gas.n2o)
+        stop_at(name, "a mass of the gas", i);
+}
+
 /* Works `alone` and `due` out. */
 static void expect(const struct bytes *b, const char *name)
 {
@@ -92,6 +110,8 @@ static void expect(const struct bytes *b, const char *name)
         alone[i] = compare_record(&single, name, 0);
         if (l[0] == ANODES)
             see_anodes(b, name, i);
+        if (l[0] == GAS)
+            see_gas(b, name, i);
         due[i] = wetherstep_reason(alone[i].reply);
         if (can_repeat(l))
             count_judged(l[0], due[i], before);

@@ -1,4 +1,5 @@
-/* Library, C and a model on one book: of hours and anodes that stand before, and of any anodes. */
+/* Library, C and a model on one book: of hours and anodes that stand before, of any anodes and of
+   analysed gas. */
 #ifndef COMPARE_MODEL_H
 #define COMPARE_MODEL_H
 

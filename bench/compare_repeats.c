@@ -16,7 +16,7 @@ enum { DRAWN = 10000 };
    a kg too much of metal. */
 enum fault { NO_FAULT, STRAY_BYTE, SHARE, EXCESS, FAULTS };
 
-/* A small book, of hours or of fuel and hours, with a unit of each sort. */
+/* A small book, of hours alone or mixed, with a unit of each sort. */
 static void make_small(struct bytes *b, enum mix mix, size_t records)
 {
     const struct recipe recipe = {"small", mix, records, UNLISTED, 4};
@@ -135,7 +135,7 @@ static void draw_record(struct bytes *b, size_t i, uint64_t *row)
 static void compare_drawn(struct bytes *b, uint64_t *row)
 {
     for (int i = 0; i < DRAWN; i++) {
-        make_small(b, i % 2 == 0 ? ALL_HOURS : MIXED, 1 + draw(row, i % 50 == 0 ? 300 : 30));
+        make_small(b, i % 2 == 0 ? ALL_HOURS : REFINERY, 1 + draw(row, i % 50 == 0 ? 300 : 30));
         for (size_t j = 0; j < b->records; j++)
             draw_record(b, j, row);
         compare_modelled(b, "drawn", row);
@@ -148,7 +148,8 @@ static void compare_full(struct bytes *b, uint64_t *row)
     static const struct recipe books[] = {{"full, repeated", REPEATED_HOURS, 0, 64, 0},
                                           {"full, mixed", MIXED, 0, 64, 64},
                                           {"full, anodes", ALL_ANODES, 0, 64, 0},
-                                          {"full, smelter", SMELTER, 0, 64, 64}};
+                                          {"full, smelter", SMELTER, 0, 64, 64},
+                                          {"full, refinery", REFINERY, 0, 64, 64}};
     for (size_t i = 0; i < sizeof books / sizeof *books; i++) {
         make_book(b, &books[i]);
         compare_modelled(b, books[i].name, row);

@@ -11,10 +11,21 @@ uint64_t number_at(const uint8_t *l, size_t at, size_t bytes)
     return number;
 }
 
-const uint8_t *unit_line_of(const struct bytes *b, const uint8_t *l)
+/* The line from i on and before `end` that has this number. */
+static const uint8_t *line_of(const struct bytes *b, size_t i, size_t end, const uint8_t *number)
 {
-    for (size_t i = b->records; i < b->records + b->units; i++)
-        if (memcmp(b->book + BOOK_LINE * i, l + 2, 2) == 0)
+    for (; i < end; i++)
+        if (memcmp(b->book + BOOK_LINE * i, number, 2) == 0)
             return b->book + BOOK_LINE * i;
     return NULL;
+}
+
+const uint8_t *unit_line_of(const struct bytes *b, const uint8_t *l)
+{
+    return line_of(b, b->records, b->records + b->units, l + 2);
+}
+
+const uint8_t *fuel_line_of(const struct bytes *b, const uint8_t *l)
+{
+    return line_of(b, b->records + b->units, b->length / BOOK_LINE - 1, l + 4);
 }
