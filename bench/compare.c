@@ -8,6 +8,7 @@
 #include "compare_gas_co2.h"
 #include "compare_repeats.h"
 #include "compare_tallies.h"
+#include "compare_volumes.h"
 
 #include <string.h>
 
@@ -231,6 +232,7 @@ void compare_damaged(void)
     compare_anodes(&b);
     compare_gas(&b);
     compare_gas_co2(&b);
+    compare_volumes(&b);
     compare_repeats(&b);
     compare_decisions(&b);
     compare_too_many(&b);
@@ -239,5 +241,6 @@ void compare_damaged(void)
     tell_anodes();
     tell_gas();
     tell_gas_co2();
+    tell_volumes();
     tell_tallies();
 }
