@@ -151,6 +151,10 @@ static const struct recipe books[] = {
     {"a year of anodes, 8 units", ALL_ANODES, 8 * LAST_MONTH, 8, 0},
     {"a year of anodes, 64 units", ALL_ANODES, 64 * LAST_MONTH, 64, 0},
     {"full, repeated anodes, 64 units", ALL_ANODES, 0, 64, 0},
+    {"full, all gas, 8 units, 8 fuels", ALL_GAS, 0, 8, 8},
+    {"full, all gas, 64 units, 64 fuels", ALL_GAS, 0, 64, 64},
+    {"full, refinery, 8 units, 8 fuels", REFINERY, 0, 8, 8},
+    {"full, refinery, 64 units, 64 fuels", REFINERY, 0, 64, 64},
     {"small, mixed, 4 units, 4 fuels", MIXED, 1, 4, 4},
     {"small, mixed, 4 units, 4 fuels", MIXED, 10, 4, 4},
     {"small, mixed, 4 units, 4 fuels", MIXED, 100, 4, 4},
@@ -168,7 +172,8 @@ static void time_books(struct bytes *b)
 }
 
 /* Whether a book is timed by wakes: a full one, of which a wake may look back, or a year of anodes,
-   after which more would repeat others. Dry hours look back as wet ones do. */
+   after which more would repeat others. Dry hours look back as wet ones do. Of what doesn't look
+   back analysed gas stands for all. */
 static bool is_woken(const struct recipe *recipe)
 {
     if (recipe->mix == ALL_ANODES)
@@ -195,12 +200,12 @@ static void time_wakes(struct bytes *b)
 static const struct kind {
     uint8_t number;
     const char *name;
-} kinds[] = {{FUEL, "fuel"}, {HOUR, "an hour"}, {ANODES, "anodes"}};
+} kinds[] = {{FUEL, "fuel"}, {HOUR, "an hour"}, {GAS, "gas"}, {ANODES, "anodes"}};
 
 enum { KINDS = sizeof kinds / sizeof *kinds };
 
-/* A wake of one record, the last of its kind. Fuel asks for nothing that stands before it, an hour
-   and anodes for nearly a whole book. */
+/* A wake of one record, the last of its kind. Fuel and gas ask for nothing that stands before them,
+   an hour and anodes for nearly a whole book. */
 static void time_last(struct bytes *b, const struct recipe *recipe, const struct kind *kind)
 {
     struct job job = begin(b, recipe);
@@ -251,9 +256,10 @@ static void time_growth(struct bytes *b)
     static const size_t sizes[] = {64, 512, 0};
     static const struct recipe growing[] = {{"mixed, 8 units, 8 fuels", MIXED, 0, 8, 8},
                                             {"all hours, 8 units", ALL_HOURS, 0, 8, 0},
-                                            {"all anodes, 64 units", ALL_ANODES, 0, 64, 0}};
+                                            {"all anodes, 64 units", ALL_ANODES, 0, 64, 0},
+                                            {"all gas, 8 units, 8 fuels", ALL_GAS, 0, 8, 8}};
     head("a wake of all less a wake of none", "ns/record");
-    for (int i = 0; i < 9; i++) {
+    for (int i = 0; i < 12; i++) {
         struct recipe recipe = growing[i / 3];
         recipe.records = sizes[i % 3];
         struct job job = begin(b, &recipe);

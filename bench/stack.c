@@ -68,24 +68,28 @@ static void call_last(void)
     wake_from(but_one);
 }
 
-static bool has(uint8_t kind)
+/* A wake of a book that has this kind alone, and of any other book none. */
+static void wake_alone(uint8_t kind)
 {
     for (size_t i = 0; i < book->records; i++)
-        if (book->book[BOOK_LINE * i] == kind)
-            return true;
-    return false;
+        if (book->book[BOOK_LINE * i] != kind)
+            return;
+    call_wake();
 }
 
 static void call_fuel(void)
 {
-    if (!has(HOUR) && !has(ANODES))
-        wake_from(none);
+    wake_alone(FUEL);
+}
+
+static void call_gas(void)
+{
+    wake_alone(GAS);
 }
 
 static void call_anodes(void)
 {
-    if (!has(FUEL) && !has(HOUR))
-        call_wake();
+    wake_alone(ANODES);
 }
 
 static void call_report(void)
@@ -131,6 +135,7 @@ void tell_stack(struct bytes *b, const struct recipe *books, size_t count)
                  {"wake", call_wake},
                  {"wake of one record", call_last},
                  {"wake of fuel alone", call_fuel},
+                 {"wake of gas alone", call_gas},
                  {"wake of anodes alone", call_anodes},
                  {"report", call_report},
                  {"left", call_left},

@@ -5,8 +5,8 @@
 #include "books.h"
 
 /* Tells the most that each call touches on any of these books. Wakes are told apart: of all records
-   and of the last 100; of the last one alone; of all where a book has fuel alone; and of all and of
-   the last 100 where it has anodes alone. */
+   and of the last 100; of the last one alone; and again of all and of the last 100 where a book has
+   fuel alone, analysed gas alone or anodes alone. */
 void tell_stack(struct bytes *b, const struct recipe *books, size_t count);
 
 #endif
