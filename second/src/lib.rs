@@ -14,6 +14,7 @@ pub mod hour;
 pub mod ledger;
 pub mod lines;
 mod measured_heat;
+pub mod quotient;
 pub mod record;
 pub mod refusal;
 pub mod replay;

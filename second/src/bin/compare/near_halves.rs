@@ -87,12 +87,12 @@ mod tests {
     use super::*;
     use crate::draft::{hour, with_moisture};
     use second::hour::product;
-    use second::single::Product;
+    use second::quotient::Quotient;
 
     const TIMES: usize = 1_000;
     const MULTIPLES: [u16; 9] = [1_000, 999, 997, 998, 512, 500, 3, 2, 1];
 
-    fn product_of(multiple: u16, [percent, flow]: [u32; 2]) -> Product {
+    fn product_of(multiple: u16, [percent, flow]: [u32; 2]) -> Quotient {
         let line = with_moisture(hour(1, 1, percent, flow), 1_000 - multiple);
         product(&line).expect("the readings are in range")
     }
@@ -103,7 +103,7 @@ mod tests {
         for multiple in MULTIPLES {
             for _ in 0..TIMES {
                 let pair = half(&mut rng, multiple);
-                let Product { rest, one, .. } = product_of(multiple, pair);
+                let Quotient { rest, one, .. } = product_of(multiple, pair);
                 assert_eq!(2 * rest, one, "{multiple}");
             }
         }
@@ -116,7 +116,7 @@ mod tests {
             let part = 1 << multiple.trailing_zeros();
             for _ in 0..TIMES {
                 let pair = large_near_half(&mut rng, multiple);
-                let Product { rest, one, .. } = product_of(multiple, pair);
+                let Quotient { rest, one, .. } = product_of(multiple, pair);
                 assert_eq!(rest.abs_diff(one / 2), part, "{multiple}");
             }
         }

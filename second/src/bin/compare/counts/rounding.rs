@@ -4,7 +4,7 @@
 use std::cmp::Ordering;
 
 use second::hour::{moisture, product};
-use second::single::Product;
+use second::quotient::Quotient;
 
 use super::Rows;
 
@@ -87,8 +87,8 @@ impl RoundingCounts {
     }
 }
 
-fn way(product: Product) -> Way {
-    let Product { whole, rest, one } = product;
+fn way(product: Quotient) -> Way {
+    let Quotient { whole, rest, one } = product;
     match (whole, (2 * rest).cmp(&one)) {
         (0, _) if rest == 0 => Way::ProductIs0,
         (_, _) if rest == 0 => Way::NothingToRound,

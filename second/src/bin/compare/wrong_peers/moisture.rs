@@ -5,8 +5,9 @@ use second::book::Book;
 use second::bytes::{u16_at, u32_at};
 use second::hour::{moisture, product};
 use second::lines::Monitor;
+use second::quotient::Quotient;
 use second::record::{judge, Addition, Judged, Reason};
-use second::single::{usable_reading, Product};
+use second::single::{product_of, usable_reading};
 
 use super::records::judging;
 use crate::draft::{put, MOISTURE_PLACE, MOST_MOISTURE};
@@ -59,7 +60,7 @@ fn r_of(multiple: u16, line: &[u8]) -> u64 {
     let reading = |place, most| usable_reading(u32_at(line, place), most);
     let percent = reading(8, 100).expect("the hour counts");
     let flow = reading(12, 1_000_000_000).expect("the hour counts");
-    Product::of(multiple, percent, flow).nearest()
+    product_of(multiple, percent, flow).nearest()
 }
 
 pub fn overlooks_moisture_on_a_dry_unit(frame: &Frame) -> Answer {
@@ -103,7 +104,7 @@ pub fn corrects_the_percent_in_single_precision(frame: &Frame) -> Answer {
 }
 
 /// R of an odd multiple, rounded up where `up` holds.
-fn rounding_odd_multiples(frame: &Frame, up: impl Fn(Product) -> bool) -> Answer {
+fn rounding_odd_multiples(frame: &Frame, up: impl Fn(Quotient) -> bool) -> Answer {
     with_r(frame, |line| {
         let product = product(line).expect("the hour counts");
         match moisture(line) % 2 {
@@ -114,11 +115,11 @@ fn rounding_odd_multiples(frame: &Frame, up: impl Fn(Product) -> bool) -> Answer
 }
 
 pub fn rounds_halves_of_an_odd_multiple_upward(frame: &Frame) -> Answer {
-    rounding_odd_multiples(frame, |Product { rest, one, .. }| 2 * rest >= one)
+    rounding_odd_multiples(frame, |Quotient { rest, one, .. }| 2 * rest >= one)
 }
 
 pub fn rounds_halves_of_an_odd_multiple_downward(frame: &Frame) -> Answer {
-    rounding_odd_multiples(frame, |Product { rest, one, .. }| 2 * rest > one)
+    rounding_odd_multiples(frame, |Quotient { rest, one, .. }| 2 * rest > one)
 }
 
 pub fn never_rounds_r_of_an_odd_multiple_up(frame: &Frame) -> Answer {

@@ -3,8 +3,8 @@
 use second::answer::{Answer, Frame};
 use second::bytes::u32_at;
 use second::hour::{moisture, product};
+use second::quotient::Quotient;
 use second::record::{judge, Addition};
-use second::single::Product;
 
 use super::records::judging;
 use crate::draft::HOUR;
@@ -46,7 +46,7 @@ pub fn takes_the_multiple_in_double_precision(frame: &Frame) -> Answer {
 }
 
 /// R rounded from the exact product: the whole, and one more where `up` holds.
-fn rounding(frame: &Frame, up: impl Fn(Product) -> bool) -> Answer {
+fn rounding(frame: &Frame, up: impl Fn(Quotient) -> bool) -> Answer {
     with_r(frame, |line| {
         let product = product(line).expect("the hour counts");
         let r = product.whole + u128::from(up(product));
@@ -66,7 +66,7 @@ pub fn rounds_halves_of_r_downward(frame: &Frame) -> Answer {
 }
 
 pub fn rounds_halves_of_r_to_the_odd_number(frame: &Frame) -> Answer {
-    rounding(frame, |Product { whole, rest, one }| {
+    rounding(frame, |Quotient { whole, rest, one }| {
         2 * rest > one || (2 * rest == one && whole % 2 == 0)
     })
 }
@@ -77,14 +77,14 @@ pub fn never_rounds_r_up(frame: &Frame) -> Answer {
 
 /// That is, gives 0 wherever nothing is whole.
 pub fn never_rounds_r_up_to_1(frame: &Frame) -> Answer {
-    rounding(frame, |Product { whole, rest, one }| {
+    rounding(frame, |Quotient { whole, rest, one }| {
         whole > 0 && (2 * rest > one || (2 * rest == one && whole % 2 == 1))
     })
 }
 
 /// Instead of half of the divisor.
 pub fn holds_the_rest_of_r_against_half_of_1_000(frame: &Frame) -> Answer {
-    rounding(frame, |Product { whole, rest, .. }| {
+    rounding(frame, |Quotient { whole, rest, .. }| {
         2 * rest > 1_000 || (2 * rest == 1_000 && whole % 2 == 1)
     })
 }
