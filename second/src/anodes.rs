@@ -2,7 +2,7 @@
 
 use crate::book::Book;
 use crate::bytes::{all_zero, u16_at, u32_at};
-use crate::fuel_record::UG_CO2_PER_MG_CARBON;
+use crate::measured_carbon::UG_CO2_PER_MG_CARBON;
 use crate::record::{Addition, Co2Ledger, Judged, Reason};
 
 const MOST_METAL: u32 = 100_000_000;

@@ -1,21 +1,26 @@
-//! Fuel records: their form, the permitted method and their masses.
+//! Fuel records, of gas analysed by molecular weight too: their form, the permitted
+//! method and their masses.
 
 use crate::book::Book;
 use crate::bytes::{all_zero, u16_at, u32_at};
-use crate::lines::{Fuel, Monitor, Unit, DISTILLATE_OIL, GAS, NATURAL_GAS, PURE_BIOMASS};
+use crate::lines::{Fuel, Monitor, Unit, DISTILLATE_OIL, NATURAL_GAS, PURE_BIOMASS};
+use crate::measured_carbon::{CarbonByMass, MeasuredCarbon};
 use crate::measured_heat::MeasuredHeat;
-use crate::record::{Addition, Co2Ledger, Judged, Reason};
+use crate::record::{Addition, Co2Ledger, Judged, Reason, ANALYSED_GAS};
 
 /// 250.0 MMBtu/h, in tenths.
 const LARGE_UNIT_ABOVE: u32 = 2_500;
-/// Carbon becomes CO2 by 3.664; with carbon in mg the thousandfold gives µg.
-pub const UG_CO2_PER_MG_CARBON: u64 = 3_664;
+
+/// Flag bits.
+const HEAT_MEASURED: u8 = 1;
+const CARBON_MEASURED: u8 = 2;
+const HEAT_IS_LOW: u8 = 4;
 
 struct FuelRecord {
     month: u16,
     amount: u32,
     measured_heat: Option<MeasuredHeat>,
-    measured_carbon: Option<u32>,
+    measured_carbon: Option<MeasuredCarbon>,
 }
 
 pub fn judge(book: &Book, line: &[u8]) -> Judged {
@@ -35,33 +40,34 @@ impl FuelRecord {
     /// byte that must be 0 is not; heat and carbon bytes must be 0 "when their
     /// flag is clear".
     fn read(line: &[u8]) -> Option<FuelRecord> {
+        let is_by_mass = line[0] == ANALYSED_GAS;
         let flags = line[1];
-        let heat_flagged = flags & 1 != 0;
-        let carbon_flagged = flags & 2 != 0;
-        let low_flagged = flags & 4 != 0;
-        let sound = flags <= 7
+        let (named, after_carbon) = match is_by_mass {
+            true => (HEAT_MEASURED | HEAT_IS_LOW, 24),
+            false => (HEAT_MEASURED | HEAT_IS_LOW | CARBON_MEASURED, 20),
+        };
+        let heat_flagged = flags & HEAT_MEASURED != 0;
+        let low_flagged = flags & HEAT_IS_LOW != 0;
+        // Carbon by mass has no flag, for a record of analysed gas always has it.
+        let carbon_flagged = is_by_mass || flags & CARBON_MEASURED != 0;
+        let sound = flags & !named == 0
             && (heat_flagged || !low_flagged)
             && (heat_flagged || all_zero(&line[12..16]))
             && (carbon_flagged || all_zero(&line[16..20]))
-            && all_zero(&line[20..]);
-        let as_flagged = match low_flagged {
+            && all_zero(&line[after_carbon..]);
+        let heat_as_flagged = match low_flagged {
             true => MeasuredHeat::Low,
             false => MeasuredHeat::High,
         };
         sound.then(|| FuelRecord {
             month: u16_at(line, 6),
             amount: u32_at(line, 8),
-            measured_heat: heat_flagged.then(|| as_flagged(u32_at(line, 12))),
-            measured_carbon: carbon_flagged.then(|| u32_at(line, 16)),
+            measured_heat: heat_flagged.then(|| heat_as_flagged(u32_at(line, 12))),
+            measured_carbon: carbon_flagged.then(|| carbon(line)),
         })
     }
 
     fn in_range(&self, fuel: &Fuel) -> bool {
-        let most_carbon = if fuel.kind == GAS {
-            4_000_000
-        } else {
-            1_000_000
-        };
         (1..=12).contains(&self.month)
             && self.amount <= 100_000_000
             && self
@@ -69,7 +75,7 @@ impl FuelRecord {
                 .is_none_or(|heat| heat.is_in_range(fuel.class))
             && self
                 .measured_carbon
-                .is_none_or(|carbon| carbon <= most_carbon)
+                .is_none_or(|carbon| carbon.is_in_range(fuel))
     }
 
     /// Document 01, "Choosing the method", line by line.
@@ -98,7 +104,7 @@ impl FuelRecord {
         // At most 10^8 x 200,000 kJ, times at most 200,000: below 2^63.
         let energy = amount * u64::from(heat);
         let co2_ug = match (method, self.measured_carbon) {
-            (3, Some(carbon)) => amount * u64::from(carbon) * UG_CO2_PER_MG_CARBON,
+            (3, Some(carbon)) => carbon.co2_ug(amount, fuel),
             (1 | 2, _) => energy * u64::from(fuel.co2),
             _ => 0,
         };
@@ -114,5 +120,13 @@ impl FuelRecord {
             ch4_ng: energy * u64::from(fuel.ch4),
             n2o_ng: energy * u64::from(fuel.n2o),
         }
+    }
+}
+
+/// Of a record that has some.
+fn carbon(line: &[u8]) -> MeasuredCarbon {
+    match line[0] {
+        ANALYSED_GAS => MeasuredCarbon::ByMass(CarbonByMass::read(line)),
+        _ => MeasuredCarbon::PerUnit(u32_at(line, 16)),
     }
 }

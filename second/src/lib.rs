@@ -13,6 +13,7 @@ pub mod fuel_record;
 pub mod hour;
 pub mod ledger;
 pub mod lines;
+pub mod measured_carbon;
 mod measured_heat;
 pub mod quotient;
 pub mod record;

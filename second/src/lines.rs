@@ -36,6 +36,8 @@ pub struct Fuel {
     pub ch4: u32,
     /// µg/MJ.
     pub n2o: u32,
+    /// Molar volume in litres per kmol; 0 is none.
+    pub mvc: u32,
 }
 
 pub const SOLID: u8 = 1;
@@ -109,8 +111,9 @@ impl Numbered for Fuel {
             co2: u32_at(line, 8),
             ch4: u32_at(line, 12),
             n2o: u32_at(line, 16),
+            mvc: u32_at(line, 20),
         };
-        (fuel.is_sound() && all_zero(&line[20..])).then_some(fuel)
+        (fuel.is_sound() && all_zero(&line[24..])).then_some(fuel)
     }
 
     fn number(&self) -> u16 {
@@ -134,6 +137,7 @@ impl Fuel {
             && (1..=MOST).contains(&self.co2)
             && self.ch4 <= MOST
             && self.n2o <= MOST
+            && (self.mvc == 0 || (20_000..=27_000).contains(&self.mvc))
     }
 }
 
@@ -154,6 +158,29 @@ mod tests {
                 _ => None,
             };
             assert_eq!(told, expected, "{flags}");
+        }
+    }
+
+    #[test]
+    fn a_fuel_of_any_kind_has_a_molar_volume_in_range_or_none() {
+        let volumes = [
+            (0, true),
+            (1, false),
+            (19_999, false),
+            (20_000, true),
+            (27_000, true),
+            (27_001, false),
+            (0x0100_0000, false),
+            (u32::MAX, false),
+        ];
+        for kind in [SOLID, LIQUID, GAS] {
+            for (mvc, is_sound) in volumes {
+                let mut line = [0; LINE];
+                (line[0], line[2], line[8]) = (1, kind, 1);
+                line[20..24].copy_from_slice(&u32::to_le_bytes(mvc));
+                let told = fuels(&line).map(|fuels| fuels[0].mvc);
+                assert_eq!(told, is_sound.then_some(mvc), "kind {kind}, {mvc}");
+            }
         }
     }
 }

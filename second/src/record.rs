@@ -42,8 +42,10 @@ pub struct Addition {
 
 pub type Judged = Result<Addition, Reason>;
 
-const FUEL_RECORD: u8 = 1;
+pub const FUEL_RECORD: u8 = 1;
 pub const MONITOR_HOUR: u8 = 2;
+/// Fuel too: gas whose carbon is measured by mass.
+pub const ANALYSED_GAS: u8 = 3;
 pub const ANODES: u8 = 4;
 
 /// Each record from `place` on, by itself and by what stands before it.
@@ -62,7 +64,7 @@ pub fn judged_from<'a>(book: &'a Book<'a>, place: u32) -> impl Iterator<Item = J
 /// which no other comes after.
 pub fn judge(book: &Book, line: &[u8]) -> Judged {
     match line[0] {
-        FUEL_RECORD => fuel_record::judge(book, line),
+        FUEL_RECORD | ANALYSED_GAS => fuel_record::judge(book, line),
         MONITOR_HOUR => hour::judge(book, line),
         ANODES => anodes::judge(book, line),
         _ => Err(Reason::Form),
