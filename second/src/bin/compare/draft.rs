@@ -1,5 +1,9 @@
 //! Books written line by line, from the requirements' table of lines alone.
 
+mod analysed_gas;
+
+pub use analysed_gas::*;
+
 use std::collections::HashMap;
 
 pub const LINE: usize = 32;
@@ -18,6 +22,11 @@ pub fn other_set(set: u8) -> u8 {
 /// The class of fuel that may have a low heat value, and the greatest of these.
 pub const NATURAL_GAS: u8 = 1;
 pub const MOST_LOW_HEAT: u32 = 180_000;
+
+/// Byte 0 of a fuel record, and the greatest amount and heat.
+pub const FUEL_RECORD: u8 = 1;
+pub const MOST_AMOUNT: u32 = 100_000_000;
+pub const MOST_HEAT: u32 = 200_000;
 
 /// Flag bits of a fuel record.
 pub const HEAT_MEASURED: u8 = 1;
@@ -70,6 +79,7 @@ pub struct FuelLine {
     pub co2: u32,
     pub ch4: u32,
     pub n2o: u32,
+    pub mvc: u32,
 }
 
 #[derive(Clone, Copy)]
@@ -154,6 +164,7 @@ impl FuelLine {
         put(&mut line, 8, &self.co2.to_le_bytes());
         put(&mut line, 12, &self.ch4.to_le_bytes());
         put(&mut line, 16, &self.n2o.to_le_bytes());
+        put(&mut line, MVC_PLACE, &self.mvc.to_le_bytes());
         line
     }
 }
@@ -161,7 +172,7 @@ impl FuelLine {
 impl Burnt {
     pub fn line(&self) -> Line {
         let mut line = [0; LINE];
-        line[0] = 1;
+        line[0] = FUEL_RECORD;
         line[1] = self.flags();
         put(&mut line, 2, &self.unit.to_le_bytes());
         put(&mut line, 4, &self.fuel.to_le_bytes());

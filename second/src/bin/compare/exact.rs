@@ -48,6 +48,7 @@ fn fuels() -> Vec<Line> {
             co2,
             ch4,
             n2o,
+            mvc: 0,
         };
         fuel.line()
     };

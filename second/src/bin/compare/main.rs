@@ -16,6 +16,7 @@ mod expectation;
 mod histories;
 mod job;
 mod link;
+mod molar_halves;
 mod near_halves;
 mod public_figures;
 mod random;

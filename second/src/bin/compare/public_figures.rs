@@ -103,4 +103,5 @@ pub const TRACE: FuelLine = FuelLine {
     co2: 1,
     ch4: 0,
     n2o: 0,
+    mvc: 0,
 };

@@ -1,5 +1,6 @@
 //! Random books, biased to the edges of what the requirements allow.
 
+pub mod analysed_gas;
 mod anodes;
 mod echo;
 
@@ -102,7 +103,12 @@ fn any_unit(rng: &mut Random, number: u16) -> Line {
     }
 }
 
+/// Two of three with a molar volume, of whatever kind.
 fn fuel(rng: &mut Random, number: u16) -> FuelLine {
+    let mvc = match rng.below(3) {
+        0 => 0,
+        _ => analysed_gas::mvc(rng),
+    };
     let choices = [(1, 0), (2, 0), (3, 0), (3, 1), (2, 2), (1, 3)];
     let (kind, class) = rng.pick(&choices);
     let mut or_zero = |zero_in: u64| match rng.one_in(zero_in) {
@@ -117,6 +123,7 @@ fn fuel(rng: &mut Random, number: u16) -> FuelLine {
         ch4: or_zero(6),
         n2o: or_zero(6),
         co2: rng.within(200_000),
+        mvc,
     }
 }
 
@@ -134,11 +141,11 @@ pub fn good_record(rng: &mut Random, draft: &Draft) -> Line {
         return anodes::good(rng, unit);
     }
     let fuel = rng.pick(&draft.fuels);
-    let heat_is_low = fuel[3] == NATURAL_GAS && rng.one_in(2);
-    let heat = match heat_is_low {
-        true => Some(low_heat(rng)),
-        false => rng.one_in(2).then(|| rng.within(200_000)),
-    };
+    if analysed_gas::is_of(&fuel) && rng.one_in(2) {
+        let unit = u16_at(&rng.pick(&draft.units), 0);
+        return analysed_gas::good(rng, unit, &fuel);
+    }
+    let (heat, heat_is_low) = heat(rng, &fuel);
     let record = Burnt {
         unit: u16_at(&rng.pick(&draft.units), 0),
         fuel: u16_at(&fuel, 0),
@@ -149,6 +156,16 @@ pub fn good_record(rng: &mut Random, draft: &Draft) -> Line {
         carbon: rng.one_in(4).then(|| rng.within(1_000_000)),
     };
     record.line()
+}
+
+/// Heat that a record of the fuel of this line may have, and whether it is a low value.
+fn heat(rng: &mut Random, fuel: &Line) -> (Option<u32>, bool) {
+    let is_low = fuel[3] == NATURAL_GAS && rng.one_in(2);
+    let heat = match is_low {
+        true => Some(low_heat(rng)),
+        false => rng.one_in(2).then(|| rng.within(200_000)),
+    };
+    (heat, is_low)
 }
 
 /// An hour that counts, of the monitored unit of this line.
@@ -184,9 +201,10 @@ fn low_heat(rng: &mut Random) -> u32 {
 /// A record with anything at or past its edges.
 pub fn wild_record(rng: &mut Random, draft: &Draft) -> Line {
     let unit = u16_at(&rng.pick(&draft.units), 0) + u16::from(rng.one_in(10));
-    let mut line = match rng.below(5) {
+    let mut line = match rng.below(6) {
         0 | 1 => wild_hour(rng, unit),
         2 => anodes::wild(rng, unit),
+        3 => analysed_gas::wild(rng, unit, draft),
         _ => wild_fuel(rng, unit, draft),
     };
     if rng.one_in(12) {
@@ -195,16 +213,21 @@ pub fn wild_record(rng: &mut Random, draft: &Draft) -> Line {
     line
 }
 
+/// Heat at or past its edges, or none.
+fn wild_heat(rng: &mut Random) -> Option<u32> {
+    rng.one_in(2).then(|| {
+        let most = rng.pick(&[MOST_LOW_HEAT, 200_000]);
+        rng.edgy(most)
+    })
+}
+
 fn wild_fuel(rng: &mut Random, unit: u16, draft: &Draft) -> Line {
     let record = Burnt {
         unit,
         fuel: u16_at(&rng.pick(&draft.fuels), 0) + u16::from(rng.one_in(10)),
         month: rng.edgy(12) as u16,
         amount: rng.edgy(100_000_000),
-        heat: rng.one_in(2).then(|| {
-            let most = rng.pick(&[MOST_LOW_HEAT, 200_000]);
-            rng.edgy(most)
-        }),
+        heat: wild_heat(rng),
         heat_is_low: rng.one_in(3),
         carbon: rng.one_in(2).then(|| {
             let most = rng.pick(&[1_000_000, 4_000_000]);

@@ -1,8 +1,8 @@
 //! A small sound book that has every kind of line.
 
 use crate::draft::{
-    dry_unit, hour, put, unit, with_moisture, Anodes, Burnt, Draft, FuelLine, Line, FIRST_SET,
-    LAST_HOUR, NUMBER_PLACE,
+    dry_unit, hour, put, unit, with_moisture, Analysed, Anodes, Burnt, Draft, FuelLine, Line,
+    FIRST_SET, LAST_HOUR, NUMBER_PLACE,
 };
 
 const UNMEASURED: Burnt = Burnt {
@@ -15,11 +15,8 @@ const UNMEASURED: Burnt = Burnt {
     carbon: None,
 };
 
-/// Fuel records of a gas and of a solid with everything measured, one with
-/// nothing measured, an hour, and one with moisture, whose R is rounded; a plain,
-/// a wet and a dry unit; fuels of every kind and class but "other".
-pub fn small_book() -> Draft {
-    let fuel = |number, kind, class| FuelLine {
+const fn fuel(number: u16, kind: u8, class: u8, mvc: u32) -> FuelLine {
+    FuelLine {
         number,
         kind,
         class,
@@ -27,14 +24,21 @@ pub fn small_book() -> Draft {
         co2: 50_000,
         ch4: 900,
         n2o: 90,
-    };
+        mvc,
+    }
+}
+
+/// Fuel records of a gas and of a solid with everything measured, one with
+/// nothing measured, an hour, and one with moisture, whose R is rounded; a plain,
+/// a wet and a dry unit; fuels of every kind and class but "other".
+pub fn small_book() -> Draft {
     let burnt = |fuel, heat, carbon| Burnt {
         fuel,
         heat,
         carbon,
         ..UNMEASURED
     };
-    let fuels = [fuel(1, 3, 1), fuel(2, 1, 3), fuel(3, 2, 2)];
+    let fuels = [fuel(1, 3, 1, 0), fuel(2, 1, 3, 0), fuel(3, 2, 2, 0)];
     // 12.5 percent x 200,000.1875 scf/h x 229 is 572,500,536.71875. 771 is 3 x 256
     // + 3, so another lower byte alone makes the moisture 1,000 or 1,001.
     let moist = with_moisture(hour(3, 4_001, 0x4148_0000, 0x4843_500C), 771);
@@ -112,5 +116,55 @@ pub fn small_book_with_anodes() -> Draft {
         ANODES.line(),
         hour,
     ];
+    draft
+}
+
+/// 70,000 m3 x 748,663 mg/kg x 16,043 g/kmol is an odd number of times 752, and by 24,064
+/// each of these is 114.5 µg of CO2.
+const ANALYSED: Analysed = Analysed {
+    unit: 1,
+    fuel: 1,
+    month: 7,
+    amount: 70_000,
+    heat: None,
+    heat_is_low: false,
+    carbon: 748_663,
+    weight: 16_043,
+};
+
+/// The same, but with analysed gas in the place of fuel: natural gas of which a low heat
+/// value is known, another gas, and natural gas burnt in the wet unit, whose hour has
+/// the number of its month. All three fuels have a molar volume, a liquid too.
+pub fn small_book_with_analysed_gas() -> Draft {
+    let with_low_heat = Analysed {
+        heat: Some(35_050),
+        heat_is_low: true,
+        ..ANALYSED
+    };
+    let of_other_gas = Analysed {
+        fuel: 2,
+        ..ANALYSED
+    };
+    let of_wet_unit = Analysed {
+        unit: 2,
+        heat: Some(39_000),
+        ..ANALYSED
+    };
+    let fuels = [
+        fuel(1, 3, 1, 24_064),
+        fuel(2, 3, 0, 23_685),
+        fuel(3, 2, 2, 20_000),
+    ];
+    let mut draft = small_book();
+    let gases = [with_low_heat, of_other_gas, of_wet_unit];
+    for (record, gas) in draft.records.iter_mut().zip(gases) {
+        *record = gas.line();
+    }
+    put(
+        &mut draft.records[3],
+        NUMBER_PLACE,
+        &ANALYSED.month.to_le_bytes(),
+    );
+    draft.fuels = fuels.map(|fuel| fuel.line()).to_vec();
     draft
 }

@@ -1,6 +1,7 @@
 //! Group 1: every sum that the requirements work by hand ("Sums worked by hand"),
 //! with the result that the document prints, and others worked from its rules.
 
+mod analysed_gas;
 mod anodes;
 mod low_heat;
 mod moisture;
@@ -33,6 +34,7 @@ const FUEL_1: FuelLine = FuelLine {
     co2: 50_000,
     ch4: 900,
     n2o: 90,
+    mvc: 0,
 };
 
 /// "Amount 1,000", in unit 1, no flags.
@@ -150,6 +152,7 @@ fn sums() -> impl Iterator<Item = Sum> {
     let of_the_document = fuel_sums().into_iter().chain(hour_sums());
     let others = low_heat::sums().chain(rounding::sums());
     let others = others.chain(moisture::sums()).chain(anodes::sums());
+    let others = others.chain(analysed_gas::sums());
     of_the_document.chain(others)
 }
 

@@ -36,6 +36,7 @@ const FUEL: FuelLine = FuelLine {
     co2: 50_000,
     ch4: 900,
     n2o: 90,
+    mvc: 0,
 };
 
 pub fn run(exchange: &mut Exchange, rng: &mut Random) -> Outcome<()> {

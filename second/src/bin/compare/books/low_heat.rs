@@ -25,6 +25,7 @@ const GAS: FuelLine = FuelLine {
     co2: 50_000,
     ch4: 900,
     n2o: 90,
+    mvc: 0,
 };
 
 const LOW: Burnt = Burnt {

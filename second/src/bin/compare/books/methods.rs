@@ -28,6 +28,7 @@ fn choices() -> Draft {
                 co2: 60_000,
                 ch4: 700,
                 n2o: 80,
+                mvc: 0,
             };
             fuels.push(fuel.line());
         }

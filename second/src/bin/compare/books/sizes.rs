@@ -55,6 +55,7 @@ fn listing(units: u16, fuels: u16) -> Draft {
         co2: 90_000,
         ch4: 30_000,
         n2o: 4_000,
+        mvc: 0,
     };
     Draft {
         records: Vec::new(),

@@ -7,9 +7,9 @@ use second::lines::{Fuel, GAS};
 use second::record::{judge, Addition, Judged, Reason};
 
 use super::records::judging;
-use crate::draft::{put, CARBON_MEASURED, HEAT_IS_LOW, HEAT_MEASURED, MOST_LOW_HEAT, NATURAL_GAS};
-
-const FUEL_RECORD: u8 = 1;
+use crate::draft::{
+    put, CARBON_MEASURED, FUEL_RECORD, HEAT_IS_LOW, HEAT_MEASURED, MOST_LOW_HEAT, NATURAL_GAS,
+};
 
 /// Fuel records with these of the flags for heat, judged wrongly.
 fn flagged(frame: &Frame, flags: u8, wrong: impl Fn(&Book, &[u8]) -> Judged) -> Answer {

@@ -6,9 +6,8 @@ use second::bytes::u32_at;
 use second::record::judge;
 
 use super::records::judging;
-use crate::draft::{DRY, LINE, MONITORED};
+use crate::draft::{DRY, FUEL_RECORD, LINE, MONITORED};
 
-const FUEL_RECORD: u8 = 1;
 const UNIT_LINES_WRONG: u8 = 22;
 const FUEL_LINES_WRONG: u8 = 23;
 

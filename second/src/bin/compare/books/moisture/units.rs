@@ -57,6 +57,7 @@ fn fuel_records(exchange: &mut Exchange, rng: &mut Random) -> Outcome<()> {
         co2: 50_000,
         ch4: 900,
         n2o: 90,
+        mvc: 0,
     };
     let draft = Draft {
         fuels: vec![gas.line()],
