@@ -1,5 +1,6 @@
 //! Group 2: books at every edge that the requirements draw, and random ones.
 
+pub mod analysed_gas;
 pub mod anodes;
 mod decisions;
 mod every_call;
@@ -7,6 +8,7 @@ mod limits;
 mod low_heat;
 mod methods;
 mod moisture;
+mod part_of_total;
 mod readings;
 pub mod repeats;
 mod sizes;
@@ -23,6 +25,7 @@ pub fn run(exchange: &mut Exchange, rng: &mut Random) -> Outcome<()> {
     low_heat::run(exchange, rng)?;
     moisture::run(exchange, rng)?;
     anodes::run(exchange, rng)?;
+    analysed_gas::run(exchange, rng)?;
     decisions::run(exchange, rng)?;
     warming::run(exchange, rng)?;
     readings::run(exchange, rng)?;

@@ -4,7 +4,9 @@ use crate::draft::{put, Draft, Line, LINE, LONGEST_BOOK};
 use crate::exchange::{Exchange, Outcome};
 use crate::job;
 use crate::random::Random;
-use crate::sample::{small_book, small_book_with_anodes, small_book_with_low_heat};
+use crate::sample::{
+    small_book, small_book_with_analysed_gas, small_book_with_anodes, small_book_with_low_heat,
+};
 use crate::specials::{FLOW_LIMIT, PERCENT_LIMIT};
 
 /// A field: where it lies, how many bytes it has, and the ends of its range.
@@ -44,7 +46,7 @@ const UNIT: [Field; 4] = [
     field(4, 4, &[1, 2_500, 100_000, u32::MAX]),
 ];
 
-const FUEL: [Field; 7] = [
+const FUEL: [Field; 9] = [
     field(0, 2, &[0, 1, 2, 3, 65_535]),
     field(2, 1, &[1, 2, 3, 255]),
     field(3, 1, &[0, 1, 2, 3, 255]),
@@ -52,6 +54,8 @@ const FUEL: [Field; 7] = [
     field(8, 4, &[1, 200_000, u32::MAX]),
     field(12, 4, &[0, 200_000, u32::MAX]),
     field(16, 4, &[0, 200_000, u32::MAX]),
+    field(20, 4, &[0, 20_000, 27_000, u32::MAX]),
+    field(24, 4, &[0]),
 ];
 
 const FUEL_RECORD: [Field; 8] = [
@@ -90,6 +94,20 @@ const ANODES: [Field; 11] = [
     field(18, 2, &[0, 10_000, 65_535]),
     field(20, 2, &[0, 10_000, 65_535]),
     field(22, 4, &[0]),
+];
+
+const ANALYSED_GAS: [Field; 11] = [
+    field(0, 1, &[1, 3]),
+    field(1, 1, &[0, 1, 5, 255]),
+    field(2, 2, &[0, 1, 2, 3, 65_535]),
+    field(4, 2, &[0, 1, 2, 3, 65_535]),
+    field(6, 2, &[1, 12, 256, 65_535]),
+    field(8, 4, &[0, 100_000_000, u32::MAX]),
+    field(12, 4, &[0, 180_000, 200_000, u32::MAX]),
+    field(16, 4, &[0, 1_000_000, 4_000_000, u32::MAX]),
+    field(20, 4, &[0, 200_000, u32::MAX]),
+    field(24, 4, &[0]),
+    field(28, 4, &[0]),
 ];
 
 impl Field {
@@ -139,7 +157,23 @@ pub fn run(exchange: &mut Exchange, rng: &mut Random) -> Outcome<()> {
         vary(exchange, rng, &with_anodes, &ANODES, line)?;
     }
     exchange.case("every pair of limits in an anode record");
-    pairs(exchange, &with_anodes, &ANODES, 0)
+    pairs(exchange, &with_anodes, &ANODES, 0)?;
+    analysed_gas(exchange, rng)
+}
+
+fn analysed_gas(exchange: &mut Exchange, rng: &mut Random) -> Outcome<()> {
+    let base = small_book_with_analysed_gas();
+    exchange.case("limits in records of analysed gas");
+    for line in 0..3 {
+        vary(exchange, rng, &base, &ANALYSED_GAS, line)?;
+    }
+    exchange.case("limits in fuel lines with a molar volume");
+    let first_fuel = base.records.len() + base.units.len();
+    for line in first_fuel..first_fuel + base.fuels.len() {
+        vary(exchange, rng, &base, &FUEL, line)?;
+    }
+    exchange.case("every pair of limits in a record of analysed gas");
+    pairs(exchange, &base, &ANALYSED_GAS, 0)
 }
 
 fn vary(

@@ -1,14 +1,13 @@
 //! Anodes in the totals: as many of the largest as a book has room for without a
 //! repeat, and the thresholds of the decision to a nanogram with anodes in part of T.
 
+use super::super::part_of_total::{self, Part};
 use super::GRAM;
-use crate::draft::{unit, Anodes, Draft, Line, FIRST_SET, LAST_MONTH, MOST_METAL, MOST_USE, SETS};
-use crate::exact::{self, Totals};
+use crate::draft::{unit, Anodes, Draft, FIRST_SET, LAST_MONTH, MOST_METAL, MOST_USE, SETS};
 use crate::exchange::{Exchange, Outcome};
 use crate::expectation;
 use crate::job;
 use crate::random::Random;
-use crate::warming::{Edge, EDGES};
 
 const MOST_UNITS: u16 = 64;
 
@@ -26,7 +25,7 @@ const YEARS: [(u16, u64); 3] = [
     (MOST_UNITS, 281_395_200_000),
 ];
 
-/// Anodes and their CO2 in µg: of 1 t of carbon, of a ten-thousandth of a gram, which is
+/// Anodes, on the unit without a monitor and on the other, and their CO2 in µg: of 1 t of carbon, of a ten-thousandth of a gram, which is
 /// 366.4 µg, and of 970 t.
 const PARTS: [(Anodes, u64); 3] = [
     (
@@ -66,14 +65,14 @@ pub fn run(exchange: &mut Exchange, rng: &mut Random) -> Outcome<()> {
             job::in_wakes(exchange, rng, &book)?;
         }
     }
-    let with_fossil = EDGES.into_iter().filter(|edge| edge.totals.fossil_ug > 0);
-    for edge in with_fossil {
-        exchange.case(format!("anodes in part of the total, {}", edge.name));
-        for (anodes, ug) in PARTS {
-            at_edge(exchange, rng, &edge, anodes, ug)?;
-        }
-    }
-    Ok(())
+    let parts = PARTS.iter().flat_map(|(anodes, ug)| {
+        [1, 2].map(|unit| Part {
+            record: Anodes { unit, ..*anodes }.line(),
+            ug: *ug,
+            fuel: None,
+        })
+    });
+    part_of_total::run(exchange, rng, "anodes", &parts.collect::<Vec<Part>>())
 }
 
 fn year_of_largest(units: u16) -> Draft {
@@ -92,32 +91,4 @@ fn year_of_largest(units: u16) -> Draft {
         year: 2018,
         warming_set: FIRST_SET,
     }
-}
-
-/// The total with so much of its fossil CO2 from anodes, where it has as much.
-fn at_edge(
-    exchange: &mut Exchange,
-    rng: &mut Random,
-    edge: &Edge,
-    anodes: Anodes,
-    ug: u64,
-) -> Outcome<()> {
-    let Some(fossil_ug) = edge.totals.fossil_ug.checked_sub(ug) else {
-        return Ok(());
-    };
-    let mut draft = exact::book(Totals {
-        fossil_ug,
-        ..edge.totals
-    });
-    // Units 1 and 2 are there, the second with a monitor.
-    let unit = 1 + rng.below(2) as u16;
-    let line: Line = Anodes { unit, ..anodes }.line();
-    let place = rng.index(draft.records.len() + 1);
-    draft.records.insert(place, line);
-    for set in SETS {
-        let book = draft.under(set);
-        job::whole(exchange, rng, &book, edge.report(set))?;
-        job::everything(exchange, rng, &book, draft.records.len())?;
-    }
-    Ok(())
 }
