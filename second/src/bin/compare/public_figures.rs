@@ -5,6 +5,7 @@
 //! in 2d, and in a product such parts add up. This holds for what a source
 //! prints and for the whole numbers of a book alike.
 
+mod analysed_gas;
 mod anodes_000;
 mod dry_gas;
 mod factors_002;
@@ -41,6 +42,7 @@ pub fn run(exchange: &mut Exchange, rng: &mut Random) -> Outcome<()> {
         low_heat_000::figures(),
         dry_gas::figures(),
         anodes_000::figures(),
+        analysed_gas::figures(),
     ];
     for figure in groups.into_iter().flatten() {
         exchange.case(figure.source);
