@@ -1,6 +1,7 @@
 //! Group 3: every single-byte damage of a small book and of checkpoints of
 //! its run, every length, and random damage of several bytes.
 
+pub mod analysed_gas;
 mod edits;
 pub mod repeats;
 
@@ -55,6 +56,7 @@ pub fn run(exchange: &mut Exchange, rng: &mut Random) -> Outcome<()> {
     single_bytes_of_line(exchange, rng, &with_low_heat, 0)?;
     repeats::hours(exchange, rng)?;
     repeats::anodes(exchange, rng)?;
+    analysed_gas::run(exchange, rng)?;
     let lines = 0..whole.book.len() / LINE;
     for line in lines.filter(|&line| line != HOUR_WITH_MOISTURE) {
         exchange.case(format!(

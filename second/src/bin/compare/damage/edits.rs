@@ -1,9 +1,29 @@
-//! Ways to change several bytes at once.
+//! Ways to change bytes: one after the other, and several at once.
+
+use std::ops::Range;
 
 use crate::draft::LINE;
+use crate::exchange::Outcome;
 use crate::random::Random;
 
 pub type Edit = fn(&mut Random, &mut [u8]);
+
+/// Each of these bytes with every value.
+pub fn single_bytes(
+    original: &[u8],
+    places: Range<usize>,
+    mut with: impl FnMut(&[u8]) -> Outcome<()>,
+) -> Outcome<()> {
+    let mut bytes = original.to_vec();
+    for place in places {
+        for value in 0..=255 {
+            bytes[place] = value;
+            with(&bytes)?;
+        }
+        bytes[place] = original[place];
+    }
+    Ok(())
+}
 
 /// Two to six bytes become anything.
 pub fn damage(rng: &mut Random, bytes: &mut [u8]) {

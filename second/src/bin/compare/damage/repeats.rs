@@ -3,7 +3,7 @@
 
 use std::ops::Range;
 
-use super::edits::{self, Edit};
+use super::edits::{self, single_bytes, Edit};
 use super::{damaged_book, sound, with_checkpoint, Sound};
 use crate::draft::{Draft, LINE};
 use crate::exchange::{Exchange, Outcome};
@@ -101,23 +101,6 @@ fn random_edits(
             edit(rng, &mut book[..records]);
             damaged_book(exchange, rng, &book, sound)?;
         }
-    }
-    Ok(())
-}
-
-/// Each of these bytes with every value.
-fn single_bytes(
-    original: &[u8],
-    places: Range<usize>,
-    mut with: impl FnMut(&[u8]) -> Outcome<()>,
-) -> Outcome<()> {
-    let mut bytes = original.to_vec();
-    for place in places {
-        for value in 0..=255 {
-            bytes[place] = value;
-            with(&bytes)?;
-        }
-        bytes[place] = original[place];
     }
     Ok(())
 }
