@@ -1,5 +1,6 @@
 //! Group 4: wakes of all budgets from all sorts of checkpoints.
 
+pub mod analysed_gas;
 mod breakages;
 mod changed_set;
 mod dry_units;
@@ -21,6 +22,7 @@ const WAKES: usize = 24;
 pub fn run(exchange: &mut Exchange, rng: &mut Random) -> Outcome<()> {
     smallest::run(exchange, rng)?;
     dry_units::run(exchange, rng)?;
+    analysed_gas::run(exchange, rng)?;
     repeats::run(exchange, rng)?;
     exchange.case("wakes of random budgets from older checkpoints");
     for _ in 0..BOOKS * exchange.run.settings.times {
