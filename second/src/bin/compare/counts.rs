@@ -1,5 +1,6 @@
 //! What was compared and found equal, counted by what the requirements tell apart.
 
+mod analysed_gas;
 mod anodes;
 mod low_heat;
 mod moisture;
@@ -13,10 +14,11 @@ use second::replay::FRAME_HEAD;
 
 pub use moisture::flags_of;
 
-use crate::draft::LINE;
+use crate::draft::{ANALYSED_GAS, FUEL_RECORD, LINE};
 use crate::repeats::{Kind, KINDS};
 use crate::run::Run;
 use crate::specials::{class, is_usable, CLASSES, FLOW_LIMIT, PERCENT_LIMIT};
+use analysed_gas::AnalysedGasCounts;
 use anodes::AnodeCounts;
 use low_heat::LowHeatCounts;
 use moisture::MoistureCounts;
@@ -29,7 +31,6 @@ const NUMBERS: [u8; 10] = [0, 20, 21, 22, 23, 30, 31, 32, 40, 41];
 /// "Numbers 20 to 23, 30, 31", and 0 where records are counted.
 const NUMBERS_OF_LEFT: [u8; 7] = [0, 20, 21, 22, 23, 30, 31];
 const METHODS: [u8; 6] = [0, 1, 2, 3, 4, NO_SUCH_RECORD];
-const FUEL_RECORD: u8 = 1;
 const UNIT_LINES_WRONG: u8 = 22;
 const SET_ASIDE: u8 = 41;
 
@@ -47,6 +48,7 @@ pub struct Counts {
     ledgers: [u64; 3],
     percents: [u64; CLASSES.len()],
     flows: [u64; CLASSES.len()],
+    analysed_gas: AnalysedGasCounts,
     anodes: AnodeCounts,
     low_heat: LowHeatCounts,
     moisture: MoistureCounts,
@@ -96,6 +98,8 @@ impl Counts {
         self.calls[usize::from(question.call) - 1] += 1;
         self.warming.count(&question, answer, self.latest.as_ref());
         self.repeats.count(&question, answer, self.latest.as_ref());
+        self.analysed_gas
+            .count(&question, number, self.latest.as_ref());
         add_at(&mut self.numbers, &NUMBERS, number);
         if question.call == Call::Record as u8 && number == 0 {
             self.count_record(&question, answer);
@@ -133,14 +137,16 @@ impl Counts {
             self.ledgers[usize::from(ledger)] += 1;
         }
         let line = &book[LINE * index..][..LINE];
-        if line[0] == FUEL_RECORD {
-            self.low_heat.count(book, line, answer);
-        }
         let asked = Asked {
             book,
             index,
             reason,
         };
+        match line[0] {
+            FUEL_RECORD => self.low_heat.count(book, line, answer),
+            ANALYSED_GAS => self.analysed_gas.count_record(&asked),
+            _ => {}
+        }
         match KINDS.into_iter().find(|kind| kind.byte_0() == line[0]) {
             Some(Kind::Hours) => {
                 self.moisture.count_hour(book, line, answer);
@@ -201,6 +207,7 @@ impl Counts {
         table.extend(self.rounding.table());
         table.extend(self.moisture.table());
         table.extend(self.anodes.table());
+        table.extend(self.analysed_gas.table());
         table.extend(self.repeats.table());
         table.extend(self.warming.table());
         if asks_left {

@@ -1,5 +1,5 @@
-//! What was compared of the ways to round R, by the multiple of percent x flow that
-//! it is rounded from.
+//! What was compared of the ways to round half to even: those of R, by the multiple of
+//! percent x flow that it is rounded from.
 
 use std::cmp::Ordering;
 
@@ -9,7 +9,7 @@ use second::quotient::Quotient;
 use super::Rows;
 
 #[derive(Clone, Copy, Debug, PartialEq, Eq)]
-enum Way {
+pub enum Way {
     ProductIs0,
     BelowAHalfTo0,
     AboveAHalfTo1,
@@ -21,7 +21,7 @@ enum Way {
     HalfTo0,
 }
 
-const WAYS: [(Way, &str); 9] = [
+pub const WAYS: [(Way, &str); 9] = [
     (Way::ProductIs0, "the product is 0"),
     (Way::BelowAHalfTo0, "below a half, to 0"),
     (Way::AboveAHalfTo1, "above a half, to 1"),
@@ -87,7 +87,7 @@ impl RoundingCounts {
     }
 }
 
-fn way(product: Quotient) -> Way {
+pub fn way(product: Quotient) -> Way {
     let Quotient { whole, rest, one } = product;
     match (whole, (2 * rest).cmp(&one)) {
         (0, _) if rest == 0 => Way::ProductIs0,

@@ -1,5 +1,5 @@
-//! An hour or anode record that was asked for by itself, and what of it and of the
-//! records before it is told apart.
+//! A record that was asked for by itself, and what of it and of the records before it is
+//! told apart.
 
 use second::book::Book;
 use second::bytes::{u16_at, u32_at};
