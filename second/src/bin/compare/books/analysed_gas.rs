@@ -54,12 +54,12 @@ const GAS: Analysed = Analysed {
 type Case = (Line, Vec<Expectation>);
 
 pub fn run(exchange: &mut Exchange, rng: &mut Random) -> Outcome<()> {
-    fuel_lines::run(exchange, rng)?;
     values::run(exchange, rng)?;
-    rounding::run(exchange, rng)?;
-    flags::run(exchange, rng)?;
     reasons::run(exchange, rng)?;
+    flags::run(exchange, rng)?;
     beside_others::run(exchange, rng)?;
+    fuel_lines::run(exchange, rng)?;
+    rounding::run(exchange, rng)?;
     totals::run(exchange, rng)
 }
 

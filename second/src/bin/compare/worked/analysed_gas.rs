@@ -1,10 +1,11 @@
 //! Gas analysed by molecular weight, worked by hand on fuel 1 with a molar volume: each
 //! way to round, products past 64 bits, every method, and what is refused.
 
+mod methods;
 mod refused;
 
 use super::{Sum, FUEL_1};
-use crate::draft::{dry_unit, unit, Analysed, FuelLine, Line};
+use crate::draft::{unit, Analysed, FuelLine, Line};
 use crate::expectation::{Expectation, Field};
 
 /// 1,000 m3 x 750,000 mg/kg x 16,000 g/kmol / 24,000 l/kmol is 500 kg of carbon.
@@ -20,12 +21,6 @@ const GAS: Analysed = Analysed {
 };
 const GAS_UG: u64 = 1_832_000_000_000;
 const MVC: u32 = 24_000;
-
-/// CH4 and N2O in ng of 1,000 m3 by the default heat of 38,000, by 39,000 measured, and
-/// by a low value of 35,050, which is 38,906.
-const BY_DEFAULT: [u64; 2] = [34_200_000_000, 3_420_000_000];
-const BY_39_000: [u64; 2] = [35_100_000_000, 3_510_000_000];
-const BY_LOW_35_050: [u64; 2] = [35_015_400_000, 3_501_540_000];
 
 /// Amount, carbon and molecular weight, molar volume, and CO2 in µg.
 type Burning = (&'static str, [u32; 3], u32, u64);
@@ -175,83 +170,9 @@ const LOW_35_050: Analysed = Analysed {
     ..GAS
 };
 
-/// Method 3 whatever the rating and the class, and 4 on a unit with a monitor.
-fn methods() -> Vec<Sum> {
-    let (small, large) = (unit(1, false, 2_500), unit(1, false, 2_501));
-    let (wet, dry) = (unit(1, true, 2_500), dry_unit(1, 2_501));
-    let of_class_0 = |sum: Sum| Sum {
-        fuel: FuelLine {
-            class: 0,
-            ..sum.fuel
-        },
-        ..sum
-    };
-    let without_default = |sum: Sum| Sum {
-        fuel: FuelLine {
-            heat: 0,
-            ..sum.fuel
-        },
-        ..sum
-    };
-    let (default, heat, low) = (
-        told(3, GAS_UG, BY_DEFAULT),
-        told(3, GAS_UG, BY_39_000),
-        told(3, GAS_UG, BY_LOW_35_050),
-    );
-    vec![
-        of(
-            "analysed gas, heat measured",
-            small,
-            HEAT_MEASURED,
-            heat.clone(),
-        ),
-        of("analysed gas, low value", small, LOW_35_050, low.clone()),
-        of("analysed gas, large unit", large, GAS, default.clone()),
-        of(
-            "analysed gas, heat measured, large unit",
-            large,
-            HEAT_MEASURED,
-            heat.clone(),
-        ),
-        of_class_0(of("analysed class 0 gas", small, GAS, default.clone())),
-        of_class_0(of("analysed class 0 gas, large unit", large, GAS, default)),
-        of_class_0(of(
-            "analysed class 0 gas, heat, large unit",
-            large,
-            HEAT_MEASURED,
-            heat.clone(),
-        )),
-        without_default(of(
-            "analysed gas, no default heat",
-            small,
-            HEAT_MEASURED,
-            heat,
-        )),
-        without_default(of(
-            "analysed gas, low value, no default heat",
-            large,
-            LOW_35_050,
-            low,
-        )),
-        of("analysed gas, wet unit", wet, GAS, told(4, 0, BY_DEFAULT)),
-        of(
-            "analysed gas, dry unit",
-            dry,
-            HEAT_MEASURED,
-            told(4, 0, BY_39_000),
-        ),
-        of(
-            "analysed gas, low value, wet unit",
-            wet,
-            LOW_35_050,
-            told(4, 0, BY_LOW_35_050),
-        ),
-    ]
-}
-
 pub fn sums() -> impl Iterator<Item = Sum> {
     let masses = MASSES.into_iter().chain(ROUNDED).map(mass);
-    masses.chain(methods()).chain(refused::sums())
+    masses.chain(methods::sums()).chain(refused::sums())
 }
 
 #[cfg(test)]

@@ -3,8 +3,8 @@
 
 use super::{held, Case, DRY, FUEL, GAS, LARGE, SMALL, UNLISTED, WET};
 use crate::draft::{
-    put, FuelLine, Line, CARBON_MEASURED, CARBON_PLACE, HEAT_IS_LOW, HEAT_MEASURED, LINE,
-    MOST_AMOUNT, MOST_CARBON, MOST_HEAT, MOST_WEIGHT, NUMBER_PLACE, UNIT_PLACE, WEIGHT_PLACE,
+    put, FuelLine, Line, ANALYSED_GAS, CARBON_MEASURED, CARBON_PLACE, HEAT_IS_LOW, HEAT_MEASURED,
+    LINE, MOST_AMOUNT, MOST_CARBON, MOST_HEAT, MOST_WEIGHT, NUMBER_PLACE, UNIT_PLACE, WEIGHT_PLACE,
 };
 use crate::exchange::{Exchange, Outcome};
 use crate::random::Random;
@@ -66,7 +66,9 @@ pub fn run(exchange: &mut Exchange, rng: &mut Random) -> Outcome<()> {
     held(exchange, rng, &listed(), &combinations())?;
     exchange.case("analysed gas, months that are none, and every byte that must be 0");
     held(exchange, rng, &listed(), &no_months())?;
-    held(exchange, rng, &listed(), &must_be_0())
+    held(exchange, rng, &listed(), &must_be_0())?;
+    exchange.case("the bytes of analysed gas as every other kind of record");
+    held(exchange, rng, &listed(), &other_kinds())
 }
 
 fn listed() -> Vec<FuelLine> {
@@ -158,4 +160,15 @@ fn must_be_0() -> Vec<Case> {
         }
     }
     cases
+}
+
+/// Its fuel stands where hours and anodes have none, its weight where fuel has none.
+fn other_kinds() -> Vec<Case> {
+    let kinds = (0..=u8::MAX).filter(|&kind| kind != ANALYSED_GAS);
+    let case = |kind| {
+        let mut line = GAS.line();
+        line[0] = kind;
+        (line, of_reason(1))
+    };
+    kinds.map(case).collect()
 }

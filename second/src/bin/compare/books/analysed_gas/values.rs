@@ -24,7 +24,7 @@ const WEIGHTS: [u32; 7] = [1, 2, 256, 16_040, 65_536, MOST_WEIGHT - 1, MOST_WEIG
 const VOLUMES: [u32; 7] = [20_000, 27_000, 23_685, 21_984, 24_064, 26_999, 20_001];
 
 /// Each beside values at the ends of the others' ranges.
-const PAST: [[u32; 3]; 15] = [
+const PAST: [[u32; 3]; 16] = [
     [MOST_AMOUNT + 1, 0, 1],
     [MOST_AMOUNT + 1, MOST_CARBON, MOST_WEIGHT],
     [1 << 31, 1, 1],
@@ -33,6 +33,7 @@ const PAST: [[u32; 3]; 15] = [
     [MOST_AMOUNT, MOST_CARBON + 1, MOST_WEIGHT],
     [1, 4_000_000, 1],
     [1, 4_000_001, 1],
+    [1, 1 << 24, 1],
     [1, u32::MAX, 1],
     [0, 0, 0],
     [MOST_AMOUNT, MOST_CARBON, 0],
