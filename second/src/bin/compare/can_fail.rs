@@ -2,6 +2,7 @@
 
 #[macro_use]
 mod caught;
+mod analysed_gas;
 mod anodes;
 mod repeats;
 
@@ -49,12 +50,15 @@ fn new_run() -> Run {
 
 /// Parts of groups, for peers that nothing else in the group could catch, or not as
 /// soon.
-const PARTS: [(&str, Group); 7] = [
+const PARTS: [(&str, Group); 10] = [
+    ("books of analysed gas", books::analysed_gas::run),
     ("books of anodes", books::anodes::run),
     ("books of repeats", books::repeats::run),
     ("full books", books::repeats::full_books),
+    ("damaged analysed gas", damage::analysed_gas::run),
     ("damaged hours", damage::repeats::hours),
     ("damaged anodes", damage::repeats::anodes),
+    ("wakes over analysed gas", histories::analysed_gas::run),
     ("wakes over repeats", histories::repeats::run),
     ("wakes over full books", histories::repeats::full_books),
 ];

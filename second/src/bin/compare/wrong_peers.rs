@@ -1,5 +1,6 @@
 //! Other programs that are wrong on purpose, to show that each group can fail.
 
+mod analysed_gas;
 mod anodes;
 mod calls;
 mod low_heat;
@@ -10,6 +11,7 @@ mod rounding;
 mod unit_flags;
 mod warming;
 
+pub use analysed_gas::*;
 pub use anodes::*;
 pub use calls::*;
 pub use low_heat::*;

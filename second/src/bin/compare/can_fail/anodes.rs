@@ -75,8 +75,7 @@ caught! {
     asks_each_impurity_alone by
         ["worked", "books of anodes", "books of repeats", "damaged anodes", "wakes over repeats"];
     adds_impurities_up_in_16_bits by ["books of anodes", "damaged anodes"];
-    lets_impurities_reach_10_001 by
-        ["worked", "books of anodes", "books of repeats", "wakes over repeats"];
+    lets_impurities_reach_10_001 by ["worked", "books of anodes", "books of repeats"];
     takes_month_0 by
         ["worked", "books of anodes", "books of repeats", "damaged anodes", "wakes over repeats"];
     takes_month_13 by ["worked", "books of anodes", "books of repeats", "damaged anodes"];

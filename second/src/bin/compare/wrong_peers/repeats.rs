@@ -1,11 +1,13 @@
 //! Programs that are wrong about hours, or about anodes, that stand in an earlier record.
 
+mod analysed_gas;
 mod anodes;
 mod answers;
 mod keys;
 mod standing;
 mod wakes;
 
+pub use analysed_gas::*;
 pub use anodes::*;
 pub use answers::*;
 pub use keys::*;

@@ -25,8 +25,8 @@ const YEARS: [(u16, u64); 3] = [
     (MOST_UNITS, 281_395_200_000),
 ];
 
-/// Anodes, on the unit without a monitor and on the other, and their CO2 in µg: of 1 t of carbon, of a ten-thousandth of a gram, which is
-/// 366.4 µg, and of 970 t.
+/// Anodes, which both units of the book have by turns, and their CO2 in µg: of 1 t of
+/// carbon, of a ten-thousandth of a gram, which is 366.4 µg, and of 970 t.
 const PARTS: [(Anodes, u64); 3] = [
     (
         Anodes {

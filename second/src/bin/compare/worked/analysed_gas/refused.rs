@@ -10,7 +10,7 @@ fn small() -> Line {
     unit(1, false, 2_500)
 }
 
-/// The first of each pair is in range, and what is in it of another is at an end.
+/// One value past its range, and the others within theirs.
 fn out_of_range() -> Vec<Sum> {
     let heat = |heat| Analysed { heat, ..GAS };
     let low = |heat| Analysed { heat, ..LOW_35_050 };
