@@ -106,3 +106,54 @@ fn is_edited(made: &Made, question: &Question) -> bool {
         && one[fuel_lines(one)] != other[fuel_lines(other)];
     might_be && without_volumes(one) == without_volumes(other)
 }
+
+#[cfg(test)]
+mod tests {
+    use super::*;
+    use crate::draft::put;
+    use crate::sample::small_book_with_analysed_gas;
+
+    fn question(call: Call, book: &[u8]) -> Question<'_> {
+        Question {
+            call: call as u8,
+            argument: 0,
+            book,
+            checkpoint: &[],
+        }
+    }
+
+    /// The first fuel is a gas, the last a liquid of 20,000.
+    #[test]
+    fn a_molar_volume_is_told_where_it_alone_is_wrong() {
+        for (mvc, last_byte, told) in [(19_999, 0, 1), (27_001, 0, 1), (19_999, 1, 0)] {
+            let mut draft = small_book_with_analysed_gas();
+            put(&mut draft.fuels[0], MVC_PLACE, &u32::to_le_bytes(mvc));
+            draft.fuels[0][LINE - 1] = last_byte;
+            let mut counts = FuelLineCounts::default();
+            let book = draft.bytes();
+            counts.count(&question(Call::Fresh, &book), FUEL_LINES_WRONG, None);
+            assert_eq!(counts.wrong[2].iter().sum::<u64>(), told, "{mvc}");
+            assert_eq!(counts.wrong[..2], [[0; WRONG.len()]; 2]);
+        }
+        let mut counts = FuelLineCounts::default();
+        let book = small_book_with_analysed_gas().bytes();
+        counts.count(&question(Call::Fresh, &book), 0, None);
+        assert_eq!(counts.sound, [[0; 3], [0, 1, 0], [0; 3]]);
+    }
+
+    #[test]
+    fn an_edit_is_told_where_only_molar_volumes_differ() {
+        let made = Made {
+            book: small_book_with_analysed_gas().bytes(),
+            checkpoint: Vec::new(),
+        };
+        for (place, told) in [(MVC_PLACE, true), (4, false)] {
+            let mut draft = small_book_with_analysed_gas();
+            draft.fuels[1][place] ^= 1;
+            let book = draft.bytes();
+            assert_eq!(is_edited(&made, &question(Call::Wake, &book)), told);
+        }
+        let same = made.book.clone();
+        assert!(!is_edited(&made, &question(Call::Wake, &same)));
+    }
+}

@@ -133,3 +133,47 @@ fn good(number: u16) -> Line {
     put(&mut line, MVC_PLACE, &24_000u32.to_le_bytes());
     line
 }
+
+#[cfg(test)]
+mod tests {
+    use super::*;
+    use crate::sample::small_book_with_analysed_gas;
+
+    /// Kind and class, molar volume and default heat of the fuel, and the weight of the
+    /// record.
+    #[test]
+    fn a_fuel_is_told_where_it_alone_sets_gas_aside() {
+        let fuels = [
+            ([3, 0], 0, 1, 1, Some(4)),
+            ([2, 0], 24_000, 1, 1, Some(4)),
+            ([1, 3], 24_000, 1, 1, Some(4)),
+            ([3, 1], 24_000, 0, 1, Some(7)),
+            ([3, 0], 0, 1, 0, None), // The weight is wrong too.
+            ([3, 1], 24_000, 1, 0, None),
+            ([3, 1], 24_000, 1, 1, None),
+        ];
+        for (kind_and_class, mvc, heat, weight, told) in fuels {
+            let mut draft = small_book_with_analysed_gas();
+            let fuel = &mut draft.fuels[1];
+            put(fuel, 2, &kind_and_class);
+            put(fuel, 4, &u32::to_le_bytes(heat));
+            put(fuel, MVC_PLACE, &u32::to_le_bytes(mvc));
+            put(
+                &mut draft.records[1],
+                WEIGHT_PLACE,
+                &u32::to_le_bytes(weight),
+            );
+            let book = draft.bytes();
+            let asked = Asked {
+                book: &book,
+                index: 1,
+                reason: second::answer::one_record(&book, 1)[1],
+            };
+            let gas = Gas::of(&asked);
+            let reasons = [4, 7]
+                .into_iter()
+                .find(|&reason| gas.is_for_its_fuel(reason));
+            assert_eq!(reasons, told, "{kind_and_class:?}, {mvc}, {heat}, {weight}");
+        }
+    }
+}
