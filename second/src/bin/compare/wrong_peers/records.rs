@@ -14,6 +14,11 @@ use crate::draft::{put, HOUR};
 /// A job done with a wrong judge of single records; which hours are repeated it
 /// sees rightly.
 pub(super) fn judging(frame: &Frame, wrong: impl Fn(&Book, &[u8]) -> Judged) -> Answer {
+    judging_by(frame, &wrong)
+}
+
+/// Built once for all wrong judges, for there are many.
+fn judging_by(frame: &Frame, wrong: &dyn Fn(&Book, &[u8]) -> Judged) -> Answer {
     judging_ranges(frame, |book, range| {
         let mut earlier = EarlierRecords::before(book, range.start as u32);
         let lines = book.records().take(range.end).skip(range.start);
@@ -34,6 +39,10 @@ pub(super) fn judging_ranges(
     frame: &Frame,
     wrong: impl Fn(&Book, Range<usize>) -> Vec<Judged>,
 ) -> Answer {
+    judging_ranges_by(frame, &wrong)
+}
+
+fn judging_ranges_by(frame: &Frame, wrong: &dyn Fn(&Book, Range<usize>) -> Vec<Judged>) -> Answer {
     let mut answered = answer(frame);
     let Ok(book) = Book::read(frame.book) else {
         return answered;
