@@ -25,7 +25,7 @@ module _ {a c w v : ℕ} (r : GasInReach a c w v) where
   pub gas-left-lt : a * c * v < 2 ^ 63
   gas-left-lt = lt-of-le-of-lt (mul-le-mul gas-carbon-le (r .volume-le)) (lit< tt)
 
-  pub gas-product-le : a * c * (w * perCarbon) ≤ 73280000000000000000000
+  gas-product-le : a * c * (w * perCarbon) ≤ 73280000000000000000000
   gas-product-le = mul-le-mul gas-carbon-le gas-weight-le
 
   -- The quotient is at most 3.664 × 10^18.
