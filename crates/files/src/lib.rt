@@ -71,6 +71,18 @@ pub fn read_input(buf: &mut [u8]) -> Got
     got
 }
 
+// One more read of standard input: no bytes are its end. A failure is told likewise.
+pub fn read_on(buf: &mut [u8]) -> Got
+    ensures within { λ r. ⌜ Within r (now (buf .exit)) ⌝ }
+{
+    let got = read_some(STDIN_FILENO, buf);
+    match got {
+        Got::Failed => os::fail(b"standard input"),
+        Got::Bytes(_) => {}
+    }
+    got
+}
+
 // Reads the file at path as read_all does; if it can't, standard error says why, behind `whose`.
 pub fn read_file(whose: &[u8], path: &[u8], buf: &mut [u8]) -> Got
     ensures within { λ r. ⌜ Within r (now (buf .exit)) ⌝ }

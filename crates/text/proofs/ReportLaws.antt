@@ -4,10 +4,12 @@ use mathlib.Core.Bool.{Bool, true, false}
 use mathlib.Core.List.{List, [], _∷_, _++_, append-assoc, append-nil}
 use mathlib.Core.Path.{_≡_, refl, sym, ap, _∙_}
 use native.Mathlib.Omega.{arith}
-use lib.Dec.{eqb}
-use lib.ListN.{length}
-use borrow.Author.Tests.{ne-eqb}
+use lib.Dec.{eqb, ltb}
+use lib.ListN.{length, take}
+use lib.Seq.{take-all}
+use borrow.Author.Tests.{ne-eqb, lt-ltb, le-ltb, ltb-false}
 use Rattle.choice.specs.Tests.{choose}
+use Rattle.choice.proofs.Splitting.{if-test}
 use Rattle.choice.proofs.TestsLaws.{choose-t, choose-f}
 use Rattle.mass.specs.declared.figures.Figures.{Figures}
 use Rattle.rules.specs.declared.book.Fault.{Fault}
@@ -26,7 +28,7 @@ use Rattle.job.proofs.ReplyLaws.{reported-notReported, reported-unfinished, rep
 use Rattle.job.proofs.WakeLaws.{ifOpen-accepted, records-le}
 use Rattle.job.proofs.HistoryLaws.{reportReply-whole}
 use Rattle.text.specs.Words.{ascii, newline, field, line}
-use Rattle.text.specs.Report.{value, refusedText, decisionText, figuresText, replyText, annualText}
+use Rattle.text.specs.Report.{value, refusedText, decisionText, figuresText, replyText, yearText, annualMost, annualText, annualHeld}
 use Rattle.text.proofs.WordsLaws.{AtMost, append-le, choose-le, word-le, field-le, line-le, wider}
 
 -- ---- a refusal
@@ -102,15 +104,42 @@ module _ (h : Head) {r : Reported} where
   replyText-given f e = by (Given f) e (reported-given f) (choose-t {a = eqb 0 0} _ refl refl)
 
 -- A fresh start and one wake with the highest budget leave what all the records give.
-pub annualText-whole : (k : List ℕ) {h : Head} → opened k ≡ accepted h → (out next : List ℕ) {begun ended : List ℕ}
+pub yearText-whole : (k : List ℕ) {h : Head} → opened k ≡ accepted h → (out next : List ℕ) {begun ended : List ℕ}
     → length out ≡ checkpointSize → length next ≡ checkpointSize → begun ≡ freshBytes k out
-    → ended ≡ wakeBytes k begun 4294967295 next → {r : Reply} → r ≡ reportReply k ended → replyText h r ≡ annualText k
-unfolding annualText
-annualText-whole k {h} e out next o p f w {r} q =
+    → ended ≡ wakeBytes k begun 4294967295 next → {r : Reply} → r ≡ reportReply k ended → replyText h r ≡ yearText k
+unfolding yearText
+yearText-whole k {h} e out next o p f w {r} q =
     let few = records-le k h e in
     let saved = w ∙ ap (λ (c : List ℕ). wakeBytes k c 4294967295 next) f in
     ap (replyText h) (q ∙ ap (reportReply k) saved ∙ reportReply-whole k h e 4294967295 out next (omega arith) o p)
     ∙ sym (ifOpen-accepted (opened k) (λ n. refusedText n []) _ e)
+
+-- ---- what `annual` holds of its input
+pub annualHeld-more : (s : List ℕ) {more : Bool} → more ≡ true → annualHeld s more ≡ refusedText 20 []
+unfolding annualHeld
+annualHeld-more s e = choose-t _ e refl
+
+pub annualHeld-long : (s : List ℕ) {more : Bool} → more ≡ false → annualMost < length s
+    → annualHeld s more ≡ refusedText 20 []
+unfolding annualHeld annualText
+annualHeld-long s e p = choose-f _ e refl ∙ choose-t _ (lt-ltb _ _ p) refl
+
+pub annualHeld-year : (s : List ℕ) {more : Bool} → more ≡ false → length s ≤ annualMost
+    → annualHeld s more ≡ yearText s
+unfolding annualHeld annualText
+annualHeld-year s e p = choose-f _ e refl ∙ choose-f _ (le-ltb _ _ p) refl
+
+-- As many bytes as `annual` takes, and whether there are more, decide what it prints of all.
+pub annualHeld-whole : (k : List ℕ) → annualHeld (take annualMost k) (ltb annualMost (length k)) ≡ annualText k
+unfolding annualText
+annualHeld-whole k =
+    if-test (ltb annualMost (length k))
+    (λ t. annualHeld-more _ t ∙ sym (choose-t _ t refl))
+    (λ f.
+    let fits = ltb-false annualMost (length k) f in
+    ap (λ (s : List ℕ). annualHeld s (ltb annualMost (length k))) (take-all annualMost k fits)
+    ∙ annualHeld-year k f fits
+    ∙ sym (choose-f _ f refl))
 
 -- ---- the figures
 pub decisionText-must : {b : Bool} → b ≡ true → decisionText (choose b 1 0) ≡ ascii "must-report yes\n"

@@ -3,10 +3,11 @@ use Prim.Native.Nat.{ℕ}
 use mathlib.Core.Bool.{Bool, true, false, false≢true, not}
 use mathlib.Core.List.{List, [], _++_, append-assoc}
 use mathlib.Core.Path.{_≡_, refl, sym, ap, _∙_}
-use lib.Dec.{eqb}
+use lib.Dec.{eqb, ltb}
+use lib.ListN.{length}
 use Rattle.choice.specs.Tests.{_either_, choose}
 use Rattle.choice.proofs.Splitting.{if-test}
-use Rattle.choice.proofs.TestsLaws.{worked-out, either-t, choose-t, choose-f, if-choose}
+use Rattle.choice.proofs.TestsLaws.{worked-out, either-t, either-f, choose-t, choose-f, if-choose}
 use Rattle.rules.specs.declared.book.Head.{Head}
 use Rattle.rules.specs.declared.entry.Destination.{Destination}
 use Rattle.rules.specs.declared.entry.Destination.the-variants.{Fossil, Biomass, Nowhere}
@@ -21,7 +22,7 @@ use Rattle.job.specs.Wake.{ifOpen}
 use Rattle.job.specs.Report.{replyAt, reportReply}
 use Rattle.job.proofs.WakeLaws.{ifOpen-refused, ifOpen-accepted}
 use Rattle.text.specs.Words.{ascii, newline, decimal, field, line}
-use Rattle.text.specs.Report.{value, refusedText, decisionText, figuresText, replyText, annualText}
+use Rattle.text.specs.Report.{value, refusedText, decisionText, figuresText, replyText, yearText, annualMost, annualText}
 use Rattle.text.specs.Refusal.{tells, hasRefusal}
 use Rattle.text.specs.Progress.{movedText, progressBy, progressWith, progressText, turnText}
 use Rattle.text.specs.Lines.{methodText, ledgerText, massesText, outcomeText, lineText}
@@ -74,11 +75,19 @@ hasRefusal-ifOpen (accepted h) f x p =
     ∙ p h
     ∙ sym (ifOpen-accepted (accepted h) _ x refl)
 
-pub hasRefusal-annualText : (k : List ℕ)
-    → hasRefusal (annualText k) ≡ ifOpen (opened k) (λ n. true) (λ h. refuses (replyAt h (first h k (h .n))))
+hasRefusal-yearText : (k : List ℕ)
+    → hasRefusal (yearText k) ≡ ifOpen (opened k) (λ n. true) (λ h. refuses (replyAt h (first h k (h .n))))
+unfolding yearText
+hasRefusal-yearText k =
+    hasRefusal-ifOpen (opened k) _ _ (λ h. hasRefusal-replyText h (replyAt h (first h k (h .n))))
+
+pub hasRefusal-annualText : (k : List ℕ) → hasRefusal (annualText k)
+    ≡ ltb annualMost (length k) either ifOpen (opened k) (λ n. true) (λ h. refuses (replyAt h (first h k (h .n))))
 unfolding annualText
 hasRefusal-annualText k =
-    hasRefusal-ifOpen (opened k) _ _ (λ h. hasRefusal-replyText h (replyAt h (first h k (h .n))))
+    if-test (ltb annualMost (length k))
+    (λ t. ap hasRefusal (choose-t _ t refl) ∙ hasRefusal-refusedText 20 [] ∙ sym (either-t _ t))
+    (λ f. ap hasRefusal (choose-f _ f refl) ∙ hasRefusal-yearText k ∙ sym (either-f f refl))
 
 -- ---- a wake
 -- 40 is no refusal of a wake: it says how far the job is.

@@ -1,7 +1,7 @@
 -- Two results that a public contract allows are equal. `Post` is the contract's own reading. Assumes
 -- nothing.
 use mathlib.Core.Path.{_≡_, sym, _∙_}
-use Rattle.text.proofs.report.tell_year.Reads as tell-year
+use Rattle.text.proofs.report.tell_annual.Reads as tell-annual
 use Rattle.text.proofs.report.refuse.Reads as refuse
 use Rattle.text.proofs.refusal.is_told.Reads as is-told
 use Rattle.text.proofs.progress.tell_progress.Reads as tell-progress
@@ -16,9 +16,9 @@ use Rattle.text.proofs.frame.answer_report.Reads as answer-report
 use Rattle.text.proofs.frame.answer_record.Reads as answer-record
 use Rattle.text.proofs.frame.tell_broken.Reads as tell-broken
 
-pub tell-year-unique : (κs : _) (a : _) (r s : _) (x y : _)
-    → tell-year.Post κs a r x → tell-year.Post κs a s y → r ≡ s
-tell-year-unique κs a r s x y p q = p ∙ sym q
+pub tell-annual-unique : (κs : _) (a : _) (r s : _) (x y : _)
+    → tell-annual.Post κs a r x → tell-annual.Post κs a s y → r ≡ s
+tell-annual-unique κs a r s x y p q = p ∙ sym q
 
 pub refuse-unique : (κs : _) (a : _) (r s : _) (x y : _)
     → refuse.Post κs a r x → refuse.Post κs a s y → r ≡ s

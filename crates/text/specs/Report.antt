@@ -6,13 +6,17 @@
 --     decisionText d     the line of the decision
 --     figuresText h vs   the report of a book with the head h: year, records, figures, decision
 --     replyText h r      what is printed of the reply to a report
---     annualText k       what `annual` prints of any bytes: the report once every record was gone through
+--     yearText k         the report of any bytes once every record was gone through, or their refusal
+--     annualMost         the most bytes of a book that `annual` takes
+--     annualText k       what `annual` prints of any bytes
+--     annualHeld s more  the same of bytes of which it holds the first, s, if more says whether there are more
 --
 -- Laws: proofs/ReportLaws.antt. Definitions only.
 use Prim.Native.Nat.{ℕ}
+use mathlib.Core.Bool.{Bool}
 use mathlib.Core.List.{List, [], _++_}
-use lib.Dec.{eqb}
-use lib.ListN.{getD}
+use lib.Dec.{eqb, ltb}
+use lib.ListN.{length, getD}
 use Rattle.choice.specs.Tests.{choose}
 use Rattle.rules.specs.declared.book.Head.{Head}
 use Rattle.rules.specs.Book.{opened}
@@ -48,6 +52,15 @@ figuresText h vs =
 unfoldable pub replyText : Head → Reply → List ℕ
 replyText h (reply n vs) = choose (eqb n 0) (figuresText h vs) (refusedText n vs)
 
-unfoldable pub annualText : List ℕ → List ℕ
-annualText k =
+unfoldable pub yearText : List ℕ → List ℕ
+yearText k =
     ifOpen (opened k) (λ n. refusedText n []) (λ h. replyText h (replyAt h (first h k (h .n))))
+
+abbrev pub annualMost : ℕ
+annualMost = 65536
+
+unfoldable pub annualText : List ℕ → List ℕ
+annualText k = choose (ltb annualMost (length k)) (refusedText 20 []) (yearText k)
+
+unfoldable pub annualHeld : List ℕ → Bool → List ℕ
+annualHeld s more = choose more (refusedText 20 []) (annualText s)

@@ -19,11 +19,27 @@ ghost use Rattle.rules.specs.Book.{faultNumber, opened, accepted};
 ghost use Rattle.job.specs.Reply.{refusalNumber, figureValues, reported};
 ghost use Rattle.text.specs.Page.{pageOf};
 ghost use Rattle.text.specs.Extended.{extended};
-ghost use Rattle.text.specs.Report.{refusedText, decisionText, figuresText, replyText, annualText};
+ghost use Rattle.text.specs.Report.{refusedText, decisionText, figuresText, replyText, yearText, annualHeld};
 
-// What `annual` prints of any bytes.
-pub fn tell_year(book: &[u8]) -> Page
-    ensures text { λ r. ⌜ r ≡ pageOf (annualText (now (book .entry))) ⌝ }
+// The most bytes of a book that `annual` takes, which is less than a book may have.
+pub const ANNUAL_MOST: usize = 65536;
+
+// What `annual` prints of the bytes that start with these, `more` saying whether others follow.
+pub fn tell_annual(book: &[u8], more: bool) -> Page
+    ensures text { λ r. ⌜ r ≡ pageOf (annualHeld (now (book .entry)) more) ⌝ }
+{
+    if more {
+        return refuse_book(Fault::Length);
+    }
+    if ANNUAL_MOST < book.len() {
+        return refuse_book(Fault::Length);
+    }
+    tell_year(book)
+}
+
+// The report of the book, whatever bytes it is.
+fn tell_year(book: &[u8]) -> Page
+    ensures text { λ r. ⌜ r ≡ pageOf (yearText (now (book .entry))) ⌝ }
 {
     match book::open(book) {
         Opened::Wrong(fault) => refuse_book(fault),
@@ -33,7 +49,7 @@ pub fn tell_year(book: &[u8]) -> Page
 
 fn tell_open(book: &[u8], h: Head) -> Page
     requires opened { ⌜ opened (now book) ≡ accepted h ⌝ }
-    ensures text { λ r. ⌜ r ≡ pageOf (annualText (now (book .entry))) ⌝ }
+    ensures text { λ r. ⌜ r ≡ pageOf (yearText (now (book .entry))) ⌝ }
 {
     let mut begun = [0u8; checkpoint::SIZE];
     job::wake::fresh(book, &mut begun);

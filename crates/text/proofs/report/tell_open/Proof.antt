@@ -6,7 +6,7 @@ use borrow.Author.Needs.{needs}
 use Rattle.text.specs.Page.{pageOf}
 use Rattle.text.proofs.PageLaws.{extended-blank}
 use Rattle.text.proofs.WordsLaws.{wider}
-use Rattle.text.proofs.ReportLaws.{replyText-le, annualText-whole}
+use Rattle.text.proofs.ReportLaws.{replyText-le, yearText-whole}
 use Rattle.text.proofs.report.tell_open.Statement.{statement}
 use Rattle.text.proofs.report.tell_open.Tie as tie
 
@@ -44,7 +44,7 @@ returns c =
     let start = begun .before .before .before in
     extended-blank _ (c .before .take-blank .ensures) (c .say-reported .ensures)
     (wider (replyText-le (start .args .h) _) (omega arith) .le)
-    ∙ ap pageOf (annualText-whole _ (start .pre) _ _ refl refl
+    ∙ ap pageOf (yearText-whole _ (start .pre) _ _ refl refl
     (begun .fresh .ensures .1) (woke .wake .ensures .1) (c .before .before .report .ensures))
 
 pub tell-open-spec : {M : Type 1} → statement M

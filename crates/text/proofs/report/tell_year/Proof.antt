@@ -4,7 +4,7 @@ use borrow.Author.Needs.{needs}
 use Rattle.rules.proofs.BookLaws.{opened-open, opened-wrong}
 use Rattle.job.proofs.WakeLaws.{ifOpen-refused}
 use Rattle.text.specs.Page.{pageOf}
-use Rattle.text.specs.Report.{annualText}
+use Rattle.text.specs.Report.{yearText}
 use Rattle.text.proofs.report.tell_year.Statement.{statement}
 use Rattle.text.proofs.report.tell_year.Tie as tie
 
@@ -24,7 +24,7 @@ tell-open-requires : tie.Need-tell-open-requires
 tell-open-requires c κs = opened-open _ (c .before .before .before .«open» .ensures) (c .before .h .given .1)
 
 returns : tie.Need-returns
-unfolding annualText
+unfolding yearText
 returns c =
     c .refuse-book .ensures
     ∙ ap pageOf (sym (ifOpen-refused _ _ _
