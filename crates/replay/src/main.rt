@@ -20,7 +20,11 @@ const JUNK: [u64; 6] = [
     0xa5a5a5a55a5a5a5b,
 ];
 
-const ROOM: usize = frame::LONGEST as usize;
+// The buffer that a call writes can't be lent from the array that holds the book and the checkpoint. Of
+// the two, one has at most half of what stands behind a head, and the other may have all.
+const LONG: usize = frame::MOST_BEHIND as usize;
+
+const SHORT: usize = LONG / 2;
 
 // What came of a frame, or of filling one of its parts.
 enum Answered {
@@ -40,18 +44,17 @@ fn run() -> Ended {
     if os::arg_count() != 1 {
         return ended::misuse(b"usage: replay <FRAMES\n");
     }
-    let mut book = [0u8; ROOM];
-    let mut checkpoint = [0u8; ROOM];
-    let mut out = [0u8; ROOM];
-    answer_all(&mut book, &mut checkpoint, &mut out)
+    let mut long = [0u8; LONG];
+    let mut short = [0u8; SHORT];
+    answer_all(&mut long, &mut short)
 }
 
 // A proved loop has to end, and nothing says that the input does. So the loop counts to a number that
 // no run reaches.
-fn answer_all(book: &mut [u8], checkpoint: &mut [u8], out: &mut [u8]) -> Ended {
+fn answer_all(long: &mut [u8], short: &mut [u8]) -> Ended {
     let mut i = 0;
     while i < u64::MAX {
-        let answered = answer_next(book, checkpoint, out);
+        let answered = answer_next(long, short);
         if !is_whole(answered) {
             return end_at(i, answered);
         }
@@ -73,7 +76,7 @@ fn end_at(i: u64, x: Answered) -> Ended {
     }
 }
 
-fn answer_next(book: &mut [u8], checkpoint: &mut [u8], out: &mut [u8]) -> Answered {
+fn answer_next(long: &mut [u8], short: &mut [u8]) -> Answered {
     let mut head = [0u8; 24];
     match files::read_input(&mut head) {
         Got::Failed => Answered::Failed,
@@ -86,35 +89,40 @@ fn answer_next(book: &mut [u8], checkpoint: &mut [u8], out: &mut [u8]) -> Answer
             }
             match frame::read(&head) {
                 Asked::Stop => Answered::Broken(Broken::Head),
-                Asked::Call(f) => answer_frame(f, book, checkpoint, out),
+                Asked::Call(f) => answer_frame(f, long, short),
             }
         }
     }
 }
 
-// The buffers are as long as the longest that a head may ask for.
-fn answer_frame(f: Frame, book: &mut [u8], checkpoint: &mut [u8], out: &mut [u8]) -> Answered {
+// The longer of the two goes where it fits.
+fn answer_frame(f: Frame, long: &mut [u8], short: &mut [u8]) -> Answered {
+    if f.out <= short.len() {
+        return answer_in(f, long, short);
+    }
+    answer_in(f, short, long)
+}
+
+// A head that was read asks for no more than the arrays hold.
+fn answer_in(f: Frame, first: &mut [u8], second: &mut [u8]) -> Answered {
     let n = f.book;
     let m = f.checkpoint;
     let k = f.out;
-    if book.len() < n {
+    if first.len() < n {
         return Answered::Broken(Broken::Head);
     }
-    if checkpoint.len() < m {
+    if first.len() - n < m {
         return Answered::Broken(Broken::Head);
     }
-    if out.len() < k {
+    if second.len() < k {
         return Answered::Broken(Broken::Head);
     }
-    answer_parts(f, &mut book[..n], &mut checkpoint[..m], &mut out[..k])
+    answer_parts(f, &mut first[..n + m], &mut second[..k])
 }
 
-fn answer_parts(f: Frame, book: &mut [u8], checkpoint: &mut [u8], out: &mut [u8]) -> Answered {
-    let filled = fill(book);
-    if !is_whole(filled) {
-        return filled;
-    }
-    let filled = fill(checkpoint);
+// The book and the checkpoint stand one behind the other, as in the input.
+fn answer_parts(f: Frame, parts: &mut [u8], out: &mut [u8]) -> Answered {
+    let filled = fill(parts);
     if !is_whole(filled) {
         return filled;
     }
@@ -122,7 +130,7 @@ fn answer_parts(f: Frame, book: &mut [u8], checkpoint: &mut [u8], out: &mut [u8]
     if !is_whole(filled) {
         return filled;
     }
-    let p = call(f, book, checkpoint, out);
+    let p = call_on(f, parts, out);
     let bytes = p.bytes;
     if !files::print_bytes(b"standard output", files::take_front(&bytes, p.len)) {
         return Answered::Failed;
@@ -153,6 +161,14 @@ fn fill(buf: &mut [u8]) -> Answered {
             Answered::Whole
         }
     }
+}
+
+fn call_on(f: Frame, parts: &[u8], out: &mut [u8]) -> Page {
+    let n = f.book;
+    if parts.len() < n {
+        return call(f, parts, b"", out);
+    }
+    call(f, &parts[..n], &parts[n..], out)
 }
 
 fn call(f: Frame, book: &[u8], checkpoint: &[u8], out: &mut [u8]) -> Page {

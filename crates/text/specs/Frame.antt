@@ -2,7 +2,7 @@
 -- the answers end. FORMAT, "Frames".
 --
 --     headSize                     24
---     longestPart                  the most bytes of a book, of a checkpoint and of a buffer
+--     mostBehind                   the most bytes behind a head: book, checkpoint and buffer together
 --     callIn head .. outIn head    the fields of a head: call, argument, and the three lengths
 --     gapIn head, blankIn head     the bytes that no field names are 0
 --     argumentOk k x               x is right beside call k: any budget (2), any index (4), else 0
@@ -26,7 +26,7 @@
 --     brokenText i x               the line on frame i, counted from 0, at which the answers end
 --
 -- Laws: proofs/FrameLaws.antt. Definitions only.
-use Prim.Native.Nat.{ℕ, _%_}
+use Prim.Native.Nat.{ℕ, _+_, _%_}
 use mathlib.Core.Bool.{Bool, true, false}
 use mathlib.Core.List.{List, [], _∷_, _++_}
 use lib.Dec.{leb, eqb}
@@ -49,8 +49,8 @@ use Rattle.text.specs.Words.{ascii, field}
 abbrev pub headSize : ℕ
 headSize = 24
 
-abbrev pub longestPart : ℕ
-longestPart = 131072
+abbrev pub mostBehind : ℕ
+mostBehind = 5242880
 
 -- 1 fresh start, 2 wake, 3 report, 4 one record.
 abbrev pub callIn : List ℕ → ℕ
@@ -83,9 +83,7 @@ headOk head =
     also leb (callIn head) 4
     also gapIn head
     also argumentOk (callIn head) (argumentIn head)
-    also leb (bookIn head) longestPart
-    also leb (checkpointIn head) longestPart
-    also leb (outIn head) longestPart
+    also leb (bookIn head + checkpointIn head + outIn head) mostBehind
     also blankIn head
 
 unfoldable pub frameIn : List ℕ → Frame

@@ -24,7 +24,7 @@ pub struct Frame {
     pub call: u8,
     // The budget of a wake, the index of a record, and else 0.
     pub argument: u32,
-    // How many bytes of each follow the head: LONGEST at most.
+    // How many bytes of each follow the head: MOST_BEHIND at most, together.
     pub book: usize,
     pub checkpoint: usize,
     pub out: usize,
@@ -61,8 +61,8 @@ const OUT: usize = 16;
 
 const BLANK: usize = 20;
 
-// The most bytes of a book, of a checkpoint and of a buffer.
-pub const LONGEST: u64 = 131072;
+// The most bytes behind a head: book, checkpoint and buffer together.
+pub const MOST_BEHIND: u64 = 5242880;
 
 pub fn read(head: &[u8]) -> Asked
     ensures asked { λ r. ⌜ r ≡ askedIn (now (head .entry)) ⌝ }
@@ -91,9 +91,7 @@ fn is_right(head: &[u8]) -> bool
         & (call <= 4)
         & gap
         & argument_right
-        & (book <= LONGEST)
-        & (checkpoint <= LONGEST)
-        & (out <= LONGEST)
+        & (book + checkpoint + out <= MOST_BEHIND)
         & blank
 }
 

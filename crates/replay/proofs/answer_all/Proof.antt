@@ -7,13 +7,10 @@ use Rattle.replay.proofs.answer_all.Statement.{statement}
 use Rattle.replay.proofs.answer_all.Tie as tie
 
 abbrev Inv-loop : tie.InvT-loop
-Inv-loop book₀ checkpoint₀ out₀ i₀ book checkpoint out i =
-    (length book ≡ length book₀)
-    × (length checkpoint ≡ length checkpoint₀)
-    × (length out ≡ length out₀)
+Inv-loop long₀ short₀ i₀ long short i = (length long ≡ length long₀) × (length short ≡ length short₀)
 
 abbrev μ-loop : tie.MeasureT-loop
-μ-loop book₀ checkpoint₀ out₀ i₀ book checkpoint out i = 18446744073709551615 - i
+μ-loop long₀ short₀ i₀ long short i = 18446744073709551615 - i
 
 loop-holds : tie.Need-loop-holds Inv-loop μ-loop
 loop-holds c = search needs
@@ -33,9 +30,6 @@ same-length c = search needs
 same-length-2 : tie.Need-same-length-2 Inv-loop μ-loop
 same-length-2 c = search needs
 
-same-length-3 : tie.Need-same-length-3 Inv-loop μ-loop
-same-length-3 c = search needs
-
 returns : tie.Need-returns Inv-loop μ-loop
 returns c = search needs
 
@@ -48,14 +42,11 @@ loop-less c = search needs
 loop-again : tie.Need-loop-again Inv-loop μ-loop
 loop-again c = search needs
 
+same-length-3 : tie.Need-same-length-3 Inv-loop μ-loop
+same-length-3 c = search needs
+
 same-length-4 : tie.Need-same-length-4 Inv-loop μ-loop
 same-length-4 c = search needs
-
-same-length-5 : tie.Need-same-length-5 Inv-loop μ-loop
-same-length-5 c = search needs
-
-same-length-6 : tie.Need-same-length-6 Inv-loop μ-loop
-same-length-6 c = search needs
 
 returns-2 : tie.Need-returns-2 Inv-loop μ-loop
 returns-2 c = search needs
@@ -72,12 +63,10 @@ answer-all-spec =
     end-at-requires
     same-length
     same-length-2
-    same-length-3
     returns
     add-i
     loop-less
     loop-again
+    same-length-3
     same-length-4
-    same-length-5
-    same-length-6
     returns-2)

@@ -1,9 +1,10 @@
 -- The row of tests is that of the definition, each test of what was read. Assumes nothing.
+use Prim.Native.Nat.{_+_}
 use mathlib.Core.Path.{ap₂, _∙_}
 use lib.Dec.{leb}
 use borrow.Author.Needs.{needs}
 use Rattle.choice.proofs.TestsLaws.{both}
-use Rattle.text.specs.Frame.{longestPart, argumentOk, headOk}
+use Rattle.text.specs.Frame.{mostBehind, argumentOk, headOk}
 use Rattle.text.proofs.frame.is_right.Statement.{statement}
 use Rattle.text.proofs.frame.is_right.Tie as tie
 
@@ -31,6 +32,12 @@ read-word-requires-5 c κs = search needs
 are-zero-requires-2 : tie.Need-are-zero-requires-2
 are-zero-requires-2 c κs = search needs
 
+add-result : tie.Need-add-result
+add-result c = search needs
+
+add-result-2 : tie.Need-add-result-2
+add-result-2 c = search needs
+
 returns : tie.Need-returns
 unfolding headOk
 returns c =
@@ -49,8 +56,7 @@ returns c =
     let argument-right = right .is-argument-right .ensures ∙ ap₂ argumentOk call-read argument-read in
     let known = both (λ i. leb 1 (call-read i)) (λ i. leb (call-read i) 4) in
     let asked = both (both known (gap .are-zero .ensures)) argument-right in
-    let two = both (both asked (λ i. leb (book-read i) longestPart)) (λ i. leb (checkpoint-read i) longestPart) in
-    both (both two (λ i. leb (out-read i) longestPart)) (c .are-zero2 .ensures)
+    both (both asked (λ i. leb (book-read i + checkpoint-read i + out-read i) mostBehind)) (c .are-zero2 .ensures)
 
 pub is-right-spec : {M : Type 1} → statement M
 is-right-spec =
@@ -64,4 +70,6 @@ is-right-spec =
     read-word-requires-4
     read-word-requires-5
     are-zero-requires-2
+    add-result
+    add-result-2
     returns)
