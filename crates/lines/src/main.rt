@@ -15,10 +15,14 @@ fn run() -> Ended {
     if os::arg_count() != 1 {
         return ended::misuse(b"usage: lines <BOOK\n");
     }
-    let mut book = [0u8; files::BOOK_ROOM];
-    match files::read_input(&mut book) {
+    let mut room = [0u8; files::BOOK_ROOM];
+    print_book(&mut room)
+}
+
+fn print_book(room: &mut [u8]) -> Ended {
+    match files::read_input(room) {
         Got::Failed => Ended::Failed,
-        Got::Bytes(n) => print_lines(files::take_front(&book, n)),
+        Got::Bytes(n) => print_lines(files::take_front(room, n)),
     }
 }
 

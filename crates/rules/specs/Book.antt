@@ -35,7 +35,7 @@ use Rattle.rules.specs.Bytes.{byte, part, linesIn}
 use Rattle.rules.specs.Fields.{signed, version, trailerGap, unitStart, fuelStart, year, yearGap, warmingSetAt, warmingSet, trailerBlank, number, unitFlags, monitored, dry, unitGap, rating, unitBlank, fuelKind, fuelClass, defaultHeat, co2Factor, ch4Factor, n2oFactor, molarVolume, fuelBlank}
 
 abbrev pub longestBook : ℕ
-longestBook = 65536
+longestBook = 4194304
 
 abbrev pub mostLines : ℕ
 mostLines = 64

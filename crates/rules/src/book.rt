@@ -52,7 +52,7 @@ pub fn number_fault(x: Fault) -> u8
 }
 
 // The most bytes that a book has.
-pub const LONGEST_BOOK: usize = 65536;
+pub const LONGEST_BOOK: usize = 4194304;
 
 // Whether the bytes are a sound book, and if not, the first rule that they break.
 pub fn open(s: &[u8]) -> Opened

@@ -1,7 +1,6 @@
 // One plant: its book and its place in it, what is told of it, and a turn.
 use crate::log;
 use crate::log::Log;
-use files::BOOK_ROOM;
 use files::CHECKPOINT_ROOM;
 use files::Got;
 use files::kept;
@@ -29,18 +28,18 @@ pub(crate) enum Asked {
     Turn(u32),
 }
 
-// A plant is read from its files each time, for another program may have changed them.
-pub(crate) fn ask(line: &[u8], asked: Asked, log: Log) -> Answer {
-    let mut room = [0u8; LONGEST_PATH + 1];
-    let n = files::put(&mut room, 0, plants::take_book(line));
-    let n = files::put(&mut room, n, b" ");
-    let whose = &room[..n];
+// A plant is read from its files each time, for another program may have changed them. Its book goes into
+// the room, which all plants have by turns.
+pub(crate) fn ask(line: &[u8], asked: Asked, log: Log, room: &mut [u8]) -> Answer {
+    let mut name = [0u8; LONGEST_PATH + 1];
+    let n = files::put(&mut name, 0, plants::take_book(line));
+    let n = files::put(&mut name, n, b" ");
+    let whose = &name[..n];
     let mut real = [0u8; PATH_MAX];
-    let mut book = [0u8; BOOK_ROOM];
-    match files::read_book(b"", plants::take_book(line), &mut book, &mut real) {
+    match files::read_book(b"", plants::take_book(line), room, &mut real) {
         Got::Failed => take_none(log::fail(log)),
         Got::Bytes(n) => {
-            let book = files::take_front(&book, n);
+            let book = files::take_front(room, n);
             let due = kept::find_due(book, &real, whose, plants::take_checkpoint(line), false);
             ask_book(line, whose, book, due, asked, log)
         }

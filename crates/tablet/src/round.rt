@@ -6,6 +6,7 @@ use crate::log;
 use crate::log::Log;
 use crate::plant;
 use crate::plant::Asked;
+use files::BOOK_ROOM;
 use files::Got;
 use files::ended::Ended;
 use files::save;
@@ -32,24 +33,30 @@ struct Round {
 }
 
 pub(crate) fn run(list: &[u8], n: usize, path: &[u8], budget: u32) -> Ended {
-    let mut room = [0u8; LONGEST_SAVED];
-    let end = files::put(&mut room, 0, path);
-    let end = files::put(&mut room, end, b".place");
-    go_on(list, n, &room[..end], budget)
+    let mut room = [0u8; BOOK_ROOM];
+    run_in(list, n, path, budget, &mut room)
+}
+
+// The plants have the room for a book by turns.
+fn run_in(list: &[u8], n: usize, path: &[u8], budget: u32, room: &mut [u8]) -> Ended {
+    let mut name = [0u8; LONGEST_SAVED];
+    let end = files::put(&mut name, 0, path);
+    let end = files::put(&mut name, end, b".place");
+    go_on(list, n, &name[..end], budget, room)
 }
 
 // Goes on behind the plant that was served last. A place that can't be read is no reason to begin
 // with the first plant again.
-fn go_on(list: &[u8], n: usize, path: &[u8], budget: u32) -> Ended {
+fn go_on(list: &[u8], n: usize, path: &[u8], budget: u32, room: &mut [u8]) -> Ended {
     let mut kept = [0u8; LIST_ROOM];
     match read_kept(path, &mut kept) {
         Got::Failed => Ended::Failed,
         Got::Bytes(k) => {
-            let filled = fill(list, n);
+            let filled = fill(list, n, room);
             let mut q = filled.queue;
             q.last = (place::find(list, files::take_front(&kept, k)) % SLOT_COUNT) as u8;
             let begun = filled.log;
-            log::end(take_turns(list, q, begun, path, budget))
+            log::end(take_turns(list, q, begun, path, budget, room))
         }
     }
 }
@@ -67,12 +74,12 @@ fn read_kept(path: &[u8], kept: &mut [u8]) -> Got {
     Got::Failed
 }
 
-fn fill(list: &[u8], n: usize) -> Round {
+fn fill(list: &[u8], n: usize, room: &mut [u8]) -> Round {
     let mut queue = slots::begin();
     let mut log = log::begin();
     let mut i = 0;
     while i < n {
-        let t = plant::ask(lines::take_line(list, i), Asked::Count, log);
+        let t = plant::ask(lines::take_line(list, i), Asked::Count, log, room);
         let r = books::add(queue, t.left);
         queue = r.queue;
         log = t.log;
@@ -81,7 +88,14 @@ fn fill(list: &[u8], n: usize) -> Round {
     Round { queue, log }
 }
 
-fn take_turns(list: &[u8], first: Queue, begun: Log, path: &[u8], budget: u32) -> Log {
+fn take_turns(
+    list: &[u8],
+    first: Queue,
+    begun: Log,
+    path: &[u8],
+    budget: u32,
+    room: &mut [u8],
+) -> Log {
     let mut q = first;
     let mut log = begun;
     let mut turns = 0;
@@ -97,7 +111,7 @@ fn take_turns(list: &[u8], first: Queue, begun: Log, path: &[u8], budget: u32) -
                 if !keep(list, after.last, path) {
                     return log::fail(log);
                 }
-                let t = serve(list, i, after, budget, log);
+                let t = serve(list, i, after, budget, log, room);
                 q = t.queue;
                 log = t.log;
             }
@@ -120,8 +134,8 @@ fn keep(list: &[u8], slot: u8, path: &[u8]) -> bool {
 
 // The plant is counted by what its files say after the turn: it may be one that can't be served, or
 // whose book or checkpoint another program changed meanwhile.
-fn serve(list: &[u8], i: usize, q: Queue, budget: u32, log: Log) -> Round {
-    let t = plant::ask(lines::take_line(list, i), Asked::Turn(budget), log);
+fn serve(list: &[u8], i: usize, q: Queue, budget: u32, log: Log, room: &mut [u8]) -> Round {
+    let t = plant::ask(lines::take_line(list, i), Asked::Turn(budget), log, room);
     let log = t.log;
     let queue = recount(q, i, t.left);
     Round { queue, log }

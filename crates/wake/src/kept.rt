@@ -12,12 +12,16 @@ use text::progress;
 use text::report;
 
 pub(crate) fn run(book_path: &[u8], path: &[u8], budget: u32, anew: bool) -> Ended {
+    let mut room = [0u8; files::BOOK_ROOM];
+    run_in(&mut room, book_path, path, budget, anew)
+}
+
+fn run_in(room: &mut [u8], book_path: &[u8], path: &[u8], budget: u32, anew: bool) -> Ended {
     let mut real = [0u8; PATH_MAX];
-    let mut book = [0u8; files::BOOK_ROOM];
-    match files::read_book(b"", book_path, &mut book, &mut real) {
+    match files::read_book(b"", book_path, room, &mut real) {
         Got::Failed => Ended::Failed,
         Got::Bytes(n) => {
-            let book = files::take_front(&book, n);
+            let book = files::take_front(room, n);
             let due = kept::find_due(book, &real, b"", path, anew);
             go_on(book, due, book_path, path, budget, anew)
         }

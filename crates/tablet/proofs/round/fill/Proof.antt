@@ -1,14 +1,16 @@
--- Each turn leaves a plant less. Assumes nothing.
+-- Each turn leaves a plant less, and none changes the room's length. Assumes nothing.
 use Prim.Native.Nat.{_-_}
+use mathlib.Core.Path.{_≡_}
+use lib.ListN.{length}
 use borrow.Author.Needs.{needs}
 use Rattle.tablet.proofs.round.fill.Statement.{statement}
 use Rattle.tablet.proofs.round.fill.Tie as tie
 
 abbrev Inv-loop : tie.InvT-loop
-Inv-loop list n queue₀ log₀ i₀ queue log i = Unit {0}
+Inv-loop list n room₀ queue₀ log₀ i₀ room queue log i = length room ≡ length room₀
 
 abbrev μ-loop : tie.MeasureT-loop
-μ-loop list n queue₀ log₀ i₀ queue log i = n - i
+μ-loop list n room₀ queue₀ log₀ i₀ room queue log i = n - i
 
 begin-requires : tie.Need-begin-requires Inv-loop μ-loop
 begin-requires c κs = search needs
@@ -37,6 +39,9 @@ loop-less c = search needs
 loop-again : tie.Need-loop-again Inv-loop μ-loop
 loop-again c = search needs
 
+same-length : tie.Need-same-length Inv-loop μ-loop
+same-length c = search needs
+
 returns : tie.Need-returns Inv-loop μ-loop
 returns c = search needs
 
@@ -55,4 +60,5 @@ fill-spec =
     add-i
     loop-less
     loop-again
+    same-length
     returns)
