@@ -5,21 +5,24 @@ use mathlib.Core.Path.{_≡_, sym, ap, ap₂, _∙_, subst}
 use native.Mathlib.Nat.{add-zero}
 use native.Mathlib.Numerals.{add-one}
 use native.Mathlib.Omega.{arith}
+use Rattle.mass.specs.declared.Ug.{Ug}
 use Rattle.mass.specs.Ledger.{tonne, tonnesEach, recordsForeseen}
 use Rattle.mass.specs.Figures.{AllSound}
 use Rattle.rules.specs.declared.book.Head.{Head}
+use Rattle.rules.specs.declared.entry.Destination.{Destination}
 use Rattle.rules.specs.declared.entry.Entry.{Entry}
 use Rattle.rules.specs.declared.record.Outcome.{Outcome}
 use Rattle.rules.specs.declared.record.Outcome.the-variants.{SetAside, Counted}
 use Rattle.rules.specs.Book.{opened, accepted}
+use Rattle.rules.specs.Entry.{co2Alone}
 use Rattle.rules.specs.Record.{outcomeAt}
 use Rattle.rules.proofs.BookLaws.{accepted-facts}
 use Rattle.job.specs.declared.tally.Masses.{Masses}
 use Rattle.job.specs.declared.tally.Tally.{Tally}
-use Rattle.job.specs.State.{State, after, run, ledgersOf}
+use Rattle.job.specs.State.{State, toFossil, toBiomass, after, run, ledgersOf}
 use Rattle.job.specs.Bounds.{FitFor, BoundedOutcome}
 use Rattle.job.specs.Tally.{tallyOf, stateOf}
-use Rattle.job.specs.Pile.{stateWith, stepped, Fit, Low, Share}
+use Rattle.job.specs.Pile.{stateWith, stepped, summed, fossilAlone, Fit, Low, LowBesides, Share}
 use Rattle.job.proofs.StateLaws.{run-run, fitFor-run}
 use Rattle.job.proofs.TallyLaws.{stateOf-tallyOf, sound-ledgersOf, ledgersOf-after-aside}
 
@@ -91,14 +94,6 @@ stateWith-share s m e h = λ i. record {
   n2o = s .n2o + h .n2o-is i;
 }
 
-abbrev pub summed : Masses → Masses → Masses
-summed m x = record {
-  fossil = record { 0 = m .fossil .0 + x .fossil .0 };
-  biomass = record { 0 = m .biomass .0 + x .biomass .0 };
-  ch4 = record { 0 = m .ch4 .0 + x .ch4 .0 };
-  n2o = record { 0 = m .n2o .0 + x .n2o .0 };
-}
-
 stateWith-summed : (s : State) (m x : Masses)
     → stateWith (stepped s) (summed m x) ≡ stateWith (stepped (stateWith s m)) x
 unfolding stateWith stepped
@@ -149,6 +144,33 @@ low-share m e h s = record {
   biomass-low = thousandth (h .biomass-is) (s .biomass-le);
   ch4-low = trace-lt (h .ch4-is) (s .ch4-le);
   n2o-low = trace-lt (h .n2o-is) (s .n2o-le);
+}
+
+-- ---- a record that gives CO2 alone
+pub share-co2 : (e : Entry) → e ≡ co2Alone (e .co2) → Share (fossilAlone (e .co2)) e
+unfolding co2Alone
+share-co2 e alone = record {
+  fossil-is = sym (ap (λ (d : Destination). toFossil d (e .co2)) (ap (λ (x : Entry). x .destination) alone));
+  biomass-is = sym (ap (λ (d : Destination). toBiomass d (e .co2)) (ap (λ (x : Entry). x .destination) alone));
+  ch4-is = sym (ap (λ (x : Entry). x .ch4 .0) alone);
+  n2o-is = sym (ap (λ (x : Entry). x .n2o .0) alone);
+}
+
+-- The sums that it leaves as they were stay low.
+same-low : {v : ℕ} → v < 9223372036854775808 → v + 0 < 9223372036854775808
+same-low h = omega arith
+
+pub lowBesides-summed : {m : Masses} (a : Masses) (x : Ug) → m ≡ summed a (fossilAlone x) → Low a → LowBesides m
+lowBesides-summed a x e h =
+    subst LowBesides (sym e)
+    (record { biomass-low = same-low (h .biomass-low); ch4-low = same-low (h .ch4-low); n2o-low = same-low (h .n2o-low) })
+
+pub low-fossil : (m : Masses) → m .fossil .0 < 9223372036854775808 → LowBesides m → Low m
+low-fossil m h l = record {
+  fossil-low = h;
+  biomass-low = l .biomass-low;
+  ch4-low = l .ch4-low;
+  n2o-low = l .n2o-low;
 }
 
 -- ---- a run begins with sound ledgers

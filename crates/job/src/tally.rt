@@ -10,10 +10,11 @@ ghost use mathlib.Core.Bool.{true};
 ghost use mathlib.Core.Path.{_≡_};
 ghost use Prim.Native.Nat.{_*_, _<_};
 ghost use Rattle.mass.specs.Figures.{AllSound};
+ghost use Rattle.rules.specs.Record.{Co2Alone};
 ghost use Rattle.job.specs.State.{toFossil, toBiomass, after, ledgersOf};
 ghost use Rattle.job.specs.Bounds.{BoundedOutcome};
 ghost use Rattle.job.specs.Tally.{tallyOf, stateOf, ledgersAfter};
-ghost use Rattle.job.specs.Pile.{stateWith, stateIn, stepped, Fit, Low, Share};
+ghost use Rattle.job.specs.Pile.{stateWith, stateIn, stepped, summed, fossilAlone, Fit, Low, LowBesides, Share};
 
 pub struct Tally {
     pub done: u32,
@@ -131,10 +132,50 @@ pub(crate) fn add(p: Pile, o: Outcome) -> Pile
     }
 }
 
+// The pile after one record more that gives CO2 alone, with room for the next: only the sum that it is added to
+// may have outgrown it.
+pub(crate) fn add_co2(p: Pile, o: Outcome) -> Pile
+    requires sound { ⌜ AllSound (p .tally .ledgers) × AllSound (ledgersOf (after (stateIn p) o)) ⌝ }
+    requires room { ⌜ (p .tally .done < 4294967295) × (p .tally .aside < 4294967295) ⌝ }
+    requires low { ⌜ Low (p .more) × BoundedOutcome o ⌝ }
+    requires co2 { ⌜ Co2Alone o ⌝ }
+    ensures after { λ r. ⌜ (stateIn r ≡ after (stateIn p) o) × AllSound (r .tally .ledgers) × Low (r .more) ⌝ }
+{
+    match o {
+        Outcome::SetAside(reason) => pass(p, reason),
+        Outcome::Counted(e) => {
+            let co2 = e.co2;
+            make_fossil_room(heap(p, share_co2(co2)))
+        }
+    }
+}
+
+fn make_fossil_room(p: Pile) -> Pile
+    requires sound { ⌜ AllSound (p .tally .ledgers) × AllSound (ledgersOf (stateIn p)) ⌝ }
+    requires low { ⌜ LowBesides (p .more) ⌝ }
+    ensures room { λ r. ⌜ (stateIn r ≡ stateIn p) × AllSound (r .tally .ledgers) × Low (r .more) ⌝ }
+{
+    if p.more.fossil.0 < HALF {
+        return p;
+    }
+    begin(settle(p))
+}
+
+fn share_co2(x: Ug) -> Masses
+    ensures share { λ r. ⌜ r ≡ fossilAlone x ⌝ }
+{
+    Masses {
+        fossil: x,
+        biomass: Ug(0),
+        ch4: Ng(0),
+        n2o: Ng(0),
+    }
+}
+
 fn pass(p: Pile, reason: u8) -> Pile
     requires sound { ⌜ AllSound (p .tally .ledgers) ⌝ }
     requires room { ⌜ (p .tally .done < 4294967295) × (p .tally .aside < 4294967295) ⌝ }
-    ensures after { λ r. ⌜ (stateIn r ≡ after (stateIn p) (Outcome.SetAside reason)) × AllSound (r .tally .ledgers) ⌝ }
+    ensures after { λ r. ⌜ (stateIn r ≡ after (stateIn p) (Outcome.SetAside reason)) × AllSound (r .tally .ledgers) × (r .more ≡ p .more) ⌝ }
 {
     let t = p.tally;
     let more = p.more;
@@ -173,7 +214,7 @@ fn set_aside(t: Tally, reason: u8) -> Tally
 fn heap(p: Pile, x: Masses) -> Pile
     requires fit { ⌜ Fit (p .more) x ⌝ }
     requires room { ⌜ p .tally .done < 4294967295 ⌝ }
-    ensures after { λ r. ⌜ (stateIn r ≡ stateWith (stepped (stateIn p)) x) × (r .tally .ledgers ≡ p .tally .ledgers) ⌝ }
+    ensures after { λ r. ⌜ (stateIn r ≡ stateWith (stepped (stateIn p)) x) × (r .tally .ledgers ≡ p .tally .ledgers) × (r .more ≡ summed (p .more) x) ⌝ }
 {
     let t = p.tally;
     let m = p.more;

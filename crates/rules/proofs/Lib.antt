@@ -19,6 +19,7 @@ pub mod MethodLaws
 pub mod EntryLaws
 pub mod RecordLaws
 pub mod OnceLaws
+pub mod Co2Laws
 pub mod ListedLaws
 pub mod AloneLaws
 pub mod ReasonLaws

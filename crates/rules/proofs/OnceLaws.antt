@@ -1,7 +1,7 @@
 -- The table tells a repeat wherever the record would count: its period is in range and its unit listed, and
 -- of those a table shows whether they stand. Assumes nothing.
 use Prim.Native.Nat.{ℕ}
-use mathlib.Core.Bool.{Bool, true, false, false≢true}
+use mathlib.Core.Bool.{Bool, true, false, false≢true, not}
 use mathlib.Core.List.{List}
 use mathlib.Core.Path.{_≡_, refl, sym, ap, ap₂, _∙_, subst}
 use native.Mathlib.Omega.{arith}
@@ -9,6 +9,7 @@ use lib.Dec.{eqb}
 use borrow.Author.Tests.{eq-eqb, ne-eqb, eqb-true, leb-true}
 use Rattle.choice.proofs.Splitting.{if-test}
 use Rattle.choice.proofs.TestsLaws.{also-t, also-f, also-l, also-r, either-t, either-f, choose-t, choose-f, if-choose}
+use Rattle.rules.specs.declared.entry.Entry.{Entry}
 use Rattle.rules.specs.declared.listing.Found.{Found}
 use Rattle.rules.specs.declared.listing.Found.the-variants.{At, Nothing}
 use Rattle.rules.specs.declared.record.Outcome.{Outcome}
@@ -20,7 +21,7 @@ use Rattle.rules.specs.Record.{check, listed, hourForm, anodesForm, mois
 use Rattle.rules.specs.Place.{place}
 use Rattle.rules.specs.Listing.{Rising}
 use Rattle.rules.specs.Table.{hasBit, bitOf, noted, isTable, noting, Known}
-use Rattle.rules.specs.Marks.{markedAt, wasNoted}
+use Rattle.rules.specs.Marks.{markedAt, wasNoted, told}
 use Rattle.rules.proofs.ListingLaws.{listed-at, listed-nothing, place-lt, place-number}
 use Rattle.rules.proofs.EntryLaws.{month-in}
 use Rattle.rules.proofs.KindLaws.{fuelled-not-hour, fuelled-not-anodes}
@@ -49,10 +50,24 @@ hasBit-anodesRanges l used h = let m = month-in l h in hasBit-month _ _ used (m 
 unfit : {b : Bool} (t : Bool) → b ≡ false → (t ≡ true → b ≡ true) → t ≡ false
 unfit t none has = if-test t (λ yes. absurd (false≢true (sym none ∙ has yes))) (λ no. no)
 
+-- ---- one test more
 -- What is set aside already stays so.
-aside : {o : Outcome} {k : ℕ} (a b : Bool) → o ≡ SetAside k → unlessRepeated a o ≡ unlessRepeated b o
+pub unlessRepeated-aside : {o : Outcome} {k : ℕ} (b : Bool) → o ≡ SetAside k → unlessRepeated b o ≡ SetAside k
 unfolding unlessRepeated
-aside a b e = ap (unlessRepeated a) e ∙ sym (ap (unlessRepeated b) e)
+unlessRepeated-aside b e = ap (unlessRepeated b) e
+
+pub unlessRepeated-again : {b : Bool} {o : Outcome} {e : Entry} → b ≡ true → o ≡ Counted e
+    → unlessRepeated b o ≡ SetAside 8
+unfolding unlessRepeated
+unlessRepeated-again {b} again counts = ap (unlessRepeated b) counts ∙ check-f 8 _ (ap not again)
+
+pub unlessRepeated-first : {b : Bool} (o : Outcome) → b ≡ false → unlessRepeated b o ≡ o
+unfolding unlessRepeated
+unlessRepeated-first (SetAside k) first = refl
+unlessRepeated-first (Counted e) first = check-t 8 (ap not first) refl
+
+aside : {o : Outcome} {k : ℕ} (a b : Bool) → o ≡ SetAside k → unlessRepeated a o ≡ unlessRepeated b o
+aside a b e = unlessRepeated-aside a e ∙ sym (unlessRepeated-aside b e)
 
 module _ (l units t : List ℕ) (before : List (List ℕ)) (so-far : Shows before units t) where
   abbrev found : Found
@@ -115,23 +130,25 @@ module _ (l units t : List ℕ) (before : List (List ℕ)) (so-far : Shows befor
       (λ used. subst Agree (sym (check-t 1 used refl)) (agree-anodes (eqb-true _ _ used)))
       (λ other. aside _ _ (check-f 1 _ other)))
 
--- What the code gives of a record of no fuel, by a table of the lines before it.
-pub unlessRepeated-noted : {was : Bool} {o r : Outcome} {m : List ℕ} (before : List (List ℕ)) (l units t : List ℕ) → Rising units
-    → Known before units t → isTable units t ≡ true → m ≡ l → was ≡ wasNoted m units t
-    → o ≡ unfuelledOutcome l (linesIn units) → r ≡ unlessRepeated was o
-    → r ≡ unlessRepeated (repeated l before) (unfuelledOutcome l (linesIn units))
-unlessRepeated-noted {was} before l units t rising so-far table at told judged made =
-    made
-    ∙ ap (unlessRepeated was) judged
-    ∙ ap (λ (b : Bool). unlessRepeated b (unfuelledOutcome l (linesIn units))) (told ∙ ap (λ (x : List ℕ). wasNoted x units t) at)
-    ∙ agree-unfuelled l units t before (shows-known units rising before t table so-far)
+-- ---- what the code gives of a record of no fuel, with a table of the lines before it and without one
+module _ {o : Outcome} {m : List ℕ} (before : List (List ℕ)) (l units t : List ℕ) (at : m ≡ l)
+    (given : o ≡ unlessRepeated (told m units t) (unfuelledOutcome m (linesIn units))) where
+  at-line : o ≡ unlessRepeated (told l units t) (unfuelledOutcome l (linesIn units))
+  at-line = given ∙ λ i. unlessRepeated (told (at i) units t) (unfuelledOutcome (at i) (linesIn units))
+
+  pub outcome-by-table : Rising units → Known before units t → isTable units t ≡ true
+      → o ≡ unlessRepeated (repeated l before) (unfuelledOutcome l (linesIn units))
+  unfolding told
+  outcome-by-table rising so-far table =
+      at-line
+      ∙ ap (λ (b : Bool). unlessRepeated b (unfuelledOutcome l (linesIn units))) (also-t table refl)
+      ∙ agree-unfuelled l units t before (shows-known units rising before t table so-far)
+
+  pub outcome-alone : isTable units t ≡ false → o ≡ unfuelledOutcome l (linesIn units)
+  unfolding told
+  outcome-alone none = at-line ∙ unlessRepeated-first _ (also-f _ none)
 
 -- ---- a record by its kind
-first : (o : Outcome) → unlessRepeated false o ≡ o
-unfolding unlessRepeated
-first (SetAside k) = refl
-first (Counted e) = check-t 8 refl refl
-
 module _ (before : List (List ℕ)) (l : List ℕ) (units fuels : List (List ℕ)) where
   -- No fuel record is repeated.
   pub outcomeAfter-fuel : fuelled l ≡ true → outcomeAfter before l units fuels ≡ fuelOutcome l units fuels
@@ -140,17 +157,19 @@ module _ (before : List (List ℕ)) (l : List ℕ) (units fuels : List (List ℕ
       ap₂ unlessRepeated
       (also-f _ (either-f (ne-eqb (kind l) 2 (fuelled-not-hour l fuel)) (ne-eqb (kind l) 4 (fuelled-not-anodes l fuel))))
       (choose-t _ fuel refl)
-      ∙ first (fuelOutcome l units fuels)
+      ∙ unlessRepeated-first (fuelOutcome l units fuels) refl
 
   pub outcomeAfter-unfuelled : fuelled l ≡ false
       → outcomeAfter before l units fuels ≡ unlessRepeated (repeated l before) (unfuelledOutcome l units)
   unfolding outcomeAfter outcomeOf
   outcomeAfter-unfuelled other = ap (unlessRepeated (repeated l before)) (choose-f _ other refl)
 
--- It has no bit either.
-pub noting-fuel : (l units t : List ℕ) → fuelled l ≡ true → noting l units t ≡ t
+-- What is neither an hour nor anodes has no bit.
+pub noting-other : (l units t : List ℕ) → (kind l ≡ 2 → ⊥) → (kind l ≡ 4 → ⊥) → noting l units t ≡ t
 unfolding noting noted
-noting-fuel l units t fuel =
-    let no-bit = hasBit-other (kind l) (period l) (fuelled-not-hour l fuel) (fuelled-not-anodes l fuel) in
-    let none : noted l units t ≡ t = choose-f _ no-bit refl in
+noting-other l units t no-hour no-anodes =
+    let none : noted l units t ≡ t = choose-f _ (hasBit-other (kind l) (period l) no-hour no-anodes) refl in
     if-choose (λ (x : List ℕ). x ≡ t) (isTable units t) (λ table. none) (λ no-table. refl)
+
+pub noting-fuel : (l units t : List ℕ) → fuelled l ≡ true → noting l units t ≡ t
+noting-fuel l units t fuel = noting-other l units t (fuelled-not-hour l fuel) (fuelled-not-anodes l fuel)

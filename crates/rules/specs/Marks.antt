@@ -4,6 +4,7 @@
 --     marked t j c         bit c of row j of t is set
 --     markedAt r c t       bit c is set in the row of the unit found at r
 --     wasNoted l units t   the unit and period of the record l are marked in t
+--     told l units t       t is a table, and they are
 --
 -- Laws: proofs/BitLaws.antt, proofs/NotedLaws.antt. Definitions only.
 use Prim.Native.Nat.{ℕ, _+_, _*_, _/_, _%_, _^_}
@@ -17,7 +18,7 @@ use Rattle.rules.specs.declared.listing.Found.the-variants.{At, Nothing}
 use Rattle.rules.specs.Bytes.{linesIn}
 use Rattle.rules.specs.Fields.{kind, unitNumber, period}
 use Rattle.rules.specs.Place.{place}
-use Rattle.rules.specs.Table.{rowWords, hasBit, bitOf}
+use Rattle.rules.specs.Table.{rowWords, hasBit, bitOf, isTable}
 
 unfoldable pub bitAt : ℕ → ℕ → ℕ
 bitAt v b = v / 2 ^ b % 2
@@ -33,3 +34,6 @@ unfoldable pub wasNoted : List ℕ → List ℕ → List ℕ → Bool
 wasNoted l units t =
     hasBit (kind l) (period l)
     also markedAt (place (unitNumber l) 0 (linesIn units)) (bitOf (kind l) (period l)) t
+
+unfoldable pub told : List ℕ → List ℕ → List ℕ → Bool
+told l units t = isTable units t also wasNoted l units t

@@ -93,6 +93,20 @@ pub(crate) fn note(l: &[u8], units: &[u8], unit: Found, table: &mut [u64]) -> bo
     was
 }
 
+// The same of any words: what is no table tells nothing, and is left alone.
+pub(crate) fn ask(l: &[u8], units: &[u8], unit: Found, table: &mut [u64]) -> bool
+    requires whole { ⌜ 32 ≤ length (now l) ⌝ }
+    requires few { ⌜ length (now units) / 32 ≤ 64 ⌝ }
+    requires found { ⌜ unit ≡ place (unitNumber (now l)) 0 (linesIn (now units)) ⌝ }
+    ensures told { λ r. ⌜ r ≡ marks.told (now (l .entry)) (now (units .entry)) (now (table .entry)) ⌝ }
+    ensures noted { λ _. ⌜ now (table .exit) ≡ spec.noting (now (l .entry)) (now (units .entry)) (now (table .entry)) ⌝ }
+{
+    if !is_table(units, table) {
+        return false;
+    }
+    note(l, units, unit, table)
+}
+
 fn has_bit(kind: u8, period: u64) -> bool
     ensures bit { λ r. ⌜ r ≡ spec.hasBit kind period ⌝ }
 {

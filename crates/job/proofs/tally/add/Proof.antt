@@ -29,7 +29,7 @@ heap-requires c κs =
     (fit-low (start .args .p .more) (c .share .result) (low .0) given, start .pre .1 .0 .0)
 
 returns : tie.Need-returns
-returns c = rw (c .before .before .o .given .1) (c .pass .ensures)
+returns c = let gone = c .pass .ensures in rw (c .before .before .o .given .1) (gone .0, gone .1)
 
 returns-2 : tie.Need-returns-2
 returns-2 c =

@@ -1,4 +1,5 @@
 -- The masses meet in the pile, and the tally only steps. Assumes nothing.
+use mathlib.Core.Path.{refl}
 use native.Mathlib.Omega.{arith}
 use borrow.Author.Needs.{needs}
 use Rattle.job.specs.Pile.{stateIn}
@@ -27,7 +28,8 @@ returns c =
     let read = c .before .before .before .before .before .before .before .before in
     let p = read .before .before .before .args .p in
     let stepped = read .step .ensures in
-    (stateWith-of-summed (read .step .result) (p .tally) (p .more) (read .before .before .before .args .x) (stepped .0), stepped .1)
+    let x = read .before .before .before .args .x in
+    (stateWith-of-summed (read .step .result) (p .tally) (p .more) x (stepped .0), stepped .1, refl)
 
 pub heap-spec : {M : Type 1} → statement M
 heap-spec = tie.close (tie.spec step-requires add-t6 add-t8 add-t10 add-t12 returns)

@@ -1,4 +1,5 @@
 -- The tally sets the record aside, and the pile keeps its masses. Assumes nothing.
+use mathlib.Core.Path.{refl}
 use borrow.Author.Needs.{needs}
 use Rattle.job.specs.Pile.{stateIn}
 use Rattle.job.proofs.PileLaws.{stateWith-of-aside, sound-of-aside}
@@ -16,6 +17,7 @@ returns c =
     let e = c .set-aside .ensures in (
       stateWith-of-aside (a .p .tally) (a .p .more) (a .reason) e,
       sound-of-aside (a .p .tally) (a .reason) e (start .pre .0),
+      refl,
     )
 
 pub pass-spec : {M : Type 1} → statement M
