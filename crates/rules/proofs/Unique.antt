@@ -42,11 +42,11 @@ pub number-fault-unique : (κs : _) (a : _) (r s : _) (x y : _)
 number-fault-unique κs a r s x y p q = p ∙ sym q
 
 pub note-units-unique : (κs : _) (a : _) (r s : _) (x y : _)
-    → note-units.Post κs a r x → note-units.Post κs a s y → r ≡ s
+    → note-units.Post κs a r x → note-units.Post κs a s y → now (x .1 .1 .0) ≡ now (y .1 .1 .0)
 note-units-unique κs a r s x y p q = p ∙ sym q
 
 pub note-fuels-unique : (κs : _) (a : _) (r s : _) (x y : _)
-    → note-fuels.Post κs a r x → note-fuels.Post κs a s y → r ≡ s
+    → note-fuels.Post κs a r x → note-fuels.Post κs a s y → now (x .1 .1 .0) ≡ now (y .1 .1 .0)
 note-fuels-unique κs a r s x y p q = p ∙ sym q
 
 pub is-repeatable-unique : (κs : _) (a : _) (r s : _) (x y : _)

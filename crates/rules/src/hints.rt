@@ -1,5 +1,6 @@
 // Where the line with a number may stand, by the last byte of the number. A look-up holds a hint
-// against the line: a wrong one would cost a search and change no result.
+// against the line: a wrong one would cost a search and change no result. So the hints are written where
+// the caller keeps them, whatever stood there.
 use crate::book::Head;
 use crate::bytes;
 use crate::listed;
@@ -9,31 +10,33 @@ ghost use lib.ListN.{length};
 ghost use Rattle.rules.specs.Book.{opened, accepted, unitLines, fuelLines};
 ghost use Rattle.rules.specs.Hints.{hintsIn};
 
-// The hints of a book that was opened, for its unit lines.
-pub fn note_units(book: &[u8], h: Head) -> [u8; 256]
+// Writes the hints of a book that was opened, for its unit lines.
+pub fn note_units(book: &[u8], h: Head, hints: &mut [u8])
     requires opened { ⌜ opened (now book) ≡ accepted h ⌝ }
-    ensures hints { λ r. ⌜ r ≡ hintsIn (unitLines h (now (book .entry))) ⌝ }
+    requires room { ⌜ 256 ≤ length (now hints) ⌝ }
+    ensures noted { λ _. ⌜ now (hints .exit) ≡ hintsIn (unitLines h (now (book .entry))) (now (hints .entry)) ⌝ }
 {
     let start = h.units;
     let end = h.fuels;
-    note(&book[start..end])
+    note(&book[start..end], hints);
 }
 
 // The same for its fuel lines.
-pub fn note_fuels(book: &[u8], h: Head) -> [u8; 256]
+pub fn note_fuels(book: &[u8], h: Head, hints: &mut [u8])
     requires opened { ⌜ opened (now book) ≡ accepted h ⌝ }
-    ensures hints { λ r. ⌜ r ≡ hintsIn (fuelLines h (now (book .entry))) ⌝ }
+    requires room { ⌜ 256 ≤ length (now hints) ⌝ }
+    ensures noted { λ _. ⌜ now (hints .exit) ≡ hintsIn (fuelLines h (now (book .entry))) (now (hints .entry)) ⌝ }
 {
     let start = h.fuels;
     let end = h.length - 32;
-    note(&book[start..end])
+    note(&book[start..end], hints);
 }
 
-fn note(s: &[u8]) -> [u8; 256]
+fn note(s: &[u8], places: &mut [u8])
     requires few { ⌜ length (now s) / 32 ≤ 256 ⌝ }
-    ensures hints { λ r. ⌜ r ≡ hintsIn (now (s .entry)) ⌝ }
+    requires room { ⌜ 256 ≤ length (now places) ⌝ }
+    ensures noted { λ _. ⌜ now (places .exit) ≡ hintsIn (now (s .entry)) (now (places .entry)) ⌝ }
 {
-    let mut places = [0u8; 256];
     let n = s.len() / 32;
     let mut i = 0;
     while i < n {
@@ -41,5 +44,4 @@ fn note(s: &[u8]) -> [u8; 256]
         places[last] = i as u8;
         i += 1;
     }
-    places
 }

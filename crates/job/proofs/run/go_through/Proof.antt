@@ -16,15 +16,25 @@ returns c =
     c .before .before .pre .1 .0
     ∙ ap (λ (i : ℕ). tallyOf (run (a .h) (a .book .now) (stateOf (a .t)) i)) (sym (c .if1 .taken))
 
+slice-aggregate-note-units : tie.Need-slice-aggregate-note-units
+slice-aggregate-note-units c = search needs
+
 note-units-requires : tie.Need-note-units-requires
 note-units-requires c κs = search needs
+
+slice-aggregate-note-fuels : tie.Need-slice-aggregate-note-fuels
+slice-aggregate-note-fuels c = search needs
 
 note-fuels-requires : tie.Need-note-fuels-requires
 note-fuels-requires c κs = search needs
 
+-- From where the hints are written, the test that there is a record.
+abbrev some : tie.After-struct-known → tie.Else1
+some c = c .before .before .before .before .before .before .before
+
 add-until : tie.Need-add-until
 add-until c =
-    let begun = c .before .before .before .before .before in
+    let begun = some c .before .before in
     record { fits = place-lt _ _ _ (begun .pre .0) (begun .pre .1 .1 .1) }
 
 begin-requires : tie.Need-begin-requires
@@ -39,7 +49,8 @@ slice-aggregate-go-to-2 c = search needs
 go-to-requires : tie.Need-go-to-requires
 go-to-requires c κs =
     let first = c .before .before in
-    let begun = first .before .before .before .before .before .before in
+    let test = some (first .before) in
+    let begun = test .before .before in
     let a = begun .args in
     let p = begun .pre in
     let same = first .begin .ensures in (
@@ -48,7 +59,7 @@ go-to-requires c κs =
         subst (FitFor (a .h)) (sym (same .1)) (p .1 .1 .0),
         (
           (sound-begun (a .h) (a .book .now) (a .t) (p .0) (p .1 .0) (p .1 .1 .0) (same .0), same .2),
-          on-begun (a .h) (a .t) (a .n) (same .0) (c .before .before .before .before .before .before .if1 .left) (p .1 .1 .1),
+          on-begun (a .h) (a .t) (a .n) (same .0) (test .if1 .left) (p .1 .1 .1),
         ),
       ),
     )
@@ -56,7 +67,7 @@ go-to-requires c κs =
 returns-2 : tie.Need-returns-2
 returns-2 c =
     let first = c .before .before .before in
-    let a = first .before .before .before .before .before .before .args in
+    let a = some (first .before) .before .before .args in
     c .go-to .ensures
     ∙ ap tallyOf (run-begun (a .h) (a .book .now) (a .t) (a .n) (first .begin .ensures .0) (first .begin .ensures .1) refl)
 
@@ -65,7 +76,9 @@ go-through-spec =
     tie.close
     (tie.spec
     returns
+    slice-aggregate-note-units
     note-units-requires
+    slice-aggregate-note-fuels
     note-fuels-requires
     add-until
     begin-requires

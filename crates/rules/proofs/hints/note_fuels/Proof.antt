@@ -8,26 +8,30 @@ use Rattle.rules.proofs.hints.note_fuels.Statement.{statement}
 use Rattle.rules.proofs.hints.note_fuels.Tie as tie
 
 known : (c : tie.Start) → Accepted (c .args .book .now) (c .args .h)
-known c = accepted-facts _ _ (c .pre)
+known c = accepted-facts _ _ (c .pre .0)
 
 sub-end : tie.Need-sub-end
-sub-end c = let k = known (c .before .before) in omega arith
+sub-end c = let k = known (c .before .before .before) in omega arith
 
 sub-note : tie.Need-sub-note
-sub-note c = known (c .before .before) .fuels-le
+sub-note c = known (c .before .before .before) .fuels-le
 
 part-note-start : tie.Need-part-note-start
-part-note-start c = known (c .before .before) .fuels-le
+part-note-start c = known (c .before .before .before) .fuels-le
 
 part-note-end : tie.Need-part-note-end
-part-note-end c = let k = known (c .before .before) in omega arith
+part-note-end c = let k = known (c .before .before .before) in omega arith
 
 note-requires : tie.Need-note-requires
-note-requires c κs = omega (arith, rising-linesSound fuelOk _ (known (c .before .before .before) .fuels-sound) .few)
+note-requires c κs =
+    let begun = c .before .before .before .before .before in
+    (omega (arith, rising-linesSound fuelOk _ (known begun .fuels-sound) .few), begun .pre .1)
+
+same-length : tie.Need-same-length
+same-length c = search needs
 
 returns : tie.Need-returns
 returns c = search needs
 
 pub note-fuels-spec : {M : Type 1} → statement M
-note-fuels-spec =
-    tie.close (tie.spec sub-end sub-note part-note-start part-note-end note-requires returns)
+note-fuels-spec = tie.close (tie.spec sub-end sub-note part-note-start part-note-end note-requires same-length returns)
