@@ -2,11 +2,12 @@
 use crate::bytes;
 use crate::field;
 use crate::record::Outcome;
+ghost use mathlib.Core.List.{List};
 ghost use mathlib.Core.Path.{_≡_};
-ghost use Prim.Native.Nat.{_/_, _<_, _≤_};
+ghost use Prim.Native.Nat.{ℕ, _+_, _-_, _/_, _<_, _≤_};
 ghost use lib.ListN.{length};
 ghost use Rattle.rules.specs.Bytes.{line, lines};
-ghost use Rattle.rules.specs.Repeat.{standsAmong, repeatable, repeated};
+ghost use Rattle.rules.specs.Repeat.{standsAmong, standsIn, repeatable, repeated};
 ghost use Rattle.rules.specs.Record.{unlessRepeated};
 ghost use Rattle.rules.specs.Key.{Start, Keyed};
 
@@ -58,20 +59,55 @@ fn is_repeated(book: &[u8], i: usize) -> bool
     does_stand(book, i)
 }
 
-// Whether kind, unit and period of record i stand in an earlier one.
+// Whether kind, unit and period of record i stand in an earlier one. Four are looked at a time: a loop
+// over single ones waits for each compare, and a line of the cache holds two records.
 fn does_stand(book: &[u8], i: usize) -> bool
     requires there { ⌜ i < length (now book) / 32 ⌝ }
     ensures stands { λ r. ⌜ r ≡ standsAmong (line i (now (book .entry))) (lines i (now (book .entry))) ⌝ }
 {
     let key = read_key(bytes::take_line(book, i));
     let mut j = 0;
-    while j < i {
-        if read_key(bytes::take_line(book, j)) == key {
+    while j + 4 <= i {
+        if is_one_of_four(book, j, key) {
+            return true;
+        }
+        j += 4;
+    }
+    is_one_of(book, j, i, key)
+}
+
+// Whether one of the four records from j on has this key.
+fn is_one_of_four(book: &[u8], j: usize, key: u64) -> bool
+    requires there { ⌜ j + 4 ≤ length (now book) / 32 ⌝ }
+    ensures one { λ r. ⌜ ((l : List ℕ) → Keyed l key → r ≡ standsIn l j 4 (now (book .entry))) ⌝ }
+{
+    let a = has_key(book, j, key);
+    let b = has_key(book, j + 1, key);
+    let c = has_key(book, j + 2, key);
+    let d = has_key(book, j + 3, key);
+    a | b | c | d
+}
+
+// Whether one of the records from `from` up to `to` has it: what is left where no four are.
+fn is_one_of(book: &[u8], from: usize, to: usize, key: u64) -> bool
+    requires there { ⌜ to ≤ length (now book) / 32 ⌝ }
+    ensures one { λ r. ⌜ ((l : List ℕ) → Keyed l key → r ≡ standsIn l from (to - from) (now (book .entry))) ⌝ }
+{
+    let mut j = from;
+    while j < to {
+        if has_key(book, j, key) {
             return true;
         }
         j += 1;
     }
     false
+}
+
+fn has_key(book: &[u8], j: usize, key: u64) -> bool
+    requires there { ⌜ j < length (now book) / 32 ⌝ }
+    ensures has { λ r. ⌜ ((l : List ℕ) → Keyed l key → r ≡ standsIn l j 1 (now (book .entry))) ⌝ }
+{
+    read_key(bytes::take_line(book, j)) == key
 }
 
 fn read_key(l: &[u8]) -> u64
