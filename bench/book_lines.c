@@ -24,7 +24,8 @@ uint32_t number_of(size_t i)
 
 static bool has_hours_alone(enum mix mix)
 {
-    return mix == ALL_HOURS || mix == DRY_HOURS || mix == RISING_HOURS || mix == REPEATED_HOURS;
+    return mix == ALL_HOURS || mix == DRY_HOURS || mix == RISING_HOURS || mix == SITE_HOURS ||
+           mix == REPEATED_HOURS;
 }
 
 /* Unless all units have a monitor, or none, every fourth has one; of the others every third is a

@@ -4,6 +4,8 @@
 #include <stdbool.h>
 #include <string.h>
 
+enum { MOST_UNITS = 65 }; /* one more than a sound book has */
+
 uint32_t draw(uint64_t *row, uint32_t limit)
 {
     *row = *row * UINT64_C(6364136223846793005) + UINT64_C(1442695040888963407);
@@ -25,12 +27,31 @@ static bool is_of_one_unit(const uint8_t *l, const uint8_t *m)
     return l[0] == HOUR && m[0] == HOUR && memcmp(l + 2, m + 2, 2) == 0;
 }
 
-static bool is_repeated(struct bytes *b, size_t i)
+/* By unit: the book that it last had an hour in, how many hours it has there, and the book that
+   each hour was last used in. So nothing is cleared between two books. */
+static struct year {
+    uint32_t book, count, used_in[LAST_HOUR + 1];
+} years[MOST_UNITS];
+static uint32_t books;
+
+static struct year *year_of(size_t unit)
 {
-    for (size_t j = 0; j < i; j++)
-        if (is_of_one_unit(line(b, i), line(b, j)) && hour_of(line(b, i)) == hour_of(line(b, j)))
-            return true;
-    return false;
+    if (years[unit].book != books) {
+        years[unit].book = books;
+        years[unit].count = 0;
+    }
+    return &years[unit];
+}
+
+static bool is_used(const struct year *year, const uint8_t *l)
+{
+    return year->used_in[hour_of(l)] == books;
+}
+
+static void use(struct year *year, const uint8_t *l)
+{
+    year->count += !is_used(year, l);
+    year->used_in[hour_of(l)] = books;
 }
 
 /* The hour after the last one of this unit. */
@@ -39,7 +60,7 @@ static void write_next(struct bytes *b, size_t i)
     size_t j = i;
     while (j > 0 && !is_of_one_unit(line(b, i), line(b, j - 1)))
         j--;
-    put(line(b, i) + 6, j > 0 ? hour_of(line(b, j - 1)) + 1 : 1, 2);
+    put(line(b, i) + 6, j > 0 ? 1 + hour_of(line(b, j - 1)) % LAST_HOUR : 1, 2);
 }
 
 /* Of four repeats two are near, and two have the readings as well. */
@@ -49,15 +70,24 @@ static void write_again(struct bytes *b, size_t i, uint64_t *row)
     memcpy(line(b, i), line(b, j), i % 8 < 4 ? BOOK_LINE : 8);
 }
 
-/* Record i, if it is an hour, gets the number that it has by the recipe. */
-static void number_hour(struct bytes *b, size_t i, enum mix mix, uint64_t *row)
+/* Record i, an hour of this unit, gets the number that it has by the recipe. */
+static void number_hour(struct bytes *b, size_t i, const struct recipe *recipe, size_t unit,
+                        uint64_t *row)
 {
-    if (mix == RISING_HOURS)
+    struct year *year = year_of(unit);
+    uint8_t *l = line(b, i);
+    if (recipe->mix == SITE_HOURS) {
+        put(l + 6, 1 + i / recipe->units % LAST_HOUR, 2);
+        return;
+    }
+    if (recipe->mix == RISING_HOURS)
         write_next(b, i);
-    while (is_repeated(b, i))
-        put(line(b, i) + 6, 1 + draw(row, LAST_HOUR), 2);
-    if (mix == REPEATED_HOURS && i % 2 == 1)
+    while (is_used(year, l) && year->count < LAST_HOUR)
+        put(l + 6, 1 + draw(row, LAST_HOUR), 2);
+    if (recipe->mix == REPEATED_HOURS && i % 2 == 1)
         write_again(b, i, row);
+    else
+        use(year, l);
 }
 
 /* How many records are anodes. */
@@ -81,9 +111,11 @@ static void write_records(struct bytes *b, const struct recipe *recipe)
             write_monthly(line(b, i), recipe->units, before++, &row);
             continue;
         }
-        size_t unit = draw(&row, (uint32_t)recipe->units);
+        size_t unit = recipe->mix == SITE_HOURS ? i % recipe->units
+                                                : draw(&row, (uint32_t)recipe->units);
         write_record(line(b, i), recipe, unit, &row);
-        number_hour(b, i, recipe->mix, &row);
+        if (line(b, i)[0] == HOUR)
+            number_hour(b, i, recipe, unit, &row);
     }
 }
 
@@ -95,14 +127,22 @@ static void write_starts(struct bytes *b)
     put(at + 4, (uint32_t)(BOOK_LINE * (b->records + b->units)), 4);
 }
 
+static size_t count_records(const struct recipe *recipe, size_t rest)
+{
+    if (recipe->records == 0)
+        return FULL_BOOK / BOOK_LINE - rest;
+    return recipe->records == MOST_RECORDS ? LONGEST_BOOK / BOOK_LINE - rest : recipe->records;
+}
+
 void make_book(struct bytes *b, const struct recipe *recipe)
 {
     const size_t rest = recipe->units + recipe->fuels + 1;
-    const size_t n = recipe->records ? recipe->records : LONGEST_BOOK / BOOK_LINE - rest;
-    memset(b, 0, sizeof *b);
+    const size_t n = count_records(recipe, rest);
+    books++;
     b->records = n;
     b->units = recipe->units;
     b->length = BOOK_LINE * (n + rest);
+    memset(b->book, 0, b->length); /* and no more: most books are far shorter than the longest */
     write_records(b, recipe);
     for (size_t i = 0; i < recipe->units; i++)
         write_unit(line(b, n + i), recipe->mix, i);

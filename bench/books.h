@@ -5,13 +5,16 @@
 #include <stddef.h>
 #include <stdint.h>
 
-enum { LONGEST_BOOK = 65536, BOOK_LINE = 32, WARMING_SETS = 2, LAST_HOUR = 8784, LAST_MONTH = 12 };
+enum { BOOK_LINE = 32, WARMING_SETS = 2, LAST_HOUR = 8784, LAST_MONTH = 12 };
+enum { LONGEST_BOOK = 4194304, FULL_BOOK = 65536 }; /* full: as docs/SPEED.md calls a book */
 enum { YEAR_AT = 16, SET_AT = 20 }; /* bytes of the trailer */
 enum { FUEL = 1, HOUR = 2, GAS = 3, ANODES = 4 }; /* kinds of records, in byte 0 */
 
 /* LOW_HEATS: natural gas by its low value. DRY_HOURS: of units that measure dry gas. RISING_HOURS:
-   each unit's rise by one, where others are in any order. REPEATED_HOURS: every second record has
-   an hour that stands before, one line up or anywhere, with its readings or with others.
+   each unit's rise by one, where others are in any order. SITE_HOURS: as a site's logger writes
+   them, hour by hour those of all units. REPEATED_HOURS: every second record has an hour that stands
+   before, one line up or anywhere, with its readings or with others. Once a unit has all hours of a
+   year, what follows repeats them, of a site the same year anew.
    ALL_ANODES: month by month those of all units, and after the last month the same year anew.
    SMELTER: such a year, at most half of the records, in any places of a mixed book. ALL_GAS:
    analysed gas by method 3. REFINERY: a mixed book, half of whose records of a gas are analysed. */
@@ -22,6 +25,7 @@ enum mix {
     ALL_HOURS,
     DRY_HOURS,
     RISING_HOURS,
+    SITE_HOURS,
     REPEATED_HOURS,
     ALL_ANODES,
     SMELTER,
@@ -29,15 +33,19 @@ enum mix {
     REFINERY
 };
 
+#define MOST_RECORDS SIZE_MAX
+
 struct recipe {
     const char *name;
     enum mix mix;
-    size_t records, units, fuels; /* records 0: as many as a full book has room for */
+    /* records 0: as many as a full book has room for; MOST_RECORDS: as the longest has */
+    size_t records, units, fuels;
 };
 
+/* With room for a book that is a line too long. It is for static storage: a stack may be smaller. */
 struct bytes {
     size_t length, records, units;
-    uint8_t book[LONGEST_BOOK];
+    uint8_t book[LONGEST_BOOK + BOOK_LINE];
 };
 
 /* A number below `limit`, the next of a fixed row. */

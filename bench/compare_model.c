@@ -15,19 +15,19 @@
 #include <stdlib.h>
 #include <string.h>
 
-enum { MOST_RECORDS = LONGEST_BOOK / BOOK_LINE, DRAWN_WAKES = 12 };
+enum { LINES = FULL_BOOK / BOOK_LINE, DRAWN_WAKES = 12 };
 enum { LEDGERS_AT = 16, LEDGER_SIZE = 16, FOSSIL = 0, BIOMASS, CH4, N2O, LEDGERS };
 
 typedef unsigned __int128 wide;
 
 /* Of each record: what it gives as the only one of its book, and its reason; and the checkpoints,
    the fresh one first. */
-static struct look alone[MOST_RECORDS];
-static unsigned due[MOST_RECORDS];
-static struct out reached[MOST_RECORDS + 1];
+static struct look alone[LINES];
+static unsigned due[LINES];
+static struct out reached[LINES + 1];
 
 /* Of a record that stands before, where the last one is that it repeats. */
-static size_t last[MOST_RECORDS];
+static size_t last[LINES];
 
 void stop_at(const char *name, const char *what, size_t i)
 {
