@@ -244,6 +244,14 @@ void write_analysis(struct bytes *b, size_t i, const struct gas *gas)
     write_gas(line(b, i), gas);
 }
 
+void damage(uint8_t *bytes, size_t length, uint64_t *row)
+{
+    uint8_t *at = bytes + draw(row, (uint32_t)length);
+    const uint8_t choices[6] = {(uint8_t)draw(row, 256), (uint8_t)(*at + 1), (uint8_t)(*at - 1),
+                                0, 1, 255};
+    *at = choices[draw(row, 6)];
+}
+
 /* No unit has number 1. */
 void spoil(struct bytes *b, size_t i, unsigned reason)
 {

@@ -12,9 +12,9 @@ enum { FUEL = 1, HOUR = 2, GAS = 3, ANODES = 4 }; /* kinds of records, in byte 0
 
 /* LOW_HEATS: natural gas by its low value. DRY_HOURS: of units that measure dry gas. RISING_HOURS:
    each unit's rise by one, where others are in any order. SITE_HOURS: as a site's logger writes
-   them, hour by hour those of all units. REPEATED_HOURS: every second record has an hour that stands
-   before, one line up or anywhere, with its readings or with others. Once a unit has all hours of a
-   year, what follows repeats them, of a site the same year anew.
+   them, hour by hour those of all units. REPEATED_HOURS: every second record has an hour that
+   stands before, one line up or anywhere, with its readings or with others. Once a unit has all
+   hours of a year, what follows repeats them, of a site the same year anew.
    ALL_ANODES: month by month those of all units, and after the last month the same year anew.
    SMELTER: such a year, at most half of the records, in any places of a mixed book. ALL_GAS:
    analysed gas by method 3. REFINERY: a mixed book, half of whose records of a gas are analysed. */
@@ -42,7 +42,7 @@ struct recipe {
     size_t records, units, fuels;
 };
 
-/* With room for a book that is a line too long. It is for static storage: a stack may be smaller. */
+/* With room for a book that is a line too long. For static storage: a stack may be smaller. */
 struct bytes {
     size_t length, records, units;
     uint8_t book[LONGEST_BOOK + BOOK_LINE];
@@ -123,6 +123,9 @@ struct gas {
 
 /* Record i becomes this gas. */
 void write_analysis(struct bytes *b, size_t i, const struct gas *gas);
+
+/* One byte changed: anything, or by one, or to an end of its range. */
+void damage(uint8_t *bytes, size_t length, uint64_t *row);
 
 /* Makes record i of a mixed book one with this reason, 1 to 7. For 7 the last fuel line loses its
    default heat. */

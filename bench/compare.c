@@ -6,6 +6,7 @@
 #include "compare_dry.h"
 #include "compare_gas.h"
 #include "compare_gas_co2.h"
+#include "compare_large.h"
 #include "compare_repeats.h"
 #include "compare_tallies.h"
 #include "compare_volumes.h"
@@ -27,15 +28,6 @@ static void compare_records(const struct bytes *b, const char *name)
     for (size_t i = 0; i <= b->records; i++)
         compare_record(b, name, (uint32_t)i);
     compare_record(b, name, UINT32_MAX);
-}
-
-/* One byte changed: anything, or by one, or to an end of its range. */
-static void damage(uint8_t *bytes, size_t length, uint64_t *row)
-{
-    uint8_t *at = bytes + draw(row, (uint32_t)length);
-    const uint8_t choices[6] = {(uint8_t)draw(row, 256), (uint8_t)(*at + 1), (uint8_t)(*at - 1),
-                                0, 1, 255};
-    *at = choices[draw(row, 6)];
 }
 
 /* Every call on a book, by wakes of several budgets, from checkpoints that were damaged too, and a
@@ -236,6 +228,7 @@ void compare_damaged(void)
     compare_repeats(&b);
     compare_decisions(&b);
     compare_too_many(&b);
+    compare_large(&b);
     tell_compared();
     tell_dry();
     tell_anodes();
@@ -243,4 +236,5 @@ void compare_damaged(void)
     tell_gas_co2();
     tell_volumes();
     tell_tallies();
+    tell_large();
 }

@@ -1,6 +1,6 @@
 /*
- * Wakes late in a book. Fuel and gas ask for nothing that stands before them, an hour and anodes for
- * nearly a whole book, unless they find themselves repeated there.
+ * Wakes late in a book. Fuel and gas ask for nothing that stands before them, an hour and anodes
+ * for nearly a whole book, unless they are found in it.
  */
 #include "late.h"
 
