@@ -25,7 +25,8 @@ static uint32_t field(const struct out *at, size_t place)
 /* From a place past the earlier record, and at times past nearly all, through the later one. */
 static void compare_pair(const struct bytes *b, const char *name, uint32_t late)
 {
-    const uint32_t froms[] = {0, late / 2, late < 30 ? 0 : late - 30, late < 3 ? 0 : late - 3, late};
+    const uint32_t some = late < 30 ? 0 : late - 30, few = late < 3 ? 0 : late - 3;
+    const uint32_t froms[] = {0, late / 2, some, few, late};
     const struct out fresh = compare_fresh(b, name, SIZE);
     for (size_t i = 0; i < sizeof froms / sizeof *froms; i++) {
         struct out at = fresh;
@@ -71,8 +72,8 @@ static void compare_anodes_apart(struct bytes *b)
     compare_pair(b, fuel.name, (uint32_t)b->records - 1);
 }
 
-/* 10^8 units of 200,000 kJ and 200,000 mg/MJ, or ug/MJ, give 4 * 10^18 ug or ng: of CO2 4,000,000 t,
-   which is as much as a record can give. */
+/* 10^8 units of 200,000 kJ and 200,000 mg/MJ, or ug/MJ, give 4 * 10^18 ug or ng: 4,000,000 t of
+   CO2, which is as much as a record can give. */
 static void make_heaviest(struct bytes *b, const struct recipe *recipe)
 {
     make_book(b, recipe);

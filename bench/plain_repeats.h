@@ -3,18 +3,22 @@
  * kind, the unit and the number of this one, which is its hour or its month. A wake decides how to
  * know it at its first such record that would count, so that one of fuel alone pays nothing.
  *
- * Per line before, on x86-64: to hold it against one record takes 0.4 ns, to hash it 0.8 ns, and to
- * look its unit up and mark its hour 3 ns, with 64 units up to 10. So up to two records are held
- * against each line. For more the lines are hashed, and those alone are marked that some record of
- * the wake may repeat. Each way takes time in proportion to the lines before and in the wake,
- * whatever the book: few records, or one pass over all lines.
+ * Per line before, on x86-64: to hold it against one record takes 0.35 ns, to hash it 0.7 ns, and
+ * to look its unit up and mark its hour 2 ns. So up to two records are held against each line. For
+ * more the lines are hashed, and those alone are marked that some record of the wake may repeat.
+ * Each way takes time in proportion to the lines before and in the wake, whatever the book: few
+ * records, or one pass over all lines.
  */
 #ifndef PLAIN_REPEATS_H
 #define PLAIN_REPEATS_H
 
 #include "plain_book.h"
 
-enum { FEW = 2, ROW_WORDS = LAST_HOUR / 64 + 1, ASKED_WORDS = 128 };
+enum { FEW = 2, ROW_WORDS = LAST_HOUR / 64 + 1, HINTS = 256 };
+
+/* Bits of the set that says which hashes a wake asks for, as powers of two. With 64 for each record
+   of the wake hardly a line is marked in vain; the most are 64 KB. */
+enum { LEAST_BITS = 13, MOST_BITS = 19, BITS_EACH = 64 };
 
 enum way { UNDECIDED, LINE_BY_LINE, BY_TABLE };
 
@@ -24,6 +28,11 @@ struct table {
     uint64_t hours[MOST_LINES][ROW_WORDS];
     uint64_t begun; /* a bit for each row of hours: those that aren't begun hold anything */
     uint16_t months[MOST_LINES];
+};
+
+/* By the last byte of a unit's number, the line that may have it. */
+struct hints {
+    uint8_t line[HINTS];
 };
 
 /* What a wake knows of the hours and anodes before its place. */
@@ -75,14 +84,12 @@ static inline bool mark_month(struct table *table, uint32_t i, uint32_t month)
     return (months & bit) != 0;
 }
 
-/* Marks the record at l, whatever becomes of it, unless none that would count can repeat it. */
-static void mark(struct table *table, const struct book *k, const uint8_t *l)
+/* Marks the record at l, whatever becomes of it, unless none that would count can repeat it. Its
+   unit has line i, which is past the last if it isn't listed. */
+static inline void mark_of(struct table *table, const struct book *k, const uint8_t *l, uint32_t i)
 {
     uint32_t number = read16(l + 6);
-    if (!can_repeat(l[0]) || !in_range(number, 1, l[0] == HOUR ? LAST_HOUR : LAST_MONTH))
-        return;
-    uint32_t i = find(k->unit_number, k->units, read16(l + 2));
-    if (i == k->units)
+    if (i == k->units || !in_range(number, 1, l[0] == HOUR ? LAST_HOUR : LAST_MONTH))
         return;
     if (l[0] == HOUR)
         mark_hour(table, i, number);
@@ -90,24 +97,60 @@ static void mark(struct table *table, const struct book *k, const uint8_t *l)
         mark_month(table, i, number);
 }
 
-/* Below 64 * ASKED_WORDS. Two records may share one, which costs a look-up. */
-static inline uint32_t hash(const uint8_t *l)
+static inline uint32_t find_hinted(const struct book *k, const struct hints *hints, uint32_t number)
 {
-    return (uint32_t)(key_of(l) * UINT64_C(0x9e3779b97f4a7c15) >> 51);
+    uint32_t i = hints->line[number % HINTS];
+    if (i < k->units && k->unit_number[i] == number)
+        return i;
+    return find(k->unit_number, k->units, number);
+}
+
+static inline __attribute__((always_inline)) void
+mark_hinted(struct table *table, const struct book *k, const struct hints *hints, const uint8_t *l)
+{
+    if (can_repeat(l[0]))
+        mark_of(table, k, l, find_hinted(k, hints, read16(l + 2)));
+}
+
+/* Below 2^bits. Two records may share one, which costs a look-up. */
+static inline uint32_t hash(const uint8_t *l, unsigned bits)
+{
+    return (uint32_t)(key_of(l) * UINT64_C(0x9e3779b97f4a7c15) >> (64 - bits));
+}
+
+/* Marks the records before l that may have the key of one of the wake's. */
+static inline __attribute__((always_inline)) void
+mark_asked(const struct past *past, const struct book *k, const struct hints *hints,
+           const uint8_t *l, unsigned bits)
+{
+    uint64_t asked[1 << (MOST_BITS - 6)];
+    memset(asked, 0, (size_t)1 << (bits - 3));
+    for (const uint8_t *m = l; m < past->end; m += LINE)
+        asked[hash(m, bits) / 64] |= (uint64_t)can_repeat(m[0]) << hash(m, bits) % 64;
+    for (const uint8_t *m = k->records; m < l; m += LINE)
+        if (asked[hash(m, bits) / 64] >> hash(m, bits) % 64 & 1)
+            mark_hinted(past->table, k, hints, m);
 }
 
 /* Marks the records before l that the wake asks for. Where the lines of the wake are more than
    those before, it is sooner to mark all than to see what is asked for. */
 static void mark_before(const struct past *past, const struct book *k, const uint8_t *l)
 {
-    uint64_t asked[ASKED_WORDS];
-    bool asks_for_all = l - k->records < past->end - l;
-    memset(asked, asks_for_all ? 255 : 0, sizeof asked);
-    for (const uint8_t *m = l; !asks_for_all && m < past->end; m += LINE)
-        asked[hash(m) / 64] |= (uint64_t)can_repeat(m[0]) << hash(m) % 64;
-    for (const uint8_t *m = k->records; m < l; m += LINE)
-        if (asked[hash(m) / 64] >> hash(m) % 64 & 1)
-            mark(past->table, k, m);
+    struct hints hints = {{0}};
+    unsigned bits = LEAST_BITS;
+    for (uint32_t i = 0; i < k->units; i++)
+        hints.line[k->unit_number[i] % HINTS] = (uint8_t)i;
+    if (l - k->records < past->end - l) {
+        for (const uint8_t *m = k->records; m < l; m += LINE)
+            mark_hinted(past->table, k, &hints, m);
+        return;
+    }
+    while (bits < MOST_BITS && (past->end - l) / LINE * BITS_EACH > 1 << bits)
+        bits++;
+    if (bits == LEAST_BITS) /* a shift that the compiler knows saves a twentieth */
+        mark_asked(past, k, &hints, l, LEAST_BITS);
+    else
+        mark_asked(past, k, &hints, l, bits);
 }
 
 static bool has_few(const uint8_t *l, const uint8_t *end)
