@@ -155,15 +155,15 @@ void make_book(struct bytes *b, const struct recipe *recipe)
     put(trailer + YEAR_AT, 2010, 2);
 }
 
-void take_record(struct bytes *alone, const struct bytes *b, size_t i)
+void take_records(struct bytes *some, const struct bytes *b, size_t i, size_t n)
 {
     const size_t rest = b->length - BOOK_LINE * b->records;
-    alone->length = BOOK_LINE + rest;
-    alone->records = 1;
-    alone->units = b->units;
-    memcpy(alone->book, b->book + BOOK_LINE * i, BOOK_LINE);
-    memcpy(alone->book + BOOK_LINE, b->book + BOOK_LINE * b->records, rest);
-    write_starts(alone);
+    some->length = BOOK_LINE * n + rest;
+    some->records = n;
+    some->units = b->units;
+    memcpy(some->book, b->book + BOOK_LINE * i, BOOK_LINE * n);
+    memcpy(some->book + BOOK_LINE * n, b->book + BOOK_LINE * b->records, rest);
+    write_starts(some);
 }
 
 size_t in_trailer(const struct bytes *b, size_t at)

@@ -55,8 +55,8 @@ uint32_t draw(uint64_t *row, uint32_t limit);
    first set of warming values. */
 void make_book(struct bytes *b, const struct recipe *recipe);
 
-/* A book with record i of another alone. */
-void take_record(struct bytes *alone, const struct bytes *b, size_t i);
+/* A book with n records of another from record i on, and all its other lines. */
+void take_records(struct bytes *some, const struct bytes *b, size_t i, size_t n);
 
 /* Where this byte of the trailer stands in a book. */
 size_t in_trailer(const struct bytes *b, size_t at);

@@ -106,7 +106,7 @@ static void expect(const struct bytes *b, const char *name)
     for (size_t i = 0; i < b->records; i++) {
         const uint8_t *l = line(b, i);
         const struct before before = look_back(b, i);
-        take_record(&single, b, i);
+        take_records(&single, b, i, 1);
         alone[i] = compare_record(&single, name, 0);
         if (l[0] == ANODES)
             see_anodes(b, name, i);
