@@ -136,7 +136,14 @@ static void compare(struct bytes *b)
 
 static void measure_stack(struct bytes *b)
 {
-    tell_stack(b, books, BOOKS);
+    static const struct recipe longest[] = {{"fuel", ALL_FUEL, MOST_RECORDS, 64, 64},
+                                            {"gas", ALL_GAS, MOST_RECORDS, 64, 64},
+                                            {"hours", SITE_HOURS, MOST_RECORDS, 15, 0},
+                                            {"hours", ALL_HOURS, MOST_RECORDS, 64, 0},
+                                            {"anodes", ALL_ANODES, MOST_RECORDS, 64, 0},
+                                            {"smelter", SMELTER, MOST_RECORDS, 64, 64}};
+    tell_stack(b, "of the books above", books, BOOKS);
+    tell_stack(b, "of longest books", longest, sizeof longest / sizeof *longest);
 }
 
 /* What can be asked for by name, and is then told with no comparison before it. */

@@ -103,10 +103,12 @@ static void call_left(void)
     wetherstep_left(book->book, book->length, all, SIZE);
 }
 
+/* Each record, and of a book past a full one the last ones: each looks at all before it. */
 static void call_record(void)
 {
     uint64_t masses[WETHERSTEP_MASSES];
-    for (uint32_t i = 0; i < book->records; i++)
+    const uint32_t n = (uint32_t)book->records;
+    for (uint32_t i = book->length > FULL_BOOK ? n - SOME : 0; i < n; i++)
         wetherstep_record(book->book, book->length, i, masses);
 }
 
@@ -126,7 +128,7 @@ static void begin(struct bytes *b, const struct recipe *recipe)
 }
 
 /* The way to a call takes stack too, and isn't counted. */
-void tell_stack(struct bytes *b, const struct recipe *books, size_t count)
+void tell_stack(struct bytes *b, const char *name, const struct recipe *books, size_t count)
 {
     static const struct {
         const char *name;
@@ -149,7 +151,7 @@ void tell_stack(struct bytes *b, const struct recipe *books, size_t count)
             used[j] = more > used[j] ? more : used[j];
         }
     }
-    printf("\nstack of the library, bytes:");
+    printf("\nstack of the library, bytes, %s:", name);
     for (int j = 0; j < CALLS; j++)
         printf("%s %s %zu", j == 0 ? "" : ",", calls[j].name, used[j]);
     printf("\n");
