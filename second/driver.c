@@ -17,7 +17,7 @@
 #include "wetherstep.h"
 
 enum { FRESH = 1, WAKE, REPORT, RECORD, LEFT };
-enum { HEAD = 24, ANSWER = 64, LONGEST_PART = 131072, GUARD = 64, JUNK = 0xA5 };
+enum { HEAD = 24, ANSWER = 64, MOST_BYTES = 5242880, GUARD = 64, JUNK = 0xA5 };
 enum { MASSES = 3, NO_SUCH_RECORD = 255 };
 
 struct frame {
@@ -27,7 +27,7 @@ struct frame {
 };
 
 /* A frame as it came, and what is behind it. It begins at an odd address: no part needs another. */
-static uint8_t room[1 + HEAD + 3 * LONGEST_PART + GUARD];
+static uint8_t room[1 + HEAD + MOST_BYTES + GUARD];
 static uint8_t *const bytes = room + 1;
 static uint8_t before[sizeof room];
 
@@ -117,9 +117,10 @@ static int read_head(struct frame *frame) {
     frame->checkpoint_len = word_at(head + 12);
     frame->out_len = word_at(head + 16);
     int takes_argument = frame->call == WAKE || frame->call == RECORD;
+    /* In 64 bits, for three lengths may add up to more than 32 hold, and a size_t may have no more. */
+    uint64_t together = (uint64_t)frame->book_len + frame->checkpoint_len + frame->out_len;
     return FRESH <= frame->call && frame->call <= LEFT && !head[1] && !head[2] && !head[3] &&
-           (takes_argument || frame->argument == 0) && frame->book_len <= LONGEST_PART &&
-           frame->checkpoint_len <= LONGEST_PART && frame->out_len <= LONGEST_PART &&
+           (takes_argument || frame->argument == 0) && together <= MOST_BYTES &&
            word_at(head + 20) == 0;
 }
 

@@ -6,7 +6,7 @@ use crate::refusal::Refusal;
 use crate::warming::Warming;
 use crate::LINE;
 
-pub const LONGEST: usize = 65_536;
+pub const LONGEST: usize = 4_194_304;
 
 /// A book that none of the numbers 20 to 23 refuses.
 #[derive(Debug)]

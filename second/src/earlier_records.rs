@@ -1,6 +1,8 @@
 //! Records that stand in a book more than once: hours, as after a radio gap, and the
 //! anodes of a month.
 
+use std::collections::HashSet;
+
 use crate::book::Book;
 use crate::bytes::u16_at;
 use crate::record::{ANODES, MONITOR_HOUR};
@@ -10,7 +12,7 @@ use crate::record::{ANODES, MONITOR_HOUR};
 /// byte 0 alone.
 #[derive(Debug, Default)]
 pub struct EarlierRecords {
-    standing: Vec<u64>,
+    standing: HashSet<u64>,
 }
 
 impl EarlierRecords {
@@ -26,12 +28,8 @@ impl EarlierRecords {
     /// Goes through the next record, and tells whether it is one that stands in one
     /// before it.
     pub fn go_through(&mut self, line: &[u8]) -> bool {
-        let Some(record) = kind_unit_and_number(line) else {
-            return false;
-        };
-        let stands = self.standing.contains(&record);
-        self.standing.push(record);
-        stands
+        let record = kind_unit_and_number(line);
+        record.is_some_and(|record| !self.standing.insert(record))
     }
 }
 
@@ -55,6 +53,41 @@ mod tests {
         line[2..4].copy_from_slice(&unit.to_le_bytes());
         line[6..8].copy_from_slice(&number.to_le_bytes());
         line
+    }
+
+    /// Each record held against every one before it, one by one, as the requirements
+    /// tell it; a set is only a faster way.
+    fn one_by_one(lines: &[[u8; LINE]]) -> Vec<bool> {
+        let is_same = |one: &[u8; LINE], other: &[u8; LINE]| {
+            let is_once = one[0] == MONITOR_HOUR || one[0] == ANODES;
+            is_once && one[0] == other[0] && one[2..4] == other[2..4] && one[6..8] == other[6..8]
+        };
+        let stands = |place: usize| {
+            let mut earlier = lines[..place].iter();
+            earlier.any(|other| is_same(&lines[place], other))
+        };
+        (0..lines.len()).map(stands).collect()
+    }
+
+    /// All orders of five records out of eight that share kinds, units and numbers.
+    #[test]
+    fn the_set_tells_what_going_through_one_by_one_tells() {
+        let choices = [
+            line(1, 1, 1),
+            line(MONITOR_HOUR, 1, 1),
+            line(MONITOR_HOUR, 1, 2),
+            line(MONITOR_HOUR, 2, 1),
+            line(ANODES, 1, 1),
+            line(ANODES, 1, 2),
+            line(ANODES, 2, 1),
+            line(3, 1, 1),
+        ];
+        for order in 0..8usize.pow(5) {
+            let lines = [0, 3, 6, 9, 12].map(|bits| choices[order >> bits & 7]);
+            let mut earlier = EarlierRecords::default();
+            let told = lines.map(|line| earlier.go_through(&line));
+            assert_eq!(told[..], one_by_one(&lines), "order {order:o}");
+        }
     }
 
     #[test]

@@ -16,7 +16,7 @@ fn main() -> ExitCode {
 fn run() -> io::Result<()> {
     let mut book = Vec::new();
     // One byte more than the longest book has the wrong length already.
-    let most = second::book::LONGEST as u64 + 1;
+    let most = second::annual::LONGEST as u64 + 1;
     io::stdin().lock().take(most).read_to_end(&mut book)?;
     io::stdout().write_all(second::annual::text(&book).as_bytes())
 }

@@ -7,7 +7,8 @@ use crate::answer::{Answer, Call, Frame};
 use crate::bytes::{all_zero, u32_at};
 
 pub const FRAME_HEAD: usize = 24;
-pub const LONGEST_PART: u32 = 131_072;
+/// Of the three parts together.
+pub const MOST_BYTES: u32 = 5_242_880;
 
 /// Answers frames up to the end of input or a head that breaks the rules.
 pub fn serve(
@@ -72,9 +73,14 @@ impl Head {
         let sound = all_zero(&bytes[1..4])
             && all_zero(&bytes[20..])
             && (argument_named || head.argument == 0)
-            && head.lengths.iter().all(|&length| length <= LONGEST_PART);
+            && together(head.lengths) <= u64::from(MOST_BYTES);
         sound.then_some(head)
     }
+}
+
+/// Three lengths may add up to more than 32 bits hold.
+fn together(lengths: [u32; 3]) -> u64 {
+    lengths.into_iter().map(u64::from).sum()
 }
 
 /// The bytes of a frame.
@@ -90,4 +96,33 @@ pub fn encode(frame: &Frame) -> Vec<u8> {
     bytes.extend([0; 4]);
     parts.iter().for_each(|part| bytes.extend(*part));
     bytes
+}
+
+#[cfg(test)]
+mod tests {
+    use super::*;
+
+    fn is_read(lengths: [u32; 3]) -> bool {
+        let mut bytes = [0; FRAME_HEAD];
+        bytes[0] = Call::Fresh as u8;
+        for (place, length) in [8, 12, 16].into_iter().zip(lengths) {
+            bytes[place..place + 4].copy_from_slice(&length.to_le_bytes());
+        }
+        Head::read(&bytes).is_some()
+    }
+
+    #[test]
+    fn the_parts_have_one_limit_together() {
+        for place in 0..3 {
+            let mut lengths = [7; 3];
+            lengths[place] = MOST_BYTES - 14;
+            assert!(is_read(lengths), "{lengths:?}");
+            lengths[place] += 1;
+            assert!(!is_read(lengths), "{lengths:?}");
+        }
+        let past_32_bits = [[u32::MAX; 3], [u32::MAX, 1, 0], [1 << 31, 96, 1 << 31]];
+        for lengths in past_32_bits {
+            assert!(!is_read(lengths), "{lengths:?}");
+        }
+    }
 }

@@ -7,7 +7,9 @@ pub use analysed_gas::*;
 use std::collections::HashMap;
 
 pub const LINE: usize = 32;
-pub const LONGEST_BOOK: usize = 65_536;
+/// A full book is what `annual` can hold; other calls take longer ones.
+pub const FULL_BOOK: usize = 65_536;
+pub const LONGEST_BOOK: usize = 4_194_304;
 
 /// Where the trailer names the set of warming values, and what it may say.
 pub const SET_PLACE: usize = 20;

@@ -1,6 +1,6 @@
 //! Every field of every line at its limits and one past each.
 
-use crate::draft::{put, Draft, Line, LINE, LONGEST_BOOK};
+use crate::draft::{put, Draft, Line, FULL_BOOK, LINE, LONGEST_BOOK};
 use crate::exchange::{Exchange, Outcome};
 use crate::job;
 use crate::random::Random;
@@ -32,7 +32,14 @@ const TRAILER: [Field; 7] = [
     field(
         8,
         4,
-        &[start(5), start(6), start(8), start(11), LONGEST_BOOK as u32],
+        &[
+            start(5),
+            start(6),
+            start(8),
+            start(11),
+            FULL_BOOK as u32,
+            LONGEST_BOOK as u32,
+        ],
     ),
     field(12, 4, &[start(4), start(5), start(8), start(11), start(12)]),
     field(16, 2, &[2000, 2099]),

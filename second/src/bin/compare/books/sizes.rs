@@ -1,8 +1,6 @@
 //! Books of unusual size: no records, 64 and 65 lines of a kind, full books.
 
-use second::replay::LONGEST_PART;
-
-use crate::draft::{numbered_apart, unit, Draft, FuelLine, FIRST_SET, LINE, LONGEST_BOOK};
+use crate::draft::{numbered_apart, unit, Draft, FuelLine, FIRST_SET, FULL_BOOK, LINE};
 use crate::exchange::{Exchange, Outcome};
 use crate::expectation::Field;
 use crate::job;
@@ -23,12 +21,12 @@ pub fn run(exchange: &mut Exchange, rng: &mut Random) -> Outcome<()> {
     many_lines(exchange, rng)?;
     exchange.case("full books");
     for _ in 0..FULL_BOOKS * exchange.run.settings.times {
-        let book = full(rng, LONGEST_BOOK);
-        job::everything(exchange, rng, &book, LONGEST_BOOK / LINE)?;
+        let book = full(rng, FULL_BOOK);
+        job::everything(exchange, rng, &book, FULL_BOOK / LINE)?;
     }
     exchange.case("full books without unit and fuel lines");
     let mut bare = listing(0, 0);
-    bare.records = vec![[1; LINE]; bare.room(LONGEST_BOOK)];
+    bare.records = vec![[1; LINE]; bare.room(FULL_BOOK)];
     let first_set_aside = vec![
         Field::Number.is(41),
         Field::Reason.is(1),
@@ -36,10 +34,11 @@ pub fn run(exchange: &mut Exchange, rng: &mut Random) -> Outcome<()> {
     ];
     job::whole(exchange, rng, &bare.bytes(), first_set_aside)?;
     job::records(exchange, &bare.bytes(), bare.records.len())?;
-    exchange.case("books that are too long");
-    for more in [LINE, 2 * LINE, LONGEST_PART as usize - LONGEST_BOOK] {
-        let book = full(rng, LONGEST_BOOK + more);
-        job::whole(exchange, rng, &book, vec![Field::Number.is(20)])?;
+    exchange.case("books that are longer than full ones");
+    for more in [LINE, 2 * LINE, FULL_BOOK] {
+        let book = full(rng, FULL_BOOK + more);
+        job::whole(exchange, rng, &book, Vec::new())?;
+        job::in_wakes(exchange, rng, &book)?;
         job::records(exchange, &book, 2)?;
     }
     Ok(())

@@ -2,7 +2,6 @@
 //! wrong book, a wrong checkpoint and a wrong output buffer.
 
 use second::answer::{Call, Frame};
-use second::replay::LONGEST_PART;
 
 use crate::draft::{unit, Draft, DRY, LINE, SET_PLACE};
 use crate::exchange::{Exchange, Outcome};
@@ -10,6 +9,9 @@ use crate::expectation::Field;
 use crate::job::{self, CHECKPOINT};
 use crate::random::Random;
 use crate::random_books;
+
+/// Of an output buffer that nothing could be meant for.
+const LONG: usize = 131_072;
 
 /// A byte string and the number that it brings about, 0 if none.
 type Numbered = (Vec<u8>, u64);
@@ -29,7 +31,7 @@ pub fn run(exchange: &mut Exchange, rng: &mut Random) -> Outcome<()> {
     for book in books(&draft) {
         for checkpoint in checkpoints(&start.output, &end.output) {
             let near = [CHECKPOINT, 0, 1, CHECKPOINT - 1, CHECKPOINT + 1];
-            for length in near.into_iter().chain([LONGEST_PART as usize]) {
+            for length in near.into_iter().chain([LONG]) {
                 let output = (rng.junk(length), if length == CHECKPOINT { 0 } else { 32 });
                 calls(exchange, &book, &checkpoint, &output)?;
             }

@@ -4,7 +4,7 @@
 use super::super::part_of_total::{self, Part};
 use super::{book, nearest_ug, FUEL, GAS, LARGE, SMALL};
 use crate::draft::{
-    Analysed, Draft, FuelLine, LEAST_MVC, LONGEST_BOOK, MOST_AMOUNT, MOST_CARBON, MOST_WEIGHT, SETS,
+    Analysed, Draft, FuelLine, FULL_BOOK, LEAST_MVC, MOST_AMOUNT, MOST_CARBON, MOST_WEIGHT, SETS,
 };
 use crate::exchange::{Exchange, Outcome};
 use crate::expectation::{self, Field};
@@ -57,7 +57,7 @@ fn largest(exchange: &mut Exchange, rng: &mut Random) -> Outcome<()> {
         ..PURE
     };
     let mut draft = book(Vec::new(), &[fuel]);
-    draft.records = vec![LARGEST.line(); draft.room(LONGEST_BOOK)];
+    draft.records = vec![LARGEST.line(); draft.room(FULL_BOOK)];
     let kg = 3_664_000_000 * draft.records.len() as u64;
     for set in SETS {
         let book = draft.under(set);
@@ -77,7 +77,7 @@ fn every_weight(exchange: &mut Exchange, rng: &mut Random) -> Outcome<()> {
     for mvc in [21_984, 24_064, 23_685] {
         let fuel = FuelLine { mvc, ..PURE };
         let mut draft = book(Vec::new(), &[fuel]);
-        let weights = 1..=draft.room(LONGEST_BOOK) as u32;
+        let weights = 1..=draft.room(FULL_BOOK) as u32;
         let gases = weights.map(|weight| Analysed {
             unit: if weight % 2 == 0 { LARGE } else { SMALL },
             fuel: PURE.number,

@@ -2,7 +2,7 @@
 //! totals as large as hours make them.
 
 use super::{book, counted, held, DRY, WET};
-use crate::draft::{hour, with_moisture, Burnt, Draft, FuelLine, Line, LONGEST_BOOK};
+use crate::draft::{hour, with_moisture, Burnt, Draft, FuelLine, Line, FULL_BOOK};
 use crate::exchange::{Exchange, Outcome};
 use crate::expectation::{Expectation, Field};
 use crate::job;
@@ -102,7 +102,7 @@ fn burnt(fuel: u16) -> Vec<Line> {
 
 fn largest(exchange: &mut Exchange, rng: &mut Random, moisture: u16, kg: u64) -> Outcome<()> {
     let line = with_moisture(hour(DRY, 8_784, PERCENT_LIMIT, FLOW_LIMIT), moisture);
-    let hours = book(Vec::new()).room(LONGEST_BOOK);
+    let hours = book(Vec::new()).room(FULL_BOOK);
     let book = book(vec![line; hours]).bytes();
     let printed = vec![Field::Number.is(0), Field::FossilKg.is(kg * hours as u64)];
     job::whole(exchange, rng, &book, printed)?;

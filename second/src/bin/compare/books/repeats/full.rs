@@ -1,7 +1,7 @@
 //! Full books in which every hour is another, and ones in which hours or anodes are
 //! repeated, as near to each other and as far apart as can be.
 
-use crate::draft::{LAST_HOUR, LAST_MONTH, LINE, LONGEST_BOOK};
+use crate::draft::{FULL_BOOK, LAST_HOUR, LAST_MONTH, LINE};
 use crate::exchange::{Exchange, Outcome};
 use crate::expectation::{withheld, Expectation, Field};
 use crate::job;
@@ -166,7 +166,7 @@ pub fn run(exchange: &mut Exchange, rng: &mut Random) -> Outcome<()> {
 
 impl Filling {
     fn count(&self) -> u16 {
-        (LONGEST_BOOK / LINE) as u16 - 1 - self.units
+        (FULL_BOOK / LINE) as u16 - 1 - self.units
     }
 
     fn records(&self) -> Vec<(Kind, Key)> {

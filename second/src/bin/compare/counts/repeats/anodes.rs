@@ -5,7 +5,7 @@ use second::bytes::{u16_at, u32_at};
 use super::asked::{impurities, key, number, unit, Asked};
 use super::records::Tables;
 use crate::draft::{
-    ANODES, DRY, HOUR, LAST_MONTH, LONGEST_BOOK, MONITORED, MOST_IMPURITY, MOST_METAL, MOST_USE,
+    ANODES, DRY, FULL_BOOK, HOUR, LAST_MONTH, MONITORED, MOST_IMPURITY, MOST_METAL, MOST_USE,
 };
 
 pub const TABLES: Tables = Tables {
@@ -83,7 +83,7 @@ pub const TABLES: Tables = Tables {
         ("on a dry unit", |asked| {
             asked.flags() == Some(MONITORED | DRY)
         }),
-        ("in a full book", |asked| asked.book.len() == LONGEST_BOOK),
+        ("in a full book", |asked| asked.book.len() == FULL_BOOK),
     ],
     other_reasons: &[
         ("1", |asked| asked.reason == 1),

@@ -4,7 +4,7 @@ use second::bytes::u16_at;
 
 use super::asked::{has_nan, is_in_form, key, moisture, number, unit};
 use super::records::Tables;
-use crate::draft::{ANODES, HOUR, LAST_HOUR, LONGEST_BOOK, MOST_MOISTURE};
+use crate::draft::{ANODES, FULL_BOOK, HOUR, LAST_HOUR, MOST_MOISTURE};
 
 pub const TABLES: Tables = Tables {
     names: ["repeat", "repeat with reason", "counted after"],
@@ -66,7 +66,7 @@ pub const TABLES: Tables = Tables {
         ("of hour 8,784", |asked| number(asked.line()) == LAST_HOUR),
         ("of unit 1", |asked| unit(asked.line()) == 1),
         ("of unit 65,535", |asked| unit(asked.line()) == u16::MAX),
-        ("in a full book", |asked| asked.book.len() == LONGEST_BOOK),
+        ("in a full book", |asked| asked.book.len() == FULL_BOOK),
     ],
     other_reasons: &[
         ("1", |asked| asked.reason == 1),

@@ -2,7 +2,7 @@
 //! their start, their middle and near their end.
 
 use super::book;
-use crate::draft::{LAST_HOUR, LAST_MONTH, LINE, LONGEST_BOOK};
+use crate::draft::{FULL_BOOK, LAST_HOUR, LAST_MONTH, LINE};
 use crate::exchange::{Exchange, Outcome};
 use crate::job::{self, CHECKPOINT};
 use crate::random::Random;
@@ -57,7 +57,7 @@ pub fn small_books(exchange: &mut Exchange, rng: &mut Random) -> Outcome<()> {
 pub fn full_books(exchange: &mut Exchange, rng: &mut Random) -> Outcome<()> {
     for (name, units, filling) in FILLINGS {
         exchange.case(format!("wakes of one budget over a full book, {name}"));
-        let count = (LONGEST_BOOK / LINE) as u16 - 1 - units;
+        let count = (FULL_BOOK / LINE) as u16 - 1 - units;
         let record = |place| -> Judged {
             let (kind, key) = filling(place, count);
             (kind.record(key), COUNTED)
