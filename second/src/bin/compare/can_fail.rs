@@ -4,6 +4,8 @@
 mod caught;
 mod analysed_gas;
 mod anodes;
+mod frames;
+mod large_books;
 mod repeats;
 
 use std::io::{self, Read, Write};
@@ -15,7 +17,9 @@ use second::replay::serve;
 
 use crate::link::Connection;
 use crate::run::{Run, Settings};
-use crate::{books, counts, damage, histories, run_group, Group, GROUPS};
+use crate::{
+    books, counts, damage, histories, large_books as large, run_group, run_groups, Group, GROUPS,
+};
 
 type Peer = fn(&Frame) -> Answer;
 
@@ -50,7 +54,7 @@ fn new_run() -> Run {
 
 /// Parts of groups, for peers that nothing else in the group could catch, or not as
 /// soon.
-const PARTS: [(&str, Group); 10] = [
+const PARTS: [(&str, Group); 16] = [
     ("books of analysed gas", books::analysed_gas::run),
     ("books of anodes", books::anodes::run),
     ("books of repeats", books::repeats::run),
@@ -61,6 +65,12 @@ const PARTS: [(&str, Group); 10] = [
     ("wakes over analysed gas", histories::analysed_gas::run),
     ("wakes over repeats", histories::repeats::run),
     ("wakes over full books", histories::repeats::full_books),
+    ("lengths of large books", large::lengths::run),
+    ("repeats in large books", large::repeats::run),
+    ("ledgers of large books", large::ledgers::run),
+    ("wakes over large books", large::wakes::run),
+    ("checkpoints of another length", large::wakes::foreign),
+    ("checkpoints of large books", large::checkpoints::run),
 ];
 
 /// Those of these groups in which a peer fails. One that it passes runs to its end and
@@ -85,9 +95,7 @@ const ALL: [&str; 5] = ["worked", "books", "damage", "histories", "public-figure
 #[test]
 fn the_right_peer_passes_every_group_and_every_count() {
     let mut run = new_run();
-    for (name, group) in GROUPS {
-        run_group(&mut run, name, group, peer(answer));
-    }
+    run_groups(&mut run, || peer(answer));
     counts::tell(&mut run);
     assert_eq!(run.failed, 0);
     assert!(run.passed > 200);

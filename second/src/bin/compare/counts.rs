@@ -2,6 +2,7 @@
 
 mod analysed_gas;
 mod anodes;
+mod large_books;
 mod low_heat;
 mod moisture;
 mod repeats;
@@ -20,6 +21,7 @@ use crate::run::Run;
 use crate::specials::{class, is_usable, CLASSES, FLOW_LIMIT, PERCENT_LIMIT};
 use analysed_gas::AnalysedGasCounts;
 use anodes::AnodeCounts;
+use large_books::LargeBookCounts;
 use low_heat::LowHeatCounts;
 use moisture::MoistureCounts;
 use repeats::asked::Asked;
@@ -42,6 +44,8 @@ pub struct Counts {
     calls: [u64; 4],
     numbers: [u64; NUMBERS.len()],
     numbers_of_left: [u64; NUMBERS_OF_LEFT.len()],
+    /// More than 16 bits count.
+    many_left: u64,
     reasons_of_records: [u64; 8],
     reasons_of_refusals: [u64; 8],
     methods: [u64; METHODS.len()],
@@ -50,6 +54,7 @@ pub struct Counts {
     flows: [u64; CLASSES.len()],
     analysed_gas: AnalysedGasCounts,
     anodes: AnodeCounts,
+    large_books: LargeBookCounts,
     low_heat: LowHeatCounts,
     moisture: MoistureCounts,
     repeats: RepeatCounts,
@@ -93,9 +98,14 @@ impl Counts {
         let question = Question::of(frame);
         if question.call == Call::Left as u8 {
             // Or the numbers of this call would stand for those of the others.
-            return add_at(&mut self.numbers_of_left, &NUMBERS_OF_LEFT, number);
+            add_at(&mut self.numbers_of_left, &NUMBERS_OF_LEFT, number);
+            self.many_left += u64::from(u32_at(&answer.head, 4) >= 65_536);
+            return;
         }
         self.calls[usize::from(question.call) - 1] += 1;
+        self.large_books.count_frame(frame);
+        self.large_books
+            .count(&question, answer, self.latest.as_ref());
         self.warming.count(&question, answer, self.latest.as_ref());
         self.repeats.count(&question, answer, self.latest.as_ref());
         self.analysed_gas
@@ -109,6 +119,11 @@ impl Counts {
             self.moisture.count_unit_lines(question.book);
         }
         self.remember(&question, answer);
+    }
+
+    /// Counts a head that the other program stopped at, as the first of these bytes.
+    pub fn count_stop(&mut self, bytes: &[u8]) {
+        self.large_books.count_stop(bytes);
     }
 
     /// The checkpoint that a call has made.
@@ -210,10 +225,13 @@ impl Counts {
         table.extend(self.analysed_gas.table());
         table.extend(self.repeats.table());
         table.extend(self.warming.table());
+        table.extend(self.large_books.table());
         if asks_left {
             let numbers = NUMBERS_OF_LEFT.iter().map(u8::to_string);
             let rows = numbers.zip(self.numbers_of_left).collect();
             table.push(("records left, number", rows));
+            let many = ("65,536 or more".to_string(), self.many_left);
+            table.push(("records left,", vec![many]));
         }
         table
     }

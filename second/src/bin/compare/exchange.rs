@@ -109,6 +109,23 @@ impl<'a> Exchange<'a> {
         Ok(answer)
     }
 
+    /// Sends bytes that begin with a head which breaks the rules. The other program must
+    /// stop there by itself, after its answers to what was sent before and without any
+    /// more.
+    pub fn stop(&mut self, bytes: Vec<u8>) -> Outcome<()> {
+        let bytes = Arc::new(bytes);
+        self.link.send(bytes.clone());
+        self.settle_waiting()?;
+        if let Err(trouble) = self.link.wait_for_its_end() {
+            self.run.fell_silent |= matches!(trouble, Trouble::Silent(_));
+            return self.state(false, &format!("it doesn't stop: {trouble}"));
+        }
+        if self.run.settings.keeps_counts {
+            self.run.counts.count_stop(&bytes);
+        }
+        Ok(())
+    }
+
     /// A statement that no single frame shows, within the current case.
     pub fn state(&mut self, holds: bool, statement: &str) -> Outcome<()> {
         if holds {
@@ -131,10 +148,15 @@ impl<'a> Exchange<'a> {
         }
     }
 
-    fn settle_all(&mut self) -> Outcome<()> {
+    fn settle_waiting(&mut self) -> Outcome<()> {
         while !self.waiting.is_empty() {
             self.settle_one()?;
         }
+        Ok(())
+    }
+
+    fn settle_all(&mut self) -> Outcome<()> {
+        self.settle_waiting()?;
         match self.link.close() {
             Ok(()) => Ok(()),
             Err(trouble) => self.state(false, &trouble.to_string()),

@@ -1,10 +1,10 @@
 //! Group 4: wakes of all budgets from all sorts of checkpoints.
 
 pub mod analysed_gas;
-mod breakages;
+pub mod breakages;
 mod changed_set;
 mod dry_units;
-mod made_up;
+pub mod made_up;
 pub mod repeats;
 mod smallest;
 
@@ -137,7 +137,12 @@ fn foreign(exchange: &mut Exchange, rng: &mut Random) -> Outcome<()> {
 
 /// A checkpoint of one book brought to another, as it is and with the other's
 /// length or year, or both, written into it.
-fn brought(exchange: &mut Exchange, rng: &mut Random, one: &Draft, other: &Draft) -> Outcome<()> {
+pub fn brought(
+    exchange: &mut Exchange,
+    rng: &mut Random,
+    one: &Draft,
+    other: &Draft,
+) -> Outcome<()> {
     let (home, abroad) = (one.bytes(), other.bytes());
     let start = job::fresh(exchange, &home, &rng.junk(CHECKPOINT))?;
     let budget = budget(rng);

@@ -103,6 +103,11 @@ impl Link {
     /// Ends the other program's input; nothing more may come from it.
     pub fn close(&mut self) -> Result<(), Trouble> {
         self.frames = None;
+        self.wait_for_its_end()
+    }
+
+    /// The end of the other program's output, whatever its input; nothing may come before.
+    pub fn wait_for_its_end(&mut self) -> Result<(), Trouble> {
         let mut surplus = self.received.len() - self.taken;
         while let Some(chunk) = self.next_chunk()? {
             surplus += chunk.len();

@@ -13,8 +13,10 @@ mod draft;
 mod exact;
 mod exchange;
 mod expectation;
+mod frames;
 mod histories;
 mod job;
+mod large_books;
 mod link;
 mod molar_halves;
 mod near_halves;
@@ -44,12 +46,14 @@ const LONG: usize = 25;
 
 type Group = fn(&mut Exchange, &mut Random) -> Outcome<()>;
 
-const GROUPS: [(&str, Group); 5] = [
+const GROUPS: [(&str, Group); 7] = [
     ("worked", worked::run),
     ("books", books::run),
     ("damage", damage::run),
     ("histories", histories::run),
     ("public-figures", public_figures::run),
+    ("large-books", large_books::run),
+    ("frames", frames::run),
 ];
 
 fn main() -> ExitCode {
@@ -61,9 +65,7 @@ fn main() -> ExitCode {
     println!("seed {}", settings.seed);
     let begun = Instant::now();
     let mut run = Run::new(settings);
-    for (name, group) in GROUPS {
-        run_group(&mut run, name, group, link::start(command));
-    }
+    run_groups(&mut run, || link::start(command));
     counts::tell(&mut run);
     let seconds = begun.elapsed().as_secs_f32();
     println!("{} calls compared in {seconds:.1} s", run.calls);
@@ -101,8 +103,24 @@ fn parse(arguments: &[String]) -> Option<(Settings, &[String])> {
 }
 
 /// Every group begins with the other program started anew, so that a group
-/// that fails leaves the next one undisturbed.
-fn run_group(run: &mut Run, name: &'static str, group: Group, other: io::Result<Connection>) {
+/// that fails leaves the next one undisturbed. A head that it stops at ends a
+/// group.
+fn run_groups(run: &mut Run, start: impl Fn() -> io::Result<Connection>) {
+    for (name, group) in GROUPS {
+        run_group(run, name, group, start());
+    }
+    for stop in &frames::STOPS {
+        let group = |exchange: &mut Exchange, _: &mut Random| stop.run(exchange);
+        run_group(run, "frames", group, start());
+    }
+}
+
+fn run_group(
+    run: &mut Run,
+    name: &'static str,
+    group: impl FnOnce(&mut Exchange, &mut Random) -> Outcome<()>,
+    other: io::Result<Connection>,
+) {
     if run.fell_silent {
         let remark = ": left out, for it fell silent before";
         return run.tell(name, "the other program answers", false, remark);

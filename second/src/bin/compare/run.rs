@@ -33,7 +33,7 @@ impl Default for Settings {
             asks_left: false,
             patience: Duration::from_secs(60),
             most_failures: 10,
-            most_bytes_under_way: 4 << 20,
+            most_bytes_under_way: 16 << 20,
             keeps_counts: true,
             failures_folder: PathBuf::from("target/second-failures"),
         }

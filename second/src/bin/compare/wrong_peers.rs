@@ -3,6 +3,8 @@
 mod analysed_gas;
 mod anodes;
 mod calls;
+mod frames;
+mod large_books;
 mod low_heat;
 mod moisture;
 mod records;
@@ -14,6 +16,8 @@ mod warming;
 pub use analysed_gas::*;
 pub use anodes::*;
 pub use calls::*;
+pub use frames::*;
+pub use large_books::*;
 pub use low_heat::*;
 pub use moisture::*;
 pub use records::*;

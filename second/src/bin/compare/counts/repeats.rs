@@ -10,6 +10,7 @@ mod wakes;
 
 use second::answer::Answer;
 
+use super::large_books::is_large;
 use super::{Made, Question, Rows};
 use crate::repeats::Kind;
 use asked::Asked;
@@ -35,8 +36,13 @@ impl Default for RepeatCounts {
     }
 }
 
+/// Of large books others are counted, for to look back from each record, and again for each
+/// row, takes too long there.
 impl RepeatCounts {
     pub fn count_record(&mut self, kind: Kind, asked: &Asked) {
+        if is_large(asked.book) {
+            return;
+        }
         match kind {
             Kind::Hours => self.hours.count(asked),
             Kind::Anodes => self.anodes.count(asked),
@@ -45,6 +51,9 @@ impl RepeatCounts {
 
     /// Counts a call, before what it made is the latest.
     pub fn count(&mut self, question: &Question, answer: &Answer, latest: Option<&Made>) {
+        if is_large(question.book) {
+            return;
+        }
         for wakes in &mut self.wakes {
             wakes.count(question, answer, latest);
         }

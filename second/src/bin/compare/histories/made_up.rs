@@ -54,7 +54,7 @@ fn use_sound(
 }
 
 /// A random sound checkpoint, often of a finished run with none set aside.
-fn sound(rng: &mut Random, draft: &Draft) -> Vec<u8> {
+pub fn sound(rng: &mut Random, draft: &Draft) -> Vec<u8> {
     let count = draft.records.len() as u64;
     let done = match rng.below(3) {
         0 => rng.below(count + 1),
