@@ -25,10 +25,10 @@ fn is_caught_by(program: Program, name: &str) -> bool {
     let mut run = new_run();
     run.settings.most_failures = 1;
     run.settings.keeps_counts = false;
-    // A program that waits for what never comes is silent for good.
-    run.settings.patience = Duration::from_secs(1);
     match frames::STOPS.iter().find(|stop| stop.name == name) {
         Some(stop) => {
+            // A program that waits for what never comes is silent for good.
+            run.settings.patience = Duration::from_millis(300);
             let group = |exchange: &mut Exchange, _: &mut Random| stop.run(exchange);
             run_group(&mut run, FRAMES, group, connect(program));
         }

@@ -27,6 +27,9 @@ caught! {
     tells_the_records_left_in_16_bits by [WAKES];
     goes_through_65_535_records_at_most by [LENGTHS, REPEATS, LEDGERS, WAKES];
     knows_65_536_records by [LENGTHS, REPEATS];
+    finds_lines_by_16_bits_of_their_place by [LENGTHS, REPEATS, WAKES];
+    finds_lines_by_16_bits_of_their_byte by [LENGTHS, REPEATS, WAKES];
+    tells_of_the_record_in_the_lower_half_of_the_index by [LENGTHS, REPEATS];
     asks_16_bits_of_the_length by [OTHER_LENGTHS, CHECKPOINTS];
     believes_the_tonnes_of_a_full_book_alone by [LEDGERS];
     tells_figures_in_48_bits by [LEDGERS];

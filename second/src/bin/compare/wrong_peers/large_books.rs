@@ -2,10 +2,12 @@
 
 mod counts;
 mod lengths;
+mod lines;
 mod repeats;
 
 pub use counts::*;
 pub use lengths::*;
+pub use lines::*;
 pub use repeats::*;
 
 use crate::draft::FULL_BOOK;
