@@ -227,13 +227,21 @@ impl Counts {
         table.extend(self.warming.table());
         table.extend(self.large_books.table());
         if asks_left {
-            let numbers = NUMBERS_OF_LEFT.iter().map(u8::to_string);
-            let rows = numbers.zip(self.numbers_of_left).collect();
-            table.push(("records left, number", rows));
-            let many = ("65,536 or more".to_string(), self.many_left);
-            table.push(("records left,", vec![many]));
+            table.extend(self.table_of_left());
         }
         table
+    }
+
+    fn table_of_left(&self) -> [(&'static str, Rows); 2] {
+        let numbers = NUMBERS_OF_LEFT.iter().map(u8::to_string);
+        let many = ("65,536 or more".to_string(), self.many_left);
+        [
+            (
+                "records left, number",
+                numbers.zip(self.numbers_of_left).collect(),
+            ),
+            ("records left,", vec![many]),
+        ]
     }
 }
 

@@ -4,7 +4,7 @@
 use second::answer::{Call, Frame};
 use second::replay::{encode, FRAME_HEAD, MOST_BYTES};
 
-use crate::draft::{put, Draft, LONGEST_BOOK};
+use crate::draft::{put, Draft, FIRST_SET, LONGEST_BOOK};
 use crate::exchange::{Exchange, Outcome};
 use crate::expectation::Field;
 use crate::job::{self, CHECKPOINT};
@@ -50,7 +50,7 @@ fn small_book() -> Draft {
         units: monitored([1]),
         fuels: Vec::new(),
         year: 2016,
-        warming_set: 0,
+        warming_set: FIRST_SET,
     }
 }
 
@@ -66,7 +66,7 @@ fn frame(call: Call, parts: &[Vec<u8>; 3]) -> Frame<'_> {
 }
 
 /// Every call with each part in turn as long as `length` says beside the others, in which
-/// nothing is wrong. A book is never as long as that.
+/// nothing is wrong. It is no length that a book may have.
 fn each_part(
     exchange: &mut Exchange,
     rng: &mut Random,
@@ -127,27 +127,27 @@ const fn followed(name: &'static str, lengths: [u32; 3]) -> Stop {
     }
 }
 
+const SHORT: u32 = CHECKPOINT as u32;
+/// A byte too many beside two short parts.
+const LONG: u32 = MOST_BYTES + 1 - 2 * SHORT;
+/// A third of 5,242,881.
+const LIKE: u32 = 1_747_627;
+
 pub const STOPS: [Stop; 10] = [
     stop("a byte too many, all of it book", [MOST_BYTES + 1, 0, 0]),
-    stop(
-        "a byte too many, mostly book",
-        [MOST_BYTES - 191, CHECKPOINT as u32, CHECKPOINT as u32],
-    ),
-    stop(
-        "a byte too many, mostly checkpoint",
-        [96, MOST_BYTES - 191, 96],
-    ),
+    stop("a byte too many, mostly book", [LONG, SHORT, SHORT]),
+    stop("a byte too many, mostly checkpoint", [SHORT, LONG, SHORT]),
     stop(
         "a byte too many, mostly output buffer",
-        [96, 96, MOST_BYTES - 191],
+        [SHORT, SHORT, LONG],
     ),
     followed(
         "a byte too many, with a frame behind it",
-        [MOST_BYTES - 191, 96, 96],
+        [LONG, SHORT, SHORT],
     ),
     followed(
         "a byte too many in three like parts, with a frame behind it",
-        [1_747_627, 1_747_627, 1_747_627],
+        [LIKE; 3],
     ),
     stop("one part as long as can be", [0, 0, u32::MAX]),
     stop("all parts as long as can be", [u32::MAX; 3]),

@@ -24,6 +24,8 @@ const SPARE_UNIT: u16 = UNITS;
 /// So many records are more than 16 bits count.
 const PAST_16_BITS: usize = 65_536;
 
+const YEAR: u16 = 2016;
+
 pub fn run(exchange: &mut Exchange, rng: &mut Random) -> Outcome<()> {
     lengths::run(exchange, rng)?;
     repeats::run(exchange, rng)?;
@@ -66,7 +68,7 @@ fn draft_of(records: Vec<Line>) -> Draft {
         records,
         units: monitored(1..=UNITS),
         fuels: Vec::new(),
-        year: 2016,
+        year: YEAR,
         warming_set: FIRST_SET,
     }
 }

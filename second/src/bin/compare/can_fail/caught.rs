@@ -1,4 +1,4 @@
-//! Programs that are wrong about anything but anodes and what stands in a book twice.
+//! Programs that are wrong about anything that has no file of its own here.
 
 use super::{caught_by, ALL};
 use crate::wrong_peers;

@@ -4,7 +4,7 @@
 use second::answer::{Call, Frame};
 use second::bytes::u32_at;
 
-use super::{hours_up_to, PAST_16_BITS};
+use super::{hours_up_to, PAST_16_BITS, YEAR};
 use crate::draft::{put, Draft, LINE};
 use crate::exchange::{Exchange, Outcome};
 use crate::expectation::{withheld, Field};
@@ -13,12 +13,13 @@ use crate::histories::made_up::{sound, LEDGERS, TONNES_PER_RECORD};
 use crate::job::{self, CHECKPOINT};
 use crate::random::Random;
 
-/// Where a checkpoint counts records, and where it has the length of its book.
+/// Where a checkpoint counts records, and where it has the length and year of its book.
 const DONE: usize = 0;
 const ASIDE: usize = 4;
 const FIRST: usize = 8;
 const REASON: usize = 12;
 const LENGTH: usize = 80;
+const YEAR_PLACE: usize = 84;
 
 const EDGES: [u32; 3] = [65_535, 65_536, 65_537];
 const UNSOUND: u64 = 31;
@@ -44,7 +45,7 @@ pub fn run(exchange: &mut Exchange, rng: &mut Random) -> Outcome<()> {
         breaking(rng, &mut checkpoint, count);
         unsound(exchange, rng, &book, &checkpoint)?;
     }
-    past_by_little(exchange, rng, &draft)
+    off_by_little(exchange, rng, &draft)
 }
 
 /// So many done and set aside, the first for reason 4, and as many tonnes as are sound.
@@ -59,7 +60,7 @@ fn counting(book: &[u8], [done, aside, first]: [u32; 3]) -> Vec<u8> {
         put(&mut checkpoint, ledger, &tonnes.to_le_bytes());
     }
     put(&mut checkpoint, LENGTH, &(book.len() as u32).to_le_bytes());
-    put(&mut checkpoint, 84, &2016u16.to_le_bytes());
+    put(&mut checkpoint, YEAR_PLACE, &YEAR.to_le_bytes());
     checkpoint
 }
 
@@ -75,10 +76,8 @@ fn gone_on(
     job::wake(exchange, book, checkpoint, 1, &junk)?;
     let end = job::wake(exchange, book, checkpoint, u32::MAX, &junk)?;
     let first = u64::from(u32_at(checkpoint, FIRST));
-    exchange.hold(
-        &job::report_frame(book, &end.output, &[]),
-        withheld(first, 4),
-    )?;
+    let report = job::report_frame(book, &end.output, &[]);
+    exchange.hold(&report, withheld(first, 4))?;
     Ok(())
 }
 
@@ -101,9 +100,9 @@ fn unsound(
     Ok(())
 }
 
-/// Each count past the greatest that is sound, and the length past the right one and short
-/// of it, by one and by what 16 bits do not show.
-fn past_by_little(exchange: &mut Exchange, rng: &mut Random, draft: &Draft) -> Outcome<()> {
+/// Each count by one more than is sound, the length by a line more or less, and either by
+/// what 16 bits don't show.
+fn off_by_little(exchange: &mut Exchange, rng: &mut Random, draft: &Draft) -> Outcome<()> {
     exchange.case("checkpoints of large books unsound by 1, by 32 and by 65,536");
     let book = draft.bytes();
     let (count, length) = (draft.records.len() as u32, book.len() as u32);

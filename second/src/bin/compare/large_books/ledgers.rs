@@ -1,6 +1,7 @@
 //! Ledgers at the largest that the longest book can reach, by its records and by a
 //! checkpoint that no wake made, and the figures that come of them.
 
+use super::YEAR;
 use crate::draft::{
     put, unit, Burnt, Draft, FuelLine, Line, FIRST_SET, LINE, LONGEST_BOOK, MOST_AMOUNT, MOST_HEAT,
     SETS,
@@ -66,7 +67,7 @@ fn largest(fuel: Filling) -> Draft {
         records: Vec::new(),
         units: vec![unit(1, false, 2_500)],
         fuels: vec![line(FOSSIL, 0), line(BIOMASS, 3)],
-        year: 2020,
+        year: YEAR,
         warming_set: FIRST_SET,
     };
     let record = |place| burnt(fuel(place));
@@ -103,11 +104,14 @@ fn told(draft: &Draft, set: u8) -> Vec<Expectation> {
 /// another; one more is not.
 fn made_up(exchange: &mut Exchange) -> Outcome<()> {
     exchange.case("the longest book, ledgers as large as is sound");
-    let mut draft = largest(|_| FOSSIL);
-    (draft.units, draft.fuels) = (Vec::new(), Vec::new());
-    draft.records = vec![[0; LINE]; draft.room(LONGEST_BOOK)];
-    let count = draft.records.len() as u64;
-    let tonnes = TONNES_PER_RECORD * count;
+    let draft = Draft {
+        records: vec![[0; LINE]; LONGEST_BOOK / LINE - 1],
+        units: Vec::new(),
+        fuels: Vec::new(),
+        year: YEAR,
+        warming_set: FIRST_SET,
+    };
+    let tonnes = TONNES_PER_RECORD * draft.records.len() as u64;
     for set in SETS {
         let book = draft.under(set);
         let checkpoint = all_done(&draft, tonnes);
@@ -126,19 +130,13 @@ fn made_up(exchange: &mut Exchange) -> Outcome<()> {
 }
 
 fn all_done(draft: &Draft, tonnes: u64) -> Vec<u8> {
+    let done = draft.records.len() as u32;
+    let rest = NG_PER_TONNE - 1;
     let mut checkpoint = vec![0; CHECKPOINT];
-    put(
-        &mut checkpoint,
-        0,
-        &(draft.records.len() as u32).to_le_bytes(),
-    );
+    put(&mut checkpoint, 0, &done.to_le_bytes());
     for ledger in LEDGERS {
         put(&mut checkpoint, ledger, &tonnes.to_le_bytes());
-        put(
-            &mut checkpoint,
-            ledger + 8,
-            &(NG_PER_TONNE - 1).to_le_bytes(),
-        );
+        put(&mut checkpoint, ledger + 8, &rest.to_le_bytes());
     }
     put(&mut checkpoint, 80, &(LONGEST_BOOK as u32).to_le_bytes());
     put(&mut checkpoint, 84, &draft.year.to_le_bytes());

@@ -4,7 +4,7 @@
 use second::answer::{Call, Frame, NO_SUCH_RECORD};
 use second::replay::MOST_BYTES;
 
-use super::{draft_of, hours, hours_up_to, PAST_16_BITS};
+use super::{draft_of, hours, hours_up_to, PAST_16_BITS, YEAR};
 use crate::draft::{
     put, unit, Draft, FuelLine, Line, FIRST_SET, FULL_BOOK, LINE, LONGEST_BOOK, MOST_HEAT,
 };
@@ -38,8 +38,8 @@ const RECORDS: [usize; 6] = [
     PAST_16_BITS + 1,
 ];
 
-/// Unit and fuel lines, and the number that they bring about. One more than 8 bits count
-/// must not pass for 64 of them, and there are no more numbers than 65,535.
+/// Unit and fuel lines, and the number that they bring about. 256 more than 64 are 64 in 8
+/// bits, and no more than 65,535 can have numbers that rise.
 const LINES: [(u16, u16, u64); 8] = [
     (64, 64, 0),
     (65, 64, 22),
@@ -51,8 +51,8 @@ const LINES: [(u16, u16, u64); 8] = [
     (0, u16::MAX, 23),
 ];
 
-/// Starts of unit and fuel lines in the longest book, of which those of the hours are
-/// given, and the number that they bring about.
+/// Makes other starts of unit and fuel lines out of those of the longest book, and the
+/// number that they bring about.
 type Starts = (fn([u32; 2]) -> [u32; 2], u64);
 
 const END: u32 = (LONGEST_BOOK - LINE) as u32;
@@ -109,6 +109,7 @@ fn accepted(exchange: &mut Exchange, rng: &mut Random, draft: &Draft) -> Outcome
     Ok(())
 }
 
+/// Every call, whatever its checkpoint.
 fn refused(exchange: &mut Exchange, rng: &mut Random, book: &[u8]) -> Outcome<()> {
     let junk = rng.junk(CHECKPOINT);
     for (call, argument) in [
@@ -170,7 +171,7 @@ fn listing(units: u16, fuels: u16) -> Draft {
         records: Vec::new(),
         units: (1..=units).map(|number| unit(number, true, 1)).collect(),
         fuels: (1..=fuels).map(|number| fuel(number).line()).collect(),
-        year: 2016,
+        year: YEAR,
         warming_set: FIRST_SET,
     };
     draft.records = hours(draft.room(LONGEST_BOOK));

@@ -14,6 +14,7 @@ use crate::random::Random;
 use crate::random_books;
 
 const BOOKS: usize = 3;
+/// So many records, wherever they stand, are asked for by themselves.
 const SAMPLES: usize = 6;
 /// What comes again comes out of so many records, which may lie anywhere.
 const WINDOW: usize = 30;

@@ -12,8 +12,8 @@ use crate::repeats::{monitored, of_reason, Kind, COUNTED, KINDS, REPEATED};
 /// The last place in a longest book of all units.
 const LAST: usize = LONGEST_BOOK / LINE - 2 - SPARE_UNIT as usize;
 
-/// The first of a pair and the later one. The records before 2,048 are those of a full
-/// book.
+/// Places of the first and the later of two that are alike. Those below 2,048 are such as
+/// a full book has.
 type Pair = (usize, usize);
 
 const PAIRS: [&[Pair]; 4] = [
@@ -43,14 +43,14 @@ pub fn run(exchange: &mut Exchange, rng: &mut Random) -> Outcome<()> {
             held(exchange, rng, kind, pairs)?;
         }
     }
-    exchange.case("the second half of the longest book as the first");
+    exchange.case("the second half of a book as the first");
     let draft = halves_alike();
     let half = draft.records.len() / 2;
-    fall(exchange, rng, &draft.bytes(), half)?;
+    whole(exchange, rng, &draft.bytes(), half)?;
     exchange.case("one hour alone in the longest book");
     let draft = one_alone();
     let last = draft.records.len() as u32 - 1;
-    fall(exchange, rng, &draft.bytes(), 1)?;
+    whole(exchange, rng, &draft.bytes(), 1)?;
     job::record(exchange, &draft.bytes(), last, of_reason(REPEATED))?;
     Ok(())
 }
@@ -66,6 +66,7 @@ fn alike(kind: Kind, pairs: &[Pair]) -> Vec<Line> {
     records
 }
 
+/// As long as can be with halves that have as many records.
 pub fn halves_alike() -> Draft {
     let mut draft = hours_up_to(LONGEST_BOOK);
     let half = draft.records.len() / 2;
@@ -81,12 +82,12 @@ fn one_alone() -> Draft {
     draft
 }
 
-/// The whole job, both of each pair by themselves, and wakes that begin with the later
-/// one or end with it.
+/// The whole job, both of each pair by themselves, and a wake up to the later one and one
+/// that goes through it alone.
 fn held(exchange: &mut Exchange, rng: &mut Random, kind: Kind, pairs: &[Pair]) -> Outcome<()> {
     let book = draft_of(alike(kind, pairs)).bytes();
     let first_repeat = pairs.iter().map(|(_, later)| *later).min();
-    fall(exchange, rng, &book, first_repeat.expect("there is a pair"))?;
+    whole(exchange, rng, &book, first_repeat.expect("there is a pair"))?;
     let junk = rng.junk(CHECKPOINT);
     let start = job::fresh(exchange, &book, &junk)?;
     for &(first, later) in pairs {
@@ -100,7 +101,7 @@ fn held(exchange: &mut Exchange, rng: &mut Random, kind: Kind, pairs: &[Pair]) -
 }
 
 /// The whole job, whose report is withheld for the first repeat.
-fn fall(exchange: &mut Exchange, rng: &mut Random, book: &[u8], first: usize) -> Outcome<()> {
+fn whole(exchange: &mut Exchange, rng: &mut Random, book: &[u8], first: usize) -> Outcome<()> {
     job::whole(exchange, rng, book, withheld(first as u64, REPEATED))?;
     Ok(())
 }
