@@ -3,7 +3,7 @@
 
 use crate::book::Book;
 use crate::checkpoint::{Checkpoint, LENGTH};
-use crate::record::judged_from;
+use crate::record::{judged_at, judged_from};
 use crate::refusal::Refusal;
 use crate::report::Report;
 
@@ -90,7 +90,7 @@ pub fn one_record(book: &[u8], index: u32) -> [u8; HEAD] {
         Err(refusal) => return refused(refusal),
     };
     let mut head = [0; HEAD];
-    match judged_from(&book, index).next() {
+    match judged_at(&book, index) {
         None => head[2] = NO_SUCH_RECORD,
         Some(Err(reason)) => head[1] = reason as u8,
         Some(Ok(addition)) => {

@@ -20,9 +20,9 @@ impl EarlierRecords {
     /// tells nothing of them.
     pub fn before(book: &Book, place: u32) -> EarlierRecords {
         let lines = book.records().take(place as usize);
-        EarlierRecords {
-            standing: lines.filter_map(kind_unit_and_number).collect(),
-        }
+        let mut standing = HashSet::with_capacity(place as usize);
+        standing.extend(lines.filter_map(kind_unit_and_number));
+        EarlierRecords { standing }
     }
 
     /// Goes through the next record, and tells whether it is one that stands in one
@@ -31,6 +31,17 @@ impl EarlierRecords {
         let record = kind_unit_and_number(line);
         record.is_some_and(|record| !self.standing.insert(record))
     }
+}
+
+/// The same of one record alone, which needs no set: each record before its place is held
+/// against it.
+pub fn stands_before(book: &Book, place: u32, line: &[u8]) -> bool {
+    let earlier = book.records().take(place as usize);
+    let record = kind_unit_and_number(line);
+    record.is_some()
+        && earlier
+            .map(kind_unit_and_number)
+            .any(|other| other == record)
 }
 
 /// As one number. Month 7 and hour 7 of a unit are not the same, so the kind is in it.
@@ -55,21 +66,19 @@ mod tests {
         line
     }
 
-    /// Each record held against every one before it, one by one, as the requirements
-    /// tell it; a set is only a faster way.
-    fn one_by_one(lines: &[[u8; LINE]]) -> Vec<bool> {
-        let is_same = |one: &[u8; LINE], other: &[u8; LINE]| {
-            let is_once = one[0] == MONITOR_HOUR || one[0] == ANODES;
-            is_once && one[0] == other[0] && one[2..4] == other[2..4] && one[6..8] == other[6..8]
-        };
-        let stands = |place: usize| {
-            let mut earlier = lines[..place].iter();
-            earlier.any(|other| is_same(&lines[place], other))
-        };
-        (0..lines.len()).map(stands).collect()
+    /// A book of nothing but these records.
+    fn book_of(lines: &[[u8; LINE]]) -> Vec<u8> {
+        let start = ((LINE * lines.len()) as u32).to_le_bytes();
+        let mut trailer = [0; LINE];
+        trailer[..6].copy_from_slice(b"STCB\x01\x00");
+        trailer[8..12].copy_from_slice(&start);
+        trailer[12..16].copy_from_slice(&start);
+        trailer[16..18].copy_from_slice(&2010u16.to_le_bytes());
+        [lines.concat(), trailer.to_vec()].concat()
     }
 
-    /// All orders of five records out of eight that share kinds, units and numbers.
+    /// All orders of five records out of eight that share kinds, units and numbers, and
+    /// sets that begin at any of them.
     #[test]
     fn the_set_tells_what_going_through_one_by_one_tells() {
         let choices = [
@@ -84,9 +93,13 @@ mod tests {
         ];
         for order in 0..8usize.pow(5) {
             let lines = [0, 3, 6, 9, 12].map(|bits| choices[order >> bits & 7]);
-            let mut earlier = EarlierRecords::default();
-            let told = lines.map(|line| earlier.go_through(&line));
-            assert_eq!(told[..], one_by_one(&lines), "order {order:o}");
+            let bytes = book_of(&lines);
+            let book = Book::read(&bytes).expect("the book is sound");
+            let mut earlier = EarlierRecords::before(&book, order as u32 % 5);
+            for (place, line) in (0..).zip(&lines).skip(order % 5) {
+                let one_by_one = stands_before(&book, place, line);
+                assert_eq!(earlier.go_through(line), one_by_one, "order {order:o}");
+            }
         }
     }
 

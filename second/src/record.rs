@@ -1,7 +1,7 @@
 //! One record: what it adds, or the reason why it is set aside.
 
 use crate::book::Book;
-use crate::earlier_records::EarlierRecords;
+use crate::earlier_records::{stands_before, EarlierRecords};
 use crate::{anodes, fuel_record, hour};
 
 /// Why a record is set aside; the values are the requirements', "first that
@@ -53,10 +53,21 @@ pub fn judged_from<'a>(book: &'a Book<'a>, place: u32) -> impl Iterator<Item = J
     let mut earlier = EarlierRecords::before(book, place);
     book.records().skip(place as usize).map(move |line| {
         let is_repeated = earlier.go_through(line);
-        judge(book, line).and_then(|addition| match is_repeated {
-            true => Err(Reason::Repeated),
-            false => Ok(addition),
-        })
+        unless_repeated(judge(book, line), is_repeated)
+    })
+}
+
+/// The record at `place`, if there is one, by itself and by what stands before it.
+pub fn judged_at(book: &Book, place: u32) -> Option<Judged> {
+    let line = book.records().nth(place as usize)?;
+    let is_repeated = stands_before(book, place, line);
+    Some(unless_repeated(judge(book, line), is_repeated))
+}
+
+fn unless_repeated(judged: Judged, is_repeated: bool) -> Judged {
+    judged.and_then(|addition| match is_repeated {
+        true => Err(Reason::Repeated),
+        false => Ok(addition),
     })
 }
 

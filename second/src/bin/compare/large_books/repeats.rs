@@ -18,18 +18,18 @@ type Pair = (usize, usize);
 
 const PAIRS: [&[Pair]; 4] = [
     &[(0, LAST)],
-    &[
-        (2_047, 2_048),
-        (PAST_16_BITS - 1, PAST_16_BITS),
-        (LAST - 1, LAST),
-    ],
+    &[(2_048, LAST - 1), (PAST_16_BITS, LAST)],
     &[
         (0, 2_048),
         (1, PAST_16_BITS + 1),
         (2_047, PAST_16_BITS),
         (PAST_16_BITS - 1, LAST),
     ],
-    &[(2_048, LAST - 1), (PAST_16_BITS, LAST)],
+    &[
+        (2_047, 2_048),
+        (PAST_16_BITS - 1, PAST_16_BITS),
+        (LAST - 1, LAST),
+    ],
 ];
 
 pub fn run(exchange: &mut Exchange, rng: &mut Random) -> Outcome<()> {
