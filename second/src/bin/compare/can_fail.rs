@@ -8,6 +8,7 @@ mod frames;
 mod large_books;
 mod repeats;
 
+use std::fs;
 use std::io::{self, Read, Write};
 use std::thread;
 use std::time::Duration;
@@ -17,6 +18,7 @@ use second::replay::serve;
 
 use crate::link::Connection;
 use crate::run::{Run, Settings};
+use crate::wrong_peers;
 use crate::{
     books, counts, damage, histories, large_books as large, run_group, run_groups, Group, GROUPS,
 };
@@ -47,7 +49,7 @@ fn new_run() -> Run {
     Run::new(Settings {
         asks_left: true,
         patience: Duration::from_secs(20),
-        failures_folder: std::env::temp_dir().join("second-failures-of-wrong-peers"),
+        failures_folder: None,
         ..Settings::default()
     })
 }
@@ -133,6 +135,19 @@ fn counts_of_nothing_fail() {
     assert_eq!(run.failed, 0);
     counts::tell(&mut run);
     assert!(run.failed > 0);
+}
+
+#[test]
+fn a_frame_that_fails_is_kept() {
+    let folder = std::env::temp_dir().join(format!("second-kept-{}", std::process::id()));
+    let mut run = new_run();
+    run.settings.most_failures = 1;
+    run.settings.failures_folder = Some(folder.clone());
+    let (name, group) = GROUPS[0];
+    run_group(&mut run, name, group, peer(wrong_peers::never_rounds_r_up));
+    let kept = fs::read_dir(&folder).expect("it was made").count();
+    fs::remove_dir_all(&folder).expect("it is still there");
+    assert_eq!(kept, 1);
 }
 
 /// How the first group goes with a program that does not keep to the frames.

@@ -189,20 +189,22 @@ impl<'a> Exchange<'a> {
     }
 
     fn fail_frame(&mut self, one: &Waiting, complaint: &str) -> Outcome<()> {
-        let seed = self.run.settings.seed;
-        let name = format!("seed-{seed}-{}-frame-{}", self.group, one.serial);
-        let path = self.run.settings.failures_folder.join(name);
-        let folder = &self.run.settings.failures_folder;
-        let kept = fs::create_dir_all(folder).and_then(|()| fs::write(&path, &**one.frame));
-        let where_kept = match kept {
-            Ok(()) => format!("frame kept in {}", path.display()),
-            Err(error) => format!("frame not kept in {}: {error}", path.display()),
-        };
         let serial = one.serial;
-        self.fail(
-            one.case,
-            &format!("frame {serial}: {complaint}; {where_kept}"),
-        )
+        let kept = self.keep(one);
+        self.fail(one.case, &format!("frame {serial}: {complaint}{kept}"))
+    }
+
+    /// Keeps a frame, and tells where.
+    fn keep(&self, one: &Waiting) -> String {
+        let Some(folder) = &self.run.settings.failures_folder else {
+            return String::new();
+        };
+        let seed = self.run.settings.seed;
+        let path = folder.join(format!("seed-{seed}-{}-frame-{}", self.group, one.serial));
+        match fs::create_dir_all(folder).and_then(|()| fs::write(&path, &**one.frame)) {
+            Ok(()) => format!("; frame kept in {}", path.display()),
+            Err(error) => format!("; frame not kept in {}: {error}", path.display()),
+        }
     }
 
     fn fail(&mut self, case: usize, complaint: &str) -> Outcome<()> {

@@ -91,7 +91,7 @@ fn parse(arguments: &[String]) -> Option<(Settings, &[String])> {
                 after
             }
             [option, folder, after @ ..] if option == "--keep" => {
-                settings.failures_folder = folder.into();
+                settings.failures_folder = Some(folder.into());
                 after
             }
             [end, command @ ..] if end == "--" && !command.is_empty() => {
@@ -158,7 +158,7 @@ mod tests {
             seed: 7,
             times: LONG,
             asks_left: true,
-            failures_folder: "kept".into(),
+            failures_folder: Some("kept".into()),
             ..Settings::default()
         };
         assert_eq!(all, Some((settings, command)));

@@ -22,7 +22,8 @@ pub struct Settings {
     pub most_bytes_under_way: usize,
     /// What was compared is counted; a run that is to fail needs no counts.
     pub keeps_counts: bool,
-    pub failures_folder: PathBuf,
+    /// Where frames that fail are kept; a run that is to fail needs none of them.
+    pub failures_folder: Option<PathBuf>,
 }
 
 impl Default for Settings {
@@ -35,7 +36,7 @@ impl Default for Settings {
             most_failures: 10,
             most_bytes_under_way: 16 << 20,
             keeps_counts: true,
-            failures_folder: PathBuf::from("target/second-failures"),
+            failures_folder: Some(PathBuf::from("target/second-failures")),
         }
     }
 }
