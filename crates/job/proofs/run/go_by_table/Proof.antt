@@ -1,5 +1,5 @@
--- Either table is blank and has a row for each unit line. Assumes nothing.
-use Prim.Native.Nat.{ℕ, _/_, _≤_}
+-- Each table is blank and has a row for each unit line. Assumes nothing.
+use Prim.Native.Nat.{ℕ, _*_, _/_, _≤_}
 use native.Mathlib.Omega.{arith}
 use mathlib.Core.Path.{ap, _∙_}
 use lib.Dec.{lit≤}
@@ -12,11 +12,11 @@ use Rattle.job.specs.Tally.{tallyOf}
 use Rattle.job.proofs.run.go_by_table.Statement.{statement}
 use Rattle.job.proofs.run.go_by_table.Tie as tie
 
-few-lines : {n m : ℕ} → n ≤ m → m ≤ 256 → n / 32 ≤ 8
+few-lines : {n m k : ℕ} → n ≤ m → m ≤ 32 * k → n / 32 ≤ k
 few-lines h l = omega arith
 
-sub-if1 : tie.Need-sub-if1
-sub-if1 c = accepted-facts _ _ (c .before .before .before .before .pre .0) .units-le
+sub-lines : tie.Need-sub-lines
+sub-lines c = accepted-facts _ _ (c .before .before .before .before .pre .0) .units-le
 
 slice-aggregate-go-noting : tie.Need-slice-aggregate-go-noting
 slice-aggregate-go-noting c = search needs
@@ -25,7 +25,7 @@ go-noting-requires : tie.Need-go-noting-requires
 go-noting-requires c κs =
     let begun = c .before .before .before .before .before .before in
     let p = begun .pre in
-    let few = few-lines (unitLines-length-le (begun .args .h) (begun .args .book .now)) (c .before .if1 .taken) in
+    let few = few-lines {k = 8} (unitLines-length-le (begun .args .h) (begun .args .book .now)) (c .before .if1 .taken) in
     (p .0, (p .1 .0, (p .1 .1 .0, (p .1 .1 .1, (isTable-blank _ 1104 8 few (lit≤ tt) (lit≤ tt), replicate-length 1104)))))
 
 settle-requires : tie.Need-settle-requires
@@ -39,9 +39,10 @@ slice-aggregate-go-noting-2 c = search needs
 
 go-noting-requires-2 : tie.Need-go-noting-requires-2
 go-noting-requires-2 c κs =
-    let p = c .before .before .before .before .before .before .pre in
-    let few = rising-linesSound unitOk _ (accepted-facts _ _ (p .0) .units-sound) .few in
-    (p .0, (p .1 .0, (p .1 .1 .0, (p .1 .1 .1, (isTable-blank _ 8832 64 few (lit≤ tt) (lit≤ tt), replicate-length 8832)))))
+    let begun = c .before .before .before .before .before .before .before in
+    let p = begun .pre in
+    let few = few-lines {k = 16} (unitLines-length-le (begun .args .h) (begun .args .book .now)) (c .before .if2 .taken) in
+    (p .0, (p .1 .0, (p .1 .1 .0, (p .1 .1 .1, (isTable-blank _ 2208 16 few (lit≤ tt) (lit≤ tt), replicate-length 2208)))))
 
 settle-requires-2 : tie.Need-settle-requires-2
 settle-requires-2 c κs = c .before .go-noting2 .ensures .1
@@ -49,14 +50,32 @@ settle-requires-2 c κs = c .before .go-noting2 .ensures .1
 returns-2 : tie.Need-returns-2
 returns-2 c = c .settle2 .ensures ∙ ap tallyOf (c .before .before .go-noting2 .ensures .0)
 
+slice-aggregate-go-noting-3 : tie.Need-slice-aggregate-go-noting-3
+slice-aggregate-go-noting-3 c = search needs
+
+go-noting-requires-3 : tie.Need-go-noting-requires-3
+go-noting-requires-3 c κs =
+    let p = c .before .before .before .before .before .before .before .pre in
+    let few = rising-linesSound unitOk _ (accepted-facts _ _ (p .0) .units-sound) .few in
+    (p .0, (p .1 .0, (p .1 .1 .0, (p .1 .1 .1, (isTable-blank _ 8832 64 few (lit≤ tt) (lit≤ tt), replicate-length 8832)))))
+
+settle-requires-3 : tie.Need-settle-requires-3
+settle-requires-3 c κs = c .before .go-noting3 .ensures .1
+
+returns-3 : tie.Need-returns-3
+returns-3 c = c .settle3 .ensures ∙ ap tallyOf (c .before .before .go-noting3 .ensures .0)
+
 pub go-by-table-spec : {M : Type 1} → statement M
 go-by-table-spec =
     tie.close
     (tie.spec
-    sub-if1
+    sub-lines
     slice-aggregate-go-noting
     go-noting-requires
     settle-requires returns
     slice-aggregate-go-noting-2
     go-noting-requires-2
-    settle-requires-2 returns-2)
+    settle-requires-2 returns-2
+    slice-aggregate-go-noting-3
+    go-noting-requires-3
+    settle-requires-3 returns-3)
