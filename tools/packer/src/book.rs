@@ -9,7 +9,7 @@ use crate::fuel::Fuel;
 use crate::record::Record;
 
 pub const LINE: usize = 32;
-pub const LENGTHS: RangeInclusive<usize> = LINE..=65_536;
+pub const LENGTHS: RangeInclusive<usize> = LINE..=4_194_304;
 
 const MOST_UNITS: usize = 64;
 const MOST_FUELS: usize = 64;

@@ -4,6 +4,7 @@ use crate::book::Book;
 use crate::bytes::{decode, encode};
 use crate::parse::parse;
 use crate::reasons::Account;
+use crate::repeats::Firsts;
 use crate::verdict::Verdict;
 use crate::write::record_line;
 
@@ -77,12 +78,13 @@ fn refused(name: &str, number: u8, refusal: &str) -> Explanation {
 }
 
 fn accepted(name: &str, book: &Book, reasons: &[Option<u8>], places: &[String]) -> Explanation {
+    let firsts = Firsts::of(book);
     let mut words = String::new();
     for (i, (record, reason)) in book.records().iter().zip(reasons).enumerate() {
         if let Some(reason) = *reason {
             let place = places.get(i).map_or(String::new(), |at| format!("{at}: "));
             let said = record_line(record);
-            let Account { why, remedy } = Account::of(reason, i, book, places);
+            let Account { why, remedy } = Account::of(reason, i, book, &firsts, places);
             words += &format!("{place}record {i}: {said}\n");
             words += &format!("  reason {reason}: {why}\n  to do: {remedy}\n");
         }

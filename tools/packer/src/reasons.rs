@@ -7,7 +7,7 @@ use crate::method::no_method;
 use crate::ranges::{beyond, low_of_other_class, more_than_all, no_gas_to_weigh};
 use crate::record::{Delivery, Hour, Record};
 use crate::record_bytes::form_fault;
-use crate::repeats::repeated;
+use crate::repeats::Firsts;
 
 /// What is said of a record that is set aside.
 pub struct Account {
@@ -16,11 +16,12 @@ pub struct Account {
 }
 
 impl Account {
-    /// Of the record at this index. The places are the records' own in the text, or none.
-    pub fn of(reason: u8, i: usize, book: &Book, places: &[String]) -> Account {
+    /// Of the record at this index. The firsts are the book's, and the places are the records' own
+    /// in the text, or none.
+    pub fn of(reason: u8, i: usize, book: &Book, firsts: &Firsts, places: &[String]) -> Account {
         let (why, remedy) = general(reason);
         let found = match reason {
-            8 => repeated(i, book, places),
+            8 => firsts.repeated(i, book, places),
             _ => particular(reason, &book.records()[i], book),
         };
         match found {

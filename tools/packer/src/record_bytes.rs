@@ -90,7 +90,7 @@ pub fn decode_record(line: &Line) -> Record {
 }
 
 /// What a book may have one record of.
-#[derive(PartialEq)]
+#[derive(PartialEq, Eq, Hash)]
 pub enum Once {
     Hour { unit: u16, hour: u16 },
     Anodes { unit: u16, month: u16 },

@@ -172,9 +172,9 @@ fn the_example_of_the_readme_is_true() {
     assert_eq!(explanation.words, shown_by(command));
 }
 
-/// Every record of a full book is counted and found, whichever are set aside.
+/// Every record of a long book is counted and found, whichever are set aside.
 #[test]
-fn a_full_book_is_counted_right() {
+fn a_long_book_is_counted_right() {
     let lines: Vec<String> = (0..2047)
         .map(|i| format!("# record {i}\nhour unit 1 hour {i} percent 1 flow 1\n"))
         .collect();

@@ -33,7 +33,7 @@ use dice::Dice;
 use folder::fresh_folder;
 use packer::{pack, unpack};
 use program::{names_in, run};
-use random_books::Sample;
+use random_books::{Sample, LONGEST};
 use random_lines::LINE;
 
 const BOOKS: usize = 3000;
@@ -61,6 +61,16 @@ fn a_random_book_gives_its_text() {
 #[test]
 fn a_random_text_gives_its_book() {
     each_random_book(|sample, _| assert_eq!(pack(sample.text().as_bytes()), Ok(sample.bytes())));
+}
+
+#[test]
+fn the_longest_book_gives_its_text_and_the_text_its_book() {
+    let sample = Sample::longest(&mut Dice::new(SEED));
+    let (bytes, text) = (sample.bytes(), sample.text());
+    assert_eq!(bytes.len(), LONGEST);
+    // Of so long a text, what differs is no line to print.
+    assert!(unpack(&bytes).is_ok_and(|unpacked| unpacked == text));
+    assert!(pack(text.as_bytes()).is_ok_and(|packed| packed == bytes));
 }
 
 #[test]

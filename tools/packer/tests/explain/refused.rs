@@ -28,7 +28,7 @@ fn a_refused_book_is_told_without_asking() {
     let cases = [
         (
             book_of(TEXT).content[1..].to_vec(),
-            "refused 20: 287 bytes are no book; that is a multiple of 32, 32 to 65536",
+            "refused 20: 287 bytes are no book; that is a multiple of 32, 32 to 4194304",
             NO_BOOK,
         ),
         (

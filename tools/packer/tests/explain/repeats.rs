@@ -246,3 +246,35 @@ fn the_first_is_told_with_its_line_of_the_text() {
         assert!(!explanation.is_clean);
     }
 }
+
+/// As many as a book can have, of 15 units. The second half is the first, turned round, so that
+/// each repeat is at another distance from its first, up to the whole book.
+#[test]
+fn every_repeat_of_a_longest_book_names_its_first() {
+    let (units, half) = (15, (131_071 - 15) / 2);
+    let unit = |number| format!("unit {number} rating 1 monitor\n");
+    let lists: String = (1..=units).map(unit).collect();
+    let hour = |i| format!("hour unit {} hour {}", 1 + i / 8_784, 1 + i % 8_784);
+    let order = (0..half).chain((0..half).rev());
+    let records = order.map(|i| format!("{} percent 1 flow 1\n", hour(i)));
+    let book = book_of(&format!(
+        "year 2010\n{lists}{}",
+        records.collect::<String>()
+    ));
+    let printed = (0..2 * half).map(|i| match i < half {
+        true => format!("record {i} {}\n", HOUR.counts),
+        false => format!("record {i} reason 8\n"),
+    });
+    let words = explained(&book, None, &printed.collect::<String>()).unwrap();
+    let said: Vec<&str> = words.words.lines().skip(1).collect();
+    assert_eq!(said.len(), 3 * half);
+    for (lines, first) in said.chunks(3).zip((0..half).rev()) {
+        let again = 2 * half - 1 - first;
+        assert!(lines[0].starts_with(&format!("record {again}: {} ", hour(first))));
+        assert!(
+            lines[1].contains(&format!(": record {first} has hour ")),
+            "{}",
+            lines[1]
+        );
+    }
+}

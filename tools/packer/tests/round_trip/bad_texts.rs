@@ -236,14 +236,14 @@ pub fn one_line_too_many() -> [(String, usize, &'static str); 3] {
     };
     let unit = |number| format!("unit {number} rating 1");
     let fuel = |number| format!("fuel {number} gas other co2 1 ch4 0 n2o 0");
-    let hour = |number| format!("hour unit 1 hour {number} percent 1 flow 1");
+    let hour = |number| format!("hour unit 1 hour {} percent 1 flow 1", number % 8785);
     [
         (numbered(unit, 65), 66, "at most 64 unit lines"),
         (numbered(fuel, 65), 66, "at most 64 fuel lines"),
         (
-            numbered(hour, 2048),
-            2049,
-            "the book is full: its 65536 bytes hold 2047",
+            numbered(hour, 131_072),
+            131_073,
+            "the book is full: its 4194304 bytes hold 131071",
         ),
     ]
 }

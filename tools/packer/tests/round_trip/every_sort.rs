@@ -3,7 +3,7 @@
 use std::collections::HashSet;
 
 use crate::each_random_book;
-use crate::random_books::LONGEST;
+use crate::random_books::LONG;
 
 #[test]
 fn random_books_are_of_every_sort() {
@@ -24,7 +24,7 @@ fn random_books_are_of_every_sort() {
     each_random_book(|sample, _| {
         warmings[usize::from(sample.warming)] += 1;
         no_records += u32::from(sample.records.is_empty());
-        full += u32::from(sample.bytes().len() == LONGEST);
+        full += u32::from(sample.bytes().len() == LONG);
         no_units += u32::from(sample.units.is_empty());
         most_units += u32::from(sample.units.len() == 64);
         most_fuels += u32::from(sample.fuels.len() == 64);

@@ -4,9 +4,11 @@ use crate::dice::Dice;
 use crate::random_lines::{fuel, unit, Said, LINE};
 use crate::random_records::SORTS;
 
-pub const LONGEST: usize = 65_536;
+pub const LONGEST: usize = 4_194_304;
 /// Beside the trailer.
 pub const MOST_LINES: usize = LONGEST / LINE - 1;
+/// Bytes of the longest among thousands of books. The longest that there is takes a second.
+pub const LONG: usize = 65_536;
 
 pub struct Sample {
     pub year: u64,
@@ -21,12 +23,24 @@ impl Sample {
     pub fn random(dice: &mut Dice) -> Sample {
         let units = rising(unit, dice);
         let fuels = rising(fuel, dice);
-        let room = MOST_LINES - units.len() - fuels.len();
+        let room = LONG / LINE - 1 - units.len() - fuels.len();
         let records = match dice.below(100) {
             0..=9 => 0,
             10..=11 => room,
             _ => dice.below(40) as usize,
         };
+        Sample::with_records(records, units, fuels, dice)
+    }
+
+    /// As long as a book may be.
+    pub fn longest(dice: &mut Dice) -> Sample {
+        let units = rising(unit, dice);
+        let fuels = rising(fuel, dice);
+        let room = MOST_LINES - units.len() - fuels.len();
+        Sample::with_records(room, units, fuels, dice)
+    }
+
+    fn with_records(records: usize, units: Vec<Said>, fuels: Vec<Said>, dice: &mut Dice) -> Sample {
         Sample {
             year: dice.within(2000, 2099),
             warming: dice.pick(&[0, 1]),

@@ -84,7 +84,7 @@ fn a_book_of_bad_size_is_refused_with_its_number() {
         (vec![], 20, "0 bytes are no book"),
         (BYTES[..LINE - 1].to_vec(), 20, "31 bytes are no book"),
         (BYTES[1..].to_vec(), 20, "127 bytes are no book"),
-        (sized(MOST_LINES + 1, 0, 0), 20, "65568 bytes are no book"),
+        (sized(MOST_LINES + 1, 0, 0), 20, "4194336 bytes are no book"),
         (
             sized(1, 65, 0),
             22,
