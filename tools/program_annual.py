@@ -1,17 +1,19 @@
 """What `annual` prints, held against the requirements' example, sums worked by hand and a report
 that was reckoned apart."""
+import contextlib
 import fcntl
 import itertools
 import os
 import re
+import socket
 import subprocess
 import sys
 import tempfile
 import termios
 import time
 
-from program_books import LONGEST, LINE, TONNE, book, fuel_line, fuel_record, pad, patch, report
-from program_books import trailer, unit_line
+from program_books import LINE, MOST_ANNUAL, TONNE, book, fuel_line, fuel_record, pad, patch
+from program_books import report, trailer, unit_line
 from program_runs import FAILED, MISUSED, PATIENCE, PLANT, ROOT, Answer, Wrong, expect
 from program_runs import expect_answer, expect_told, kill, turns
 
@@ -29,8 +31,9 @@ must-report no
 P1_MASSES = (1_900_000_000_000_000, 0, 34_200_000_000, 3_420_000_000)
 ONE = book()
 TRAILER = len(ONE) - LINE  # where it starts in this book
-ROOM = LONGEST // LINE - 3  # records, beside a unit, a fuel and the trailer
-FULL = book([fuel_record()] * ROOM)
+ROOM = MOST_ANNUAL // LINE - 3  # records, beside a unit, a fuel and the trailer
+FULL = book([fuel_record()] * ROOM)  # the longest that `annual` takes
+LONGER = book([fuel_record()] * (ROOM + 1))  # a right book, which the other programs take
 
 # What is refused, by number. Of two faults the smaller number is given.
 REFUSED = {
@@ -38,9 +41,6 @@ REFUSED = {
     "a line less a byte": (20, ONE[:LINE - 1]),
     "a book less its last byte": (20, ONE[:-1]),
     "a book and a byte": (20, ONE + b"\0"),
-    "a byte more than the longest book": (20, FULL + b"\0"),
-    "a line more than the longest book": (20, bytes(LINE) + FULL),
-    "twice the longest book": (20, FULL + FULL),
     "a line of zero bytes": (21, bytes(LINE)),
     "another signature": (21, patch(ONE, TRAILER, b"STCA")),
     "version 2": (21, patch(ONE, TRAILER + 4, b"\2")),
@@ -98,19 +98,44 @@ DECISIONS = {
 
 
 def in_pieces(programs, name, data, sizes):
-    """Runs with input that comes in pieces: each is sent when the one before has been read."""
+    """Runs with input that comes in pieces of these sizes, over and over."""
     reading, writing = os.pipe()
     process = programs.start(name, stdin=reading, stdout=subprocess.PIPE, stderr=subprocess.PIPE)
-    at = 0
-    for size in itertools.cycle(sizes):
-        if at >= len(data) or process.poll() is not None:
-            break
-        os.write(writing, data[at:at + size])
-        at += size
-        await_reading(process, reading)
+    feed(process, (reading, writing), data, sizes)
     os.close(writing)
     out, err = process.communicate(timeout=PATIENCE)
     os.close(reading)
+    return Answer(process.returncode, out, err)
+
+
+def feed(process, pipe, data, sizes):
+    """Sends pieces, each of which a pipe holds, when the one before has been read. One that isn't
+    read before the program ends is the last."""
+    reading, writing = pipe
+    at = 0
+    for size in itertools.cycle(sizes):
+        if at >= len(data) or process.poll() is not None:
+            return
+        os.write(writing, data[at:at + size])
+        at += size
+        await_reading(process, reading)
+
+
+CUT_OFF = b"standard input: Connection reset by peer\n"
+
+
+def cut_off(programs, name, data):
+    """Runs with these bytes, behind which a read fails: the sender goes without having read what
+    was sent to it. A program may end before it has read them all."""
+    sender, receiver = socket.socketpair()
+    with sender:
+        with receiver:
+            receiver.send(b"x")
+            process = programs.start(name, stdin=receiver, stdout=subprocess.PIPE,
+                                     stderr=subprocess.PIPE)
+        with contextlib.suppress(BrokenPipeError, ConnectionResetError):
+            sender.sendall(data)
+    out, err = process.communicate(timeout=PATIENCE)
     return Answer(process.returncode, out, err)
 
 
@@ -147,14 +172,48 @@ def try_reports(programs, cases):
     with cases.case("annual: examples/plant.book in odd pieces"):
         odd = [1, LINE - 1, LINE + 1, 7, 1025, 101]
         expect_told(in_pieces(programs, "annual", plant, odd), told)
-    with cases.case("annual: the longest book"):
-        masses = [ROOM * mass for mass in P1_MASSES]
-        expect_told(programs.run("annual", data=FULL), report(FULL, masses))
-    with cases.case("annual: the longest book in odd pieces"):
-        expect_told(in_pieces(programs, "annual", FULL, [4097, 1, 9999]), report(FULL, masses))
     with cases.case("annual: a trailer alone, whose totals are 0"):
         empty = trailer(0, 0, year=2099)
         expect_told(programs.run("annual", data=empty), report(empty, (0, 0, 0, 0)))
+
+
+# How a stream comes: in odd pieces, and with a stop before or after byte 65,536, where only another
+# read tells whether it goes on.
+PIECES = {"odd": [4097, 1, 9999], "65,536 first": [MOST_ANNUAL, 1, LINE],
+          "65,535 first": [MOST_ANNUAL - 1, 1, LINE]}
+
+
+def try_lengths(programs, cases):
+    """Books about the most that `annual` takes, however their bytes come. Whatever is longer is
+    refused for that, though a book may be longer."""
+    shorter = book([fuel_record()] * (ROOM - 1))
+    for of, count in ((shorter, ROOM - 1), (FULL, ROOM)):
+        told = report(of, [count * mass for mass in P1_MASSES])
+        with cases.case(f"annual: a book of {len(of)} bytes"):
+            expect_told(programs.run("annual", data=of), told)
+        for kind, sizes in PIECES.items():
+            with cases.case(f"annual: a book of {len(of)} bytes in pieces, {kind}"):
+                expect_told(in_pieces(programs, "annual", of, sizes), told)
+        with cases.case(f"annual: a book of {len(of)} bytes as a file"), \
+                tempfile.TemporaryFile() as file:
+            file.write(of)
+            file.seek(0)
+            expect_told(programs.run("annual", stdin=file), told)
+    for more in (FULL + b"\0", LONGER, FULL + FULL):
+        with cases.case(f"annual: {len(more)} bytes are refused"):
+            expect_told(programs.run("annual", data=more), b"refused 20\n")
+        for kind, sizes in PIECES.items():
+            with cases.case(f"annual: {len(more)} bytes in pieces are refused, {kind}"):
+                expect_told(in_pieces(programs, "annual", more, sizes), b"refused 20\n")
+
+
+def try_cut_off(programs, cases):
+    """A read that fails, also the one that only asks whether the input goes on."""
+    for of in (b"", ONE, FULL[:-1], FULL):
+        with cases.case(f"annual: a read fails after {len(of)} bytes"):
+            expect_answer(cut_off(programs, "annual", of), FAILED, b"", CUT_OFF)
+    with cases.case("annual: what comes behind a byte too many isn't read"):
+        expect_told(cut_off(programs, "annual", FULL + b"\0"), b"refused 20\n")
 
 
 def try_decisions(programs, cases):
@@ -228,6 +287,8 @@ BOOKS = {"a sound book": ONE, "a refused book": REFUSED["no bytes"][1]}
 
 def try_annual(programs, cases):
     try_reports(programs, cases)
+    try_lengths(programs, cases)
+    try_cut_off(programs, cases)
     try_decisions(programs, cases)
     try_refusals(programs, cases)
     try_usage(programs, cases, "annual", b"BOOK")

@@ -6,9 +6,10 @@ import re
 import struct
 
 KILOGRAM, TONNE = 10**12, 10**15  # in ng
-LINE, LONGEST = 32, 65_536  # bytes of a line, and of the longest book
+LINE, LONGEST = 32, 4_194_304  # bytes of a line, and of the longest book
+MOST_ANNUAL = 65_536  # bytes of the longest book that `annual` takes
 CHECKPOINT = 96  # bytes
-LONGEST_PART = 131_072  # bytes that a frame may have of a book, a checkpoint and a buffer each
+MOST_BEHIND = 5_242_880  # bytes behind a frame's head: book, checkpoint and buffer together
 SET_AT = 20  # the byte of the trailer that names a book's set of warming values
 WARMING = ((21, 310), (25, 298))  # those of CH4 and N2O, by set
 LEDGER_NAMES = ("none", "fossil", "biomass")  # by what `replay` answers

@@ -1,7 +1,7 @@
 """What `wake` makes of a book that was changed since its checkpoint was begun: CHECKPOINT.book
 holds the book that the checkpoint stands for, so no figure of the one is added to the other's."""
-from program_annual import FULL, ONE, P1_MASSES, REFUSED, ROOM
-from program_books import CHECKPOINT, LINE, book, checkpoint, count_of, fuel_record, patch, report
+from program_annual import ONE, REFUSED
+from program_books import CHECKPOINT, LINE, LONGEST, book, checkpoint, count_of, fuel_record, patch
 from program_books import trailer, under_set, unit_line
 from program_jobs import ALL, Plan, job_on, plan_by_lines, plan_plant, plans_by_replay
 from program_runs import FAILED, expect, expect_answer, expect_failure, expect_told
@@ -118,21 +118,12 @@ def try_damaged(programs, cases):
               "a byte longer": SMALL + b"\0", "twice the book": SMALL + SMALL,
               "damaged in its first byte": patch(SMALL, 0, b"\x81"),
               "damaged in its last byte": patch(SMALL, len(SMALL) - 1, b"\x80"),
-              "the book behind a byte": b"\0" + SMALL, "longer than any book": bytes(200_000)}
+              "the book behind a byte": b"\0" + SMALL, "longer than any book": bytes(LONGEST + 1)}
     for name, copy in copies.items():
         for place in (1, 2):
             with cases.case(f"wake: the copy is {name}, from {place}"), job_on(
                     programs, SMALL, plan.places[place], copy) as job:
                 job.expect_woken(plan, 0, ALL, err=job.changed())
-    masses = [ROOM * mass for mass in P1_MASSES]
-    ended = checkpoint(FULL, ROOM, masses)
-    full = Plan(FULL, [checkpoint(FULL)] + (ROOM - 1) * [None] + [ended], report(FULL, masses))
-    with cases.case("wake: the copy of the longest book"), job_on(programs, FULL, ended) as job:
-        job.expect_woken(full, ROOM, 5)
-    for more in (b"\0", FULL):
-        with cases.case(f"wake: the copy has {len(more)} bytes behind the longest book"), job_on(
-                programs, FULL, ended, FULL + more) as job:
-            job.expect_woken(full, 0, ALL, err=job.changed())
 
 
 def try_unreadable(programs, cases):

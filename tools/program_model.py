@@ -83,10 +83,14 @@ def reason_in(words):
 
 def plan_of(records, units=LISTED, fuels=FUELS):
     """What a job on these records has to print and save at every place, by the model alone."""
-    of = book(records, units, fuels)
+    return plan_judged(book(records, units, fuels), judged(records, units, fuels))
+
+
+def plan_judged(of, told):
+    """The same of a book, by what becomes of its records."""
     ledgers, aside, first = (0, 0, 0, 0), 0, (0, 0)
     places = [checkpoint(of)]
-    for index, words in enumerate(judged(records, units, fuels)):
+    for index, words in enumerate(told):
         reason = reason_in(words)
         if reason:
             first, aside = first if aside else (index, reason), aside + 1

@@ -1,7 +1,7 @@
 """Months of anodes that stand in the book already: what the programs make of a unit and month that an
 earlier record of anodes has, and of hours that have the same numbers."""
 from program_anodes import MONTHS, SLOTS, UNITS
-from program_books import LINE, LONGEST, anodes_record, patch, unit_line
+from program_books import LINE, MOST_ANNUAL, anodes_record, patch, unit_line
 from program_model import AS_HOUR, DELIVERY, DRY, FAR, IN_MONTH_7, UNLISTED, UNMONITORED, WET
 from program_model import expect_by_model
 from program_repeats import Once, sent, stray, try_once, try_stream
@@ -96,8 +96,8 @@ def try_all_units(programs, cases):
 
 
 def try_full_books(programs, cases):
-    """The longest books with anodes, with one unit and no fuel."""
-    room, units = LONGEST // LINE - 2, [unit_line(WET, monitor=True)]
+    """The longest books of `annual` with anodes, with one unit and no fuel."""
+    room, units = MOST_ANNUAL // LINE - 2, [unit_line(WET, monitor=True)]
     year = [made(month) for month in MONTHS]
     hours = [sent(hour) for hour in range(1, room - 11)]
     books = {

@@ -4,7 +4,7 @@ import collections
 import itertools
 import struct
 
-from program_books import LINE, LONGEST, book, hour_record, patch, unit_line
+from program_books import LINE, MOST_ANNUAL, book, hour_record, patch, unit_line
 from program_lines import FUELS
 from program_model import AS_HOUR, BUDGETS, DELIVERY, DRY, FAR, IN_MONTH_7, LISTED, UNLISTED
 from program_model import UNMONITORED, WET, expect_by_model, judged, lines_of, reason_in
@@ -145,8 +145,8 @@ def crowd():
 
 
 def try_full_books(programs, cases):
-    """The longest books of hours, with one unit and no fuel."""
-    room, units = LONGEST // LINE - 2, [unit_line(WET, monitor=True)]
+    """As many hours as a book of `annual` holds, with one unit and no fuel."""
+    room, units = MOST_ANNUAL // LINE - 2, [unit_line(WET, monitor=True)]
     half = range(1, room // 2 + 1)
     books = {
         "every hour once": range(1, room + 1),

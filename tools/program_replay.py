@@ -4,7 +4,8 @@ hand."""
 import struct
 
 from program_annual import ONE, P1_MASSES, in_pieces, try_failures, try_usage
-from program_books import CHECKPOINT, LINE, LONGEST_PART, book, checkpoint, trailer
+from program_books import CHECKPOINT, LINE, LONGEST, MOST_BEHIND, book, checkpoint
+from program_books import trailer
 from program_runs import FAILED, ROOT, WORKED, expect, expect_answer, expect_told
 
 FRESH, WAKE, REPORT, RECORD = 1, 2, 3, 4
@@ -45,10 +46,16 @@ WRONG_HEADS = {
     "byte 3": b"\1\0\0\x80" + head(FRESH)[4:],
     "a fresh start with a budget": head(FRESH, 1),
     "a report with a budget": head(REPORT, 1 << 24),
-    "too long a book": head(FRESH, 0, (LONGEST_PART + 1, 0, 0)),
-    "too long a checkpoint": head(WAKE, 0, (0, LONGEST_PART + 1, 0)),
-    "too long a buffer": head(FRESH, 0, (0, 0, LONGEST_PART + 1)),
+    "too long a book": head(FRESH, 0, (MOST_BEHIND + 1, 0, 0)),
+    "too long a checkpoint": head(WAKE, 0, (0, MOST_BEHIND + 1, 0)),
+    "too long a buffer": head(FRESH, 0, (0, 0, MOST_BEHIND + 1)),
+    "a byte too much with the checkpoint": head(WAKE, 0, (MOST_BEHIND - 95, CHECKPOINT, 0)),
+    "a byte too much with the buffer": head(WAKE, 0, (MOST_BEHIND - 191, CHECKPOINT, CHECKPOINT)),
     "a book of 2^32 - 1 bytes": head(RECORD, 0, (2**32 - 1, 0, 0)),
+    # In 32 bits these lengths add up to no bytes, to 128 and to 2^32 - 3.
+    "two parts of 2^31 bytes": head(WAKE, 0, (2**31, 2**31, 0)),
+    "a buffer of 2^32 - 96 bytes": head(WAKE, 0, (128, CHECKPOINT, 2**32 - CHECKPOINT)),
+    "all parts of 2^32 - 1 bytes": head(WAKE, 0, 3 * (2**32 - 1,)),
     "byte 20": head(FRESH)[:20] + b"\1\0\0\0",
     "byte 23": head(FRESH)[:20] + b"\0\0\0\1",
 }
@@ -83,11 +90,6 @@ def try_cuts(programs, cases):
 def try_answers(programs, cases):
     co2, _, ch4, n2o = P1_MASSES
     ended = checkpoint(ONE, 1, P1_MASSES)
-    with cases.case("replay: the longest book, checkpoint and buffer that a head may name"):
-        zeros = bytes(LONGEST_PART)
-        for call in (FRESH, WAKE, REPORT, RECORD):
-            told = programs.run("replay", data=frame(call, 0, zeros, zeros, zeros) + START)
-            expect_told(told, answer(20, out=zeros) + STARTED)
     with cases.case("replay: every call, byte by byte through a pipe"):
         stream = (START + frame(WAKE, 2**32 - 1, ONE, checkpoint(ONE), BLANK)
                   + frame(REPORT, 0, ONE, ended) + frame(RECORD, 0, ONE))
@@ -106,9 +108,51 @@ def try_answers(programs, cases):
         expect(told.out, (stored / "stdout").read_bytes(), "standard output")
 
 
+HALF = MOST_BEHIND // 2
+# Lengths of a book, a checkpoint and a buffer: as much as a head may name, of one or shared by all,
+# and about a half of it, up to which a buffer is kept in the lesser of two rooms.
+SHAPES = [(MOST_BEHIND, 0, 0), (0, MOST_BEHIND, 0), (0, 0, MOST_BEHIND), (HALF, 0, HALF),
+          (HALF - 1, 0, HALF + 1), (0, HALF + 1, HALF - 1), (1, HALF - 1, HALF),
+          (MOST_BEHIND - 192, CHECKPOINT, CHECKPOINT), (MOST_BEHIND // 3,) * 3]
+
+
+def parts_of(shape):
+    """Bytes of these lengths, of which each part has its own."""
+    return [bytes([mark]) * length for mark, length in zip(b"\xb1\xc2\xd3", shape)]
+
+
+def try_shapes(programs, cases):
+    """Frames as long as they may be, and a short one behind. No such book is right."""
+    for shape in SHAPES:
+        with cases.case(f"replay: parts of {shape} bytes"):
+            of, kept, out = parts_of(shape)
+            number = 21 if 0 < len(of) <= LONGEST and len(of) % LINE == 0 else 20
+            asked = [frame(call, 0, of, kept, out) for call in (FRESH, WAKE, REPORT, RECORD)]
+            told = programs.run("replay", data=b"".join(asked) + START)
+            expect_told(told, len(asked) * answer(number, out=out) + STARTED)
+    with cases.case("replay: a right book beside the longest checkpoint, and the longest buffer"):
+        most = MOST_BEHIND - len(ONE)
+        begun, room = bytes(most - CHECKPOINT), bytes(most)
+        told = programs.run("replay", data=frame(WAKE, 1, ONE, begun, BLANK)
+                            + frame(FRESH, 0, ONE, b"", room) + START)
+        expect_told(told, answer(30, out=BLANK) + answer(32, out=room) + STARTED)
+
+
+def try_long_cuts(programs, cases):
+    """A long frame that is cut in each of its parts, behind a short one that is answered."""
+    of, kept, out = parts_of((HALF, HALF // 2, HALF // 2))
+    whole = frame(FRESH, 0, of, kept, out)
+    for left in (24, 25, HALF, HALF + 24, HALF + HALF // 2 + 24, len(whole) - 1):
+        with cases.case(f"replay: a frame of {len(whole)} bytes is cut after {left}"):
+            expect_answer(programs.run("replay", data=START + whole[:left]), FAILED, STARTED,
+                          b"frame 1 is cut short\n")
+
+
 def try_replay(programs, cases):
     try_heads(programs, cases)
     try_cuts(programs, cases)
     try_answers(programs, cases)
+    try_shapes(programs, cases)
+    try_long_cuts(programs, cases)
     try_usage(programs, cases, "replay", b"FRAMES")
     try_failures(programs, cases, "replay", {"a right frame": START})

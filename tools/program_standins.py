@@ -6,14 +6,17 @@ runs the real program, and spoils one thing.
 import pathlib
 import shlex
 
-from program_annual import try_reports, try_set_aside
+from program_annual import try_cut_off, try_lengths, try_reports, try_set_aside
 from program_anodes import try_anode_book
 from program_dry import try_dry_book
 from program_gas import METHANE_MASS, OIL, ROWS, try_gas_book
+from program_grown import try_cut
 from program_hours import try_hour_lines
 from program_jobs import plan_plant
 from program_kept import try_kept_answers
 from program_lines import try_plant
+from program_long import try_far_frames, try_long_jobs, try_longest_lines, try_too_long_lines
+from program_long import try_too_long_wakes
 from program_low_heat import try_low_lines
 from program_model import burned
 from program_months import try_month_book
@@ -86,6 +89,39 @@ for at in range(0, struct.unpack_from("<I", of, len(of) - 24)[0], 32):
     impurities = struct.unpack_from("<HHH", of, at + 16)
     struct.pack_into("<HHH", of, at + 16, sum(impurities) % 65536, 0, 0)
 sys.stdout.buffer.write(of)' | real "$@"
+"""
+# For a body: the input is kept as a file, and whatever is longer than 65,536 bytes is refused.
+KEPT_INPUT = 'of=$scratch/of; cat >"$of"; '
+IS_SHORT = '[ "$(wc -c <"$of")" -le 65536 ]'
+SHORT_ALONE = IS_SHORT + " || { echo refused 20; exit 3; }; "
+# For a body: the real `lines` gets a book of a line too many without its first record.
+A_LINE_MORE = """
+python3 -c '
+import struct, sys
+of = bytearray(sys.stdin.buffer.read())
+if len(of) == 4194336:
+    starts = struct.unpack_from("<II", of, len(of) - 24)
+    struct.pack_into("<II", of, len(of) - 24, *(start - 32 for start in starts))
+    del of[:32]
+sys.stdout.buffer.write(of)' | real "$@"
+"""
+# For a body: what is told of a record is told of the one 65,536 places behind it too.
+FAR_LINES = """
+spoil python3 -c '
+import sys
+told = [line.split(b" ", 2)[2] for line in sys.stdin.buffer]
+sys.stdout.buffer.writelines(b"record %d " % i + told[i % 65536] for i in range(len(told)))'
+"""
+# For a body: the real `replay` is asked for a record by the lower 16 bits of its index.
+FAR_FRAMES = """
+python3 -c '
+import struct, sys
+given, at = bytearray(sys.stdin.buffer.read()), 0
+while at < len(given):
+    if given[at] == 4:
+        given[at + 6:at + 8] = bytes(2)
+    at += 24 + sum(struct.unpack_from("<III", given, at + 8))
+sys.stdout.buffer.write(given)' | real "$@"
 """
 # Each stand-in spoils one program's output, its end or its file. Its status stays the program's own
 # where that isn't the fault.
@@ -195,6 +231,30 @@ WRONG = [
     ("lines", "every molar volume is right", with_volumes("0"), try_gas_volumes),
     ("annual", "every molar volume is right", with_volumes("0"), try_gas_volumes),
     ("annual", "no molar volume is right", with_volumes("volume and 1"), try_gas_volumes),
+    ("annual", "it takes as much as a book may have", KEPT_INPUT + IS_SHORT
+     + ' && { real "$@" <"$of"; exit; }; rm -f "$scratch/ours"*; '
+     'words=(wake "$of" "$scratch/ours" 4294967295); spoil sed "/^moved/d; /^done/d"', try_lengths),
+    ("annual", "what goes on behind 65,536 bytes is cut off", 'head -c 65536 | real "$@"',
+     try_lengths),
+    ("annual", "a read that fails is an end", KEPT_INPUT.replace("cat", "cat 2>/dev/null")
+     + 'real "$@" <"$of"', try_cut_off),
+    ("lines", "65,536 bytes are all that it takes",
+     KEPT_INPUT + SHORT_ALONE + 'real "$@" <"$of"', try_longest_lines),
+    ("lines", "it takes a line too many", A_LINE_MORE, try_too_long_lines),
+    ("lines", "a place has 16 bits", FAR_LINES, try_longest_lines),
+    ("wake", "65,536 bytes are all that it takes", "of=$2; " + SHORT_ALONE + 'real "$@"',
+     try_long_jobs),
+    ("wake", "it takes a line too many", '[ "$(wc -c <"$2")" -ne 4194336 ] || '
+     '{ printf "moved 1\ndone 1 of 131070\n"; exit 0; }; real "$@"', try_too_long_wakes),
+    ("wake", "the place in its checkpoint has 16 bits", 'real "$@"; end=$?; head -c 2 /dev/zero | '
+     'dd of="$3" bs=1 seek=2 conv=notrunc status=none; exit "$end"', try_long_jobs),
+    ("wake", "the first record set aside is told in 16 bits",
+     "spoil sed 's/record 65536 /record 0 /'", try_long_jobs),
+    ("wake", "its copy ends after 65,536 bytes",
+     'real "$@"; end=$?; truncate -s "<65536" "$3.book"; exit "$end"', try_long_jobs),
+    ("wake", "it keeps a copy of what is no book",
+     '[ ! -f "$3.book" ] || cp "$2" "$3.book"; real "$@"', try_cut),
+    ("replay", "an index has 16 bits", FAR_FRAMES, try_far_frames),
     ("replay", "it says nothing", "spoil true", try_answers),
     ("replay", "a wrong head is no failure", 'real "$@"; exit 0', try_heads),
     ("replay", "a wrong head isn't told", 'real "$@" 2>/dev/null', try_heads),
