@@ -10,7 +10,7 @@ NAMES = ("analysed-gas", "anodes", "biomass", "dry-hours", "empty", "hours", "lo
          "reasons")
 STEP = 3  # records of a wake, which divides the number of some books' records and not of others
 
-Kept = collections.namedtuple("Kept", "book annual lines checkpoint")
+Kept = collections.namedtuple("Kept", "book annual lines midway checkpoint")
 
 
 def kept_books():
@@ -61,7 +61,27 @@ def try_kept_steps(programs, cases):
             wake_to_end(programs, kept, STEP)
 
 
+def try_kept_places(programs, cases):
+    """A checkpoint that was stored halfway is still the book's, and leads where it led. Without a
+    copy it is taken at its word."""
+    for name, kept in kept_books():
+        plan = Plan(kept.book, [], kept.annual)
+        half = plan.count // 2
+        with cases.case(f"wake: tools/kept/{name}.midway is what is saved halfway"), job_on(
+                programs, kept.book) as job:
+            expect_told(job.wake(half), plan.told(0, half))
+            job.expect_saved(kept.midway)
+        for copy in (kept.book, None):
+            kind = "with" if copy else "without"
+            with cases.case(f"wake: from tools/kept/{name}.midway, {kind} a copy"), job_on(
+                    programs, kept.book) as job:
+                job.stand(kept.midway, copy)
+                expect_told(job.wake(ALL), plan.told(half, int(ALL)))
+                job.expect_saved(kept.checkpoint)
+
+
 def try_kept(programs, cases):
     try_kept_folder(cases)
     try_kept_answers(programs, cases)
     try_kept_steps(programs, cases)
+    try_kept_places(programs, cases)
