@@ -44,10 +44,11 @@ def expect_paired(pair, plans):
 
 
 class Killed:
-    """A job that goes on through kills, and starts again when it has ended."""
+    """A job that goes on through kills, and starts again when it has ended. A wake has so many
+    records at most."""
 
-    def __init__(self, programs, folder, plans):
-        self.plans, self.plan = plans, plans[0]
+    def __init__(self, programs, folder, plans, most=MOST):
+        self.plans, self.plan, self.most = plans, plans[0], most
         self.job = Job(programs, folder, self.plan.book)
         self.pair = (None, None)  # the checkpoint and the copy, as they were seen last
         self.stale = {}
@@ -140,10 +141,10 @@ def kill_at_sight(seconds):
     return wait
 
 
-def measure(killed, is_edited):
+def measure(killed, is_edited, count):
     """The median of some runs, and of their saves as the folder shows them, in seconds."""
     runs, saves = [], []
-    for turn in range(RUNS):
+    for turn in range(count):
         killed.edit(killed.plans[turn % 2 * is_edited])
         began = time.monotonic()
         process = killed.start(1)
@@ -174,9 +175,10 @@ def one_kill(killed, wait, budget):
         raise
 
 
-def try_kinds(cases, killed, chance, rounds, is_edited):
-    """Kills at any instant of a run, and of its saves, with one book or with several."""
-    run, save = measure(killed, is_edited)
+def try_kinds(cases, killed, chance, rounds, is_edited, runs=RUNS):
+    """Kills at any instant of a run, and of its saves, with one book or with several. Gives how
+    many fell within the saves."""
+    run, save = measure(killed, is_edited, runs)
     words = "an edited" if is_edited else "a"
     cases.note(f"{words} run takes {1000 * run:.1f} ms, its saves {1000 * save:.1f} ms of them")
     fell = 0
@@ -186,22 +188,23 @@ def try_kinds(cases, killed, chance, rounds, is_edited):
         for turn in range(rounds):
             if is_edited and chance.random() < EDITS:
                 killed.edit(chance.choice(killed.plans))
-            seconds, budget = chance.uniform(0, span), chance.randint(1, MOST)
+            seconds, budget = chance.uniform(0, span), chance.randint(1, killed.most)
             instant = f"{kind}, {1e6 * seconds:.0f} µs on, from {killed.place()}"
             with cases.case(f"{words} kill {turn} {instant}"):
                 one_kill(killed, wait(seconds), budget)
         cases.note(f"{rounds} kills {kind}: {killed.within} of them fell within the saves, "
                    f"{killed.between} where there was no checkpoint")
         fell += killed.within
-    with cases.case(f"some kill of {words} run fell within the saves"):
-        expect(fell > 0, True, "that one did")
+    return fell
 
 
 def try_kills(programs, cases, plan, chance, rounds):
     for is_edited in (False, True):
         with tempfile.TemporaryDirectory() as folder:
             killed = Killed(programs, folder, edited_plans(programs, plan))
-            try_kinds(cases, killed, chance, rounds, is_edited)
+            fell = try_kinds(cases, killed, chance, rounds, is_edited)
+            with cases.case(f"some kill fell within the saves, edited {is_edited}"):
+                expect(fell > 0, True, "that one did")
             with cases.case("the killed job goes on to its end"):
                 killed.end()
             cases.note(f"the killed job reached its end {killed.ended} times")

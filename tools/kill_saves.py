@@ -89,10 +89,9 @@ def stop_telling(job, budget):
     return answer
 
 
-def try_stopped_writes(programs, cases, plan):
-    start, end, lengths = WAKES[1]
+def try_stopped_writes(programs, cases, plan, start, end, lengths):
     for length in lengths:
-        with cases.case(f"a save is killed after {length} bytes"), job_on(
+        with cases.case(f"a save from {start} to {end} is killed after {length} bytes"), job_on(
                 programs, plan.book, plan.places[start]) as job:
             stop_write(job, end - start, length)
             stale = left_behind(job)
@@ -101,15 +100,15 @@ def try_stopped_writes(programs, cases, plan):
             go_on(job, plan, start, stale)
 
 
-def try_killed_before_telling(programs, cases, plan):
-    with cases.case("a wake is killed after its save, before it tells"), job_on(
+def try_killed_before_telling(programs, cases, plan, end):
+    with cases.case(f"a wake to {end} is killed after its save, before it tells"), job_on(
             programs, plan.book) as job:
-        stop_telling(job, 50)
-        job.expect_saved(plan.places[50])
-        go_on(job, plan, 50, {})
+        stop_telling(job, end)
+        job.expect_saved(plan.places[end])
+        go_on(job, plan, end, {})
 
 
 def try_saves(programs, cases, plan):
     try_states(programs, cases, plan)
-    try_stopped_writes(programs, cases, plan)
-    try_killed_before_telling(programs, cases, plan)
+    try_stopped_writes(programs, cases, plan, *WAKES[1])
+    try_killed_before_telling(programs, cases, plan, 50)

@@ -67,11 +67,12 @@ def try_states(programs, cases, plans, place, end, is_each=False):
                 expect_next(job, plans[number], stale)
 
 
-def try_stopped_copies(programs, cases, plans):
-    """The same states with a part of a copy, reached by a program that is stopped at each byte."""
+def try_stopped_copies(programs, cases, plans, lengths):
+    """The same states with a part of a copy, reached by a program that is stopped at these bytes.
+    The job goes on with the three books in turn."""
     old, new, _ = plans
-    for length in range(len(new.book)):
-        plan = plans[length % 3]
+    for turn, length in enumerate(lengths):
+        plan = plans[turn % 3]
         with cases.case(f"the save of a copy is killed after {length} bytes"), job_on(
                 programs, new.book, old.places[1], old.book) as job:
             answer = stop_write(job, 1, length)
@@ -114,6 +115,6 @@ def try_steps(programs, cases, plan):
         try_states(programs, cases, small, place, end)
     try_states(programs, cases, small, 1, 1, is_each=True)
     try_states(programs, cases, plant, 100, 50)
-    try_stopped_copies(programs, cases, small)
+    try_stopped_copies(programs, cases, small, range(len(small[1].book)))
     try_stopped_checkpoints(programs, cases, empty)
     try_untold(programs, cases, small)
