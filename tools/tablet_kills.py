@@ -5,6 +5,7 @@ fits into it. A run under a limit on the size of files ends within the save of a
 copy, which are longer than the kept place of a short list, so its one turn is cut.
 """
 import os
+import re
 import signal
 import subprocess
 import tempfile
@@ -20,6 +21,7 @@ SHORT, LONGER = 0.005, 1.05  # seconds that a killed run is given at most, and b
 MOST_JOBS = 200  # until a kill falls within a turn, where turns are short
 EDITS, OFTEN = 6, 0.1  # how many edits a killed job has, and before how many of its runs
 CUT_AT = 70  # bytes: less than a checkpoint, and more than the kept place of three plants
+SERVED = re.compile(rb"^(\w+)\.book moved [1-9]", re.M)  # A plant that is done is told with 0.
 
 
 def one_turn(tablet, budget=BUDGET):
@@ -31,9 +33,9 @@ def one_turn(tablet, budget=BUDGET):
     expect_stopped(answer, signal.SIGPIPE)
 
 
-def cut_turn(tablet, budget=BUDGET):
-    """A run whose one turn is cut within its save."""
-    answer = tablet.run(budget, preexec_fn=limit_files(CUT_AT, is_told=False))
+def cut_turn(tablet, budget=BUDGET, length=CUT_AT):
+    """A run whose one turn is cut within its save, after so many bytes."""
+    answer = tablet.run(budget, preexec_fn=limit_files(length, is_told=False))
     expect_stopped(answer, signal.SIGXFSZ)
 
 
@@ -121,12 +123,12 @@ def kill_within(tablet, budget, seconds):
 
 class Killed:
     """A tablet that is started and killed, again and again, until all its plants are done. Some of
-    its books are edited meanwhile, to and fro."""
+    its books are edited meanwhile, to and fro. A run is given so many seconds at most at first."""
 
-    def __init__(self, tablet, others, chance):
-        self.tablet, self.chance = tablet, chance
+    def __init__(self, tablet, others, chance, budget=1, longest=SHORT):
+        self.tablet, self.chance, self.budget = tablet, chance, budget
         self.books = {name: [tablet.plans[name], others[name]] for name in others}
-        self.longest = SHORT
+        self.longest = longest
         self.starts = self.cut = self.edits = 0
 
     def edit(self):
@@ -140,11 +142,11 @@ class Killed:
         if self.edits < EDITS and self.chance.random() < OFTEN:
             self.edit()
         before, kept = self.tablet.places(), self.tablet.kept()
-        out = kill_within(self.tablet, 1, self.chance.uniform(0, self.longest))
+        out = kill_within(self.tablet, self.budget, self.chance.uniform(0, self.longest))
         after = self.tablet.places()
         if any(after[name] < before[name] for name in after):
             raise Wrong(f"the places went from {before} to {after}")
-        turns = [line.split(b".")[0].decode() for line in out.splitlines() if b" moved 1 " in line]
+        turns = [name.decode() for name in SERVED.findall(out)]
         self.starts += 1
         self.cut += self.tablet.kept() != kept and turns[-1:] != [self.tablet.served_last()]
         if after == before:
@@ -153,7 +155,8 @@ class Killed:
     def finish(self):
         while self.tablet.places() != ends_of(self.tablet.plans):
             self.kill()
-        expect(kill_within(self.tablet, 1, PATIENCE), self.tablet.finished(), "the reports")
+        told = kill_within(self.tablet, self.budget, PATIENCE)
+        expect(told, self.tablet.finished(), "the reports")
 
 
 def try_kills(programs, cases, plans, chance, jobs):
