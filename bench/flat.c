@@ -1,6 +1,7 @@
 /*
- * Time per record must not grow with the book. A wake of all records is told by itself, and less a
- * wake of none, which opens the book and no more.
+ * Time per record must not grow with the book. A wake costs something of its own, which in a short
+ * book is much beside its records. So it is told besides what a record more takes: a wake of all,
+ * less a wake of a book of the row above, by how many records it has more.
  *
  * A book that is gone through again and again is learned by the processor, if it is short: it knows
  * which way each record goes. Of a long mixed one it can't, and jumps foreseen wrongly take as long
@@ -14,7 +15,7 @@
 #include <stdio.h>
 #include <string.h>
 
-static const size_t sizes[] = {64, 128, 256, 512, 0, 16384, 65536, MOST_RECORDS};
+static const size_t sizes[] = {32, 64, 128, 256, 512, 0, 16384, 65536, MOST_RECORDS};
 
 /* 12 units have 105,408 hours, and 8 have 70,272; anodes of 12 are 144, of 64 they are 768. What
    follows repeats these. */
@@ -28,10 +29,10 @@ static const struct recipe growing[] = {{"mixed, 8 units, 8 fuels", MIXED, 0, 8,
                                         {"all anodes, 64 units", ALL_ANODES, 0, 64, 0},
                                         {"all gas, 8 units, 8 fuels", ALL_GAS, 0, 8, 8}};
 
-/* Books of one length, one behind the other. The shortest have 64 records and 65 lines more. */
+/* Books of one length, one behind the other. The shortest have 32 records and 65 lines more. */
 static struct shelf {
     size_t count, length;
-    uint8_t books[3 * LONGEST_BOOK];
+    uint8_t books[4 * LONGEST_BOOK];
 } shelf;
 
 static void fill_shelf(struct bytes *b, struct recipe recipe, size_t records)
@@ -61,21 +62,34 @@ static void tell(struct times t, double parts)
     printf("  %6.1f %6.1f %5.2f", t.library / parts, t.plain / parts, t.library / t.plain);
 }
 
-static void time_size(struct bytes *b, struct recipe recipe, size_t size)
+/* A wake of all records, once the same ones are learned and of different books. */
+struct row {
+    size_t records;
+    struct times learned, different;
+};
+
+static struct row time_size(struct bytes *b, struct recipe recipe, size_t size)
 {
     recipe.records = size;
     struct job job = begin(b, &recipe);
-    const size_t records = b->records;
-    const struct times none = measure(do_one_wake, &job);
     job.budget = UINT32_MAX;
-    const struct times all = measure(do_one_wake, &job);
-    const struct times left = {all.library - none.library, all.plain - none.plain};
-    fill_shelf(b, recipe, records);
-    const struct times shelved = measure(do_shelf, &job);
-    printf("%-26s %7zu", recipe.name, records);
-    tell(left, (double)records);
-    tell(all, (double)records);
-    tell(shelved, (double)(shelf.count * records));
+    struct row row = {b->records, measure(do_one_wake, &job), {0, 0}};
+    fill_shelf(b, recipe, row.records);
+    row.different = measure(do_shelf, &job);
+    row.different.library /= (double)shelf.count;
+    row.different.plain /= (double)shelf.count;
+    return row;
+}
+
+static void tell_row(const char *name, struct row row, struct row above)
+{
+    const struct times more = {row.different.library - above.different.library,
+                               row.different.plain - above.different.plain};
+    printf("%-26s %7zu", name, row.records);
+    tell(row.learned, (double)row.records);
+    tell(row.different, (double)row.records);
+    if (above.records != 0)
+        tell(more, (double)(row.records - above.records));
     printf("\n");
     fflush(stdout);
 }
@@ -83,12 +97,17 @@ static void time_size(struct bytes *b, struct recipe recipe, size_t size)
 void time_flat(struct bytes *b)
 {
     printf("\n%-26s %7s  %19s  %19s  %19s\n", "a wake of all, ns/record", "records",
-           "less a wake of none", "as it is", "different books");
+           "one book", "different books", "a record more");
     printf("%-26s %7s", "", "");
     for (int i = 0; i < 3; i++)
         printf("  %6s %6s %5s", "lib.", "C", "ratio");
     printf("\n");
-    for (size_t i = 0; i < sizeof growing / sizeof *growing; i++)
-        for (size_t j = 0; j < sizeof sizes / sizeof *sizes; j++)
-            time_size(b, growing[i], sizes[j]);
+    for (size_t i = 0; i < sizeof growing / sizeof *growing; i++) {
+        struct row above = {0, {0, 0}, {0, 0}};
+        for (size_t j = 0; j < sizeof sizes / sizeof *sizes; j++) {
+            const struct row row = time_size(b, growing[i], sizes[j]);
+            tell_row(growing[i].name, row, above);
+            above = row;
+        }
+    }
 }
