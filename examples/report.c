@@ -11,7 +11,7 @@
 
 #include "wetherstep.h"
 
-enum { BUDGET = 10, LONGEST = 65536, LINE = 32 };
+enum { BUDGET = 10, LONGEST = 4194304, LINE = 32 };
 
 enum status { PRINTED, FAILED, WRONG_ARGUMENTS, REFUSED };
 
