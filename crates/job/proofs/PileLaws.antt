@@ -17,6 +17,7 @@ use Rattle.rules.specs.Book.{opened, accepted}
 use Rattle.rules.specs.Entry.{co2Alone}
 use Rattle.rules.specs.Record.{outcomeAt}
 use Rattle.rules.proofs.BookLaws.{accepted-facts}
+use Rattle.rules.proofs.Co2Laws.{co2Alone-fossil, co2Alone-ch4, co2Alone-n2o}
 use Rattle.job.specs.declared.tally.Masses.{Masses}
 use Rattle.job.specs.declared.tally.Tally.{Tally}
 use Rattle.job.specs.State.{State, toFossil, toBiomass, after, run, ledgersOf}
@@ -148,13 +149,14 @@ low-share m e h s = record {
 
 -- ---- a record that gives CO2 alone
 pub share-co2 : (e : Entry) → e ≡ co2Alone (e .co2) → Share (fossilAlone (e .co2)) e
-unfolding co2Alone
-share-co2 e alone = record {
-  fossil-is = sym (ap (λ (d : Destination). toFossil d (e .co2)) (ap (λ (x : Entry). x .destination) alone));
-  biomass-is = sym (ap (λ (d : Destination). toBiomass d (e .co2)) (ap (λ (x : Entry). x .destination) alone));
-  ch4-is = sym (ap (λ (x : Entry). x .ch4 .0) alone);
-  n2o-is = sym (ap (λ (x : Entry). x .n2o .0) alone);
-}
+share-co2 e alone =
+    let fossil = ap (λ (x : Entry). x .destination) alone ∙ co2Alone-fossil (e .co2) in
+    record {
+      fossil-is = sym (ap (λ (d : Destination). toFossil d (e .co2)) fossil);
+      biomass-is = sym (ap (λ (d : Destination). toBiomass d (e .co2)) fossil);
+      ch4-is = sym (ap (λ (x : Entry). x .ch4 .0) alone ∙ co2Alone-ch4 (e .co2));
+      n2o-is = sym (ap (λ (x : Entry). x .n2o .0) alone ∙ co2Alone-n2o (e .co2));
+    }
 
 -- The sums that it leaves as they were stay low.
 same-low : {v : ℕ} → v < 9223372036854775808 → v + 0 < 9223372036854775808

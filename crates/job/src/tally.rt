@@ -10,7 +10,7 @@ ghost use mathlib.Core.Bool.{true};
 ghost use mathlib.Core.Path.{_≡_};
 ghost use Prim.Native.Nat.{_*_, _<_};
 ghost use Rattle.mass.specs.Figures.{AllSound};
-ghost use Rattle.rules.specs.Record.{Co2Alone};
+ghost use Rattle.rules.specs.Co2.{Co2Alone};
 ghost use Rattle.job.specs.State.{toFossil, toBiomass, after, ledgersOf};
 ghost use Rattle.job.specs.Bounds.{BoundedOutcome};
 ghost use Rattle.job.specs.Tally.{tallyOf, stateOf, ledgersAfter};

@@ -16,8 +16,8 @@ use Rattle.choice.proofs.Splitting.{if-test, if-eq}
 use Rattle.choice.proofs.TestsLaws.{either-t, either-f, any}
 use Rattle.rules.specs.Bytes.{line, lines}
 use Rattle.rules.specs.Fields.{kind, flags, unitNumber, fuelNumber, period}
-use Rattle.rules.specs.Repeat.{isOf, stands, standsAmong, standsIn}
-use Rattle.rules.specs.Key.{key, Start, Keyed}
+use Rattle.rules.specs.Repeat.{isOf, stands, standsAmong}
+use Rattle.rules.specs.Key.{key, Start, Keyed, standsIn}
 use Rattle.rules.proofs.BytesLaws.{line-take, lines-start, lines-end}
 use Rattle.rules.proofs.RepeatLaws.{isOf-is, is-isOf}
 

@@ -17,3 +17,4 @@ pub mod Table
 pub mod Listing
 pub mod Key
 pub mod Marks
+pub mod Co2

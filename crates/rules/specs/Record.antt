@@ -27,13 +27,11 @@
 --     outcomeAfter before l units fuels
 --                                  what becomes of a record, the lines before it being `before`
 --     outcomeAt h s i              what becomes of record i of the book s with the head h
---     Co2Alone o                   what counts gives CO2 alone, to the fossil ledger
 --
 -- Laws: proofs/RecordLaws.antt. Definitions only.
 use Prim.Native.Nat.{ℕ}
 use mathlib.Core.Bool.{Bool, true, not}
 use mathlib.Core.List.{List, [], _∷_}
-use mathlib.Core.Path.{_≡_}
 use lib.Dec.{eqb, leb, ltb}
 use Rattle.choice.specs.Tests.{_also_, _either_, choose}
 use Rattle.mass.specs.declared.hour.Hour.{Hour}
@@ -46,7 +44,7 @@ use Rattle.rules.specs.Bytes.{line, lines, linesIn}
 use Rattle.rules.specs.Fields.{number, monitored, dry, fuelKind, fuelClass, molarVolume, kind, flags, unitNumber, fuelNumber, fuelled, analysed, heatMeasured, carbonFlagged, heatLow, month, amount, heat, carbon, fuelRecordBlank, molecularWeight, gasBlank, hour, percentBits, flowBits, moisture, hourBlank, metal, anodeUse, sulphur, ash, otherImpurities, anodesBlank}
 use Rattle.rules.specs.Book.{unitLines, fuelLines}
 use Rattle.rules.specs.Method.{methodOf}
-use Rattle.rules.specs.Entry.{heatInUse, fuelEntry, co2Alone, hourEntry, impurities, anodesEntry}
+use Rattle.rules.specs.Entry.{heatInUse, fuelEntry, hourEntry, impurities, anodesEntry}
 use Rattle.rules.specs.Repeat.{repeated}
 
 abbrev pub lastReason : ℕ
@@ -192,8 +190,3 @@ outcomeAfter before l units fuels = unlessRepeated (repeated l before) (outcomeO
 
 unfoldable pub outcomeAt : Head → List ℕ → ℕ → Outcome
 outcomeAt h s i = outcomeAfter (lines i s) (line i s) (linesIn (unitLines h s)) (linesIn (fuelLines h s))
-
--- ---- records of no fuel
-abbrev pub Co2Alone : Outcome → Type 0
-Co2Alone (SetAside k) = Unit {0}
-Co2Alone (Counted e) = e ≡ co2Alone (e .co2)

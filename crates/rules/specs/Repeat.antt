@@ -4,18 +4,15 @@
 --     isOf k u w l         the line l is a record of kind k, unit u and period w, whatever else it holds
 --     stands k u w ls      one of the lines ls is
 --     standsAmong l ls     a record of l's kind, unit and period is among the lines ls
---     standsIn l j n s     one is among the n lines of s from line j on
 --     repeatable l         l is a monitor hour or anodes: a unit has one of them for each hour, or month
 --     repeated l before    l is one that stands among the lines before it
 --
--- Laws: proofs/RepeatLaws.antt, and of standsIn KeyLaws.antt. Definitions only.
-use Prim.Native.Nat.{ℕ, _*_}
+-- Laws: proofs/RepeatLaws.antt. Definitions only.
+use Prim.Native.Nat.{ℕ}
 use mathlib.Core.Bool.{Bool, false}
 use mathlib.Core.List.{List, [], _∷_}
 use lib.Dec.{eqb}
-use lib.ListN.{drop}
 use Rattle.choice.specs.Tests.{_also_, _either_}
-use Rattle.rules.specs.Bytes.{lines}
 use Rattle.rules.specs.Fields.{kind, unitNumber, period}
 
 unfoldable pub isOf : ℕ → ℕ → ℕ → List ℕ → Bool
@@ -27,9 +24,6 @@ stands k u w (l ∷ ls) = isOf k u w l either stands k u w ls
 
 unfoldable pub standsAmong : List ℕ → List (List ℕ) → Bool
 standsAmong l ls = stands (kind l) (unitNumber l) (period l) ls
-
-abbrev pub standsIn : List ℕ → ℕ → ℕ → List ℕ → Bool
-standsIn l j n s = standsAmong l (lines n (drop (32 * j) s))
 
 unfoldable pub repeatable : List ℕ → Bool
 repeatable l = eqb (kind l) 2 either eqb (kind l) 4

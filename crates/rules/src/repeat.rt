@@ -7,9 +7,9 @@ ghost use mathlib.Core.Path.{_≡_};
 ghost use Prim.Native.Nat.{ℕ, _+_, _-_, _/_, _<_, _≤_};
 ghost use lib.ListN.{length};
 ghost use Rattle.rules.specs.Bytes.{line, lines};
-ghost use Rattle.rules.specs.Repeat.{standsAmong, standsIn, repeatable, repeated};
+ghost use Rattle.rules.specs.Repeat.{standsAmong, repeatable, repeated};
 ghost use Rattle.rules.specs.Record.{unlessRepeated};
-ghost use Rattle.rules.specs.Key.{Start, Keyed};
+ghost use Rattle.rules.specs.Key.{Start, Keyed, standsIn};
 
 // Kind, unit and period in the first eight bytes of a record.
 const MASK: u64 = 0xFFFF_0000_FFFF_00FF;

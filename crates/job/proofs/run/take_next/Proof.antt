@@ -4,7 +4,7 @@ use mathlib.Core.Path.{sym, ap, _∙_, subst}
 use borrow.Author.Needs.{needs}
 use Rattle.mass.specs.Figures.{AllSound}
 use Rattle.choice.proofs.TestsLaws.{is}
-use Rattle.rules.specs.Record.{Co2Alone}
+use Rattle.rules.specs.Co2.{Co2Alone}
 use Rattle.rules.proofs.RecordLaws.{Within, within-outcomeAt}
 use Rattle.rules.proofs.OnceLaws.{noting-fuel}
 use Rattle.rules.proofs.Co2Laws.{co2-outcomeAt}

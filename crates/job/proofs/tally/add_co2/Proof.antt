@@ -3,7 +3,7 @@ use mathlib.Core.Path.{_≡_, sym, ap, _∙_, subst}
 use borrow.Author.Needs.{needs}
 use Rattle.mass.specs.Figures.{AllSound}
 use Rattle.rules.specs.declared.entry.Entry.{Entry}
-use Rattle.rules.specs.Record.{Co2Alone}
+use Rattle.rules.specs.Co2.{Co2Alone}
 use Rattle.job.specs.declared.tally.Masses.{Masses}
 use Rattle.job.specs.State.{State, after, ledgersOf}
 use Rattle.job.specs.Bounds.{BoundedOutcome}

@@ -5,8 +5,8 @@ use mathlib.Core.List.{List}
 use mathlib.Core.Path.{_≡_, sym, _∙_, subst}
 use borrow.Author.Needs.{needs}
 use Rattle.rules.specs.Bytes.{line, lines}
-use Rattle.rules.specs.Repeat.{standsAmong, standsIn}
-use Rattle.rules.specs.Key.{Keyed}
+use Rattle.rules.specs.Repeat.{standsAmong}
+use Rattle.rules.specs.Key.{Keyed, standsIn}
 use Rattle.rules.proofs.KeyLaws.{scan-start, scan-found, scan-on}
 use Rattle.rules.proofs.repeat.does_stand.Statement.{statement}
 use Rattle.rules.proofs.repeat.does_stand.Tie as tie

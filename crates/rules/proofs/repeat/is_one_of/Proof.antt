@@ -5,8 +5,7 @@ use mathlib.Core.List.{List}
 use mathlib.Core.Path.{_≡_, refl, sym, _∙_}
 use native.Mathlib.Omega.{arith}
 use borrow.Author.Needs.{needs}
-use Rattle.rules.specs.Repeat.{standsIn}
-use Rattle.rules.specs.Key.{Keyed}
+use Rattle.rules.specs.Key.{Keyed, standsIn}
 use Rattle.rules.proofs.KeyLaws.{scan-end, scan-found, scan-on}
 use Rattle.rules.proofs.repeat.is_one_of.Statement.{statement}
 use Rattle.rules.proofs.repeat.is_one_of.Tie as tie
