@@ -24,9 +24,9 @@
  * WHAT A CALL TAKES. The library keeps no state between calls, allocates nothing and doesn't call
  * the operating system. It is re-entrant: calls may run at once, each with buffers of its own to
  * write to, and may read the same book. Of the C library memcpy and memset alone are linked. A
- * call's stack in bytes, measured by bench/run and not proved: fresh 336, wake 82,369, report 352,
+ * call's stack in bytes, measured by bench/run and not proved: fresh 336, wake 99,857, report 352,
  * left 256, record 208. So much a wake takes only where it goes through many records with an hour
- * or anodes among them, and else 1,905: a thread of 128 KiB has room for either.
+ * or anodes among them, and else 1,617: a thread of 128 KiB has room for either.
  */
 #ifndef WETHERSTEP_H
 #define WETHERSTEP_H
@@ -65,7 +65,7 @@ static inline uint32_t wetherstep_count(uint64_t reply) { return (uint32_t)(repl
  * With the same book, copied anew, go on from the saved checkpoint; with one that was changed,
  * start afresh.
  */
-#define WETHERSTEP_BOOK_LENGTH 20   /* no multiple of 32 from 32 to 65,536: was it copied whole? */
+#define WETHERSTEP_BOOK_LENGTH 20   /* no multiple of 32 up to 4,194,304: was it copied whole? */
 #define WETHERSTEP_BOOK_TRAILER 21  /* its last line: is it a book, of a year from 2000 to 2099? */
 #define WETHERSTEP_BOOK_UNITS 22    /* a unit line, or over 64 of them: correct the list of units */
 #define WETHERSTEP_BOOK_FUELS 23    /* a fuel line, or over 64 of them: correct the list of fuels */
