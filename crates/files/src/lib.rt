@@ -64,10 +64,7 @@ pub fn read_input(buf: &mut [u8]) -> Got
     ensures within { λ r. ⌜ Within r (now (buf .exit)) ⌝ }
 {
     let got = read_all(STDIN_FILENO, buf);
-    match got {
-        Got::Failed => os::fail(b"standard input"),
-        Got::Bytes(_) => {}
-    }
+    tell_input(got);
     got
 }
 
@@ -76,11 +73,15 @@ pub fn read_on(buf: &mut [u8]) -> Got
     ensures within { λ r. ⌜ Within r (now (buf .exit)) ⌝ }
 {
     let got = read_some(STDIN_FILENO, buf);
+    tell_input(got);
+    got
+}
+
+fn tell_input(got: Got) {
     match got {
         Got::Failed => os::fail(b"standard input"),
         Got::Bytes(_) => {}
     }
-    got
 }
 
 // Reads the file at path as read_all does; if it can't, standard error says why, behind `whose`.
