@@ -132,8 +132,8 @@ pub(crate) fn add(p: Pile, o: Outcome) -> Pile
     }
 }
 
-// The pile after one record more that gives CO2 alone, with room for the next: only the sum that it is added to
-// may have outgrown it.
+// The pile after one record more that gives CO2 alone, with room for the next: only the sum that it is
+// added to may have outgrown it.
 pub(crate) fn add_co2(p: Pile, o: Outcome) -> Pile
     requires sound { ⌜ AllSound (p .tally .ledgers) × AllSound (ledgersOf (after (stateIn p) o)) ⌝ }
     requires room { ⌜ (p .tally .done < 4294967295) × (p .tally .aside < 4294967295) ⌝ }

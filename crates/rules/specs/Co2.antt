@@ -4,7 +4,6 @@
 --     Co2Alone o   what counts gives CO2 alone, to the fossil ledger
 --
 -- Laws: proofs/Co2Laws.antt. Definitions only.
-use Prim.Native.Nat.{ℕ}
 use mathlib.Core.Path.{_≡_}
 use Rattle.rules.specs.declared.record.Outcome.{Outcome}
 use Rattle.rules.specs.declared.record.Outcome.the-variants.{SetAside, Counted}
