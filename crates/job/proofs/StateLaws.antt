@@ -19,7 +19,8 @@ use Rattle.rules.specs.declared.record.Outcome.{Outcome}
 use Rattle.rules.specs.declared.record.Outcome.the-variants.{SetAside, Counted}
 use Rattle.rules.specs.Book.{opened, accepted}
 use Rattle.rules.specs.Record.{lastReason, outcomeAt}
-use Rattle.rules.proofs.RecordLaws.{Within, within-outcomeAt}
+use Rattle.rules.specs.Bounds.{Bounded}
+use Rattle.rules.proofs.RecordLaws.{bounded-outcomeAt}
 use Rattle.job.specs.State.{State, toFossil, toBiomass, fossilOf, biomassOf, ch4Of, n2oOf, asideOf, fresh, after, run, first, sumTo}
 use Rattle.job.specs.Bounds.{FitFor, BoundedOutcome}
 
@@ -79,18 +80,18 @@ toBiomass-le Fossil x l = zero-le
 toBiomass-le Biomass x l = omega arith
 toBiomass-le Nowhere x l = zero-le
 
-pub boundedOutcome-within : (o : Outcome) → Within o → BoundedOutcome o
-boundedOutcome-within (SetAside r) w = record {
+pub boundedOutcome-bounded : (o : Outcome) → Bounded o → BoundedOutcome o
+boundedOutcome-bounded (SetAside r) w = record {
   fossil-le = zero-le;
   biomass-le = zero-le;
   ch4-le = zero-le;
   n2o-le = zero-le;
 }
-boundedOutcome-within (Counted e) w = record {
-  fossil-le = toFossil-le (e .destination) (e .co2) (w .co2-le);
-  biomass-le = toBiomass-le (e .destination) (e .co2) (w .co2-le);
-  ch4-le = w .ch4-le;
-  n2o-le = w .n2o-le;
+boundedOutcome-bounded (Counted e) w = record {
+  fossil-le = toFossil-le (e .destination) (e .co2) (w .1);
+  biomass-le = toBiomass-le (e .destination) (e .co2) (w .1);
+  ch4-le = w .2;
+  n2o-le = w .3;
 }
 
 -- One record more may hold so much more.
@@ -122,7 +123,7 @@ module _ {h : Head} {s : State} (f : FitFor h s) where
   none-after (SetAside r) e = absurd (omega arith)
   none-after (Counted e) z = f .none-first (omega arith)
 
-  some-after : (o : Outcome) → Within o → (after s o .aside ≡ 0 → ⊥)
+  some-after : (o : Outcome) → Bounded o → (after s o .aside ≡ 0 → ⊥)
       → (after s o .index < after s o .done) × (1 ≤ after s o .reason) × (after s o .reason ≤ lastReason)
   unfolding after
   some-after (SetAside r) w e =
@@ -131,11 +132,11 @@ module _ {h : Head} {s : State} (f : FitFor h s) where
       (λ z. let told = after-later s r z in let before = f .some-first z in omega arith)
   some-after (Counted e) w z = let before = f .some-first (λ n. z (omega arith)) in omega arith
 
-pub fitFor-after : (h : Head) (s : State) (o : Outcome) → s .done < h .n → Within o → FitFor h s
+pub fitFor-after : (h : Head) (s : State) (o : Outcome) → s .done < h .n → Bounded o → FitFor h s
     → FitFor h (after s o)
 unfolding after
 fitFor-after h s o l w f =
-    let x = boundedOutcome-within o w in
+    let x = boundedOutcome-bounded o w in
     record {
       done-le = omega arith;
       aside-le = aside-after f o;
@@ -154,7 +155,7 @@ fitFor-run h k s zero e l f = f
 fitFor-run h k s (suc n) e l f =
     let place = run h k s n .done in
     fitFor-after h (run h k s n) (outcomeAt h k place) (omega (arith, run-done h k s n))
-    (within-outcomeAt h k place e)
+    (bounded-outcomeAt h k place e)
     (fitFor-run h k s n e (omega arith) f)
 
 pub fitFor-first : (h : Head) (k : List ℕ) (n : ℕ) → opened k ≡ accepted h → n ≤ h .n
@@ -163,7 +164,7 @@ unfolding first
 fitFor-first h k zero e l = fitFor-fresh h
 fitFor-first h k (suc n) e l =
     fitFor-after h (first h k n) (outcomeAt h k n) (omega (arith, first-done h k n))
-    (within-outcomeAt h k n e)
+    (bounded-outcomeAt h k n e)
     (fitFor-first h k n e (omega arith))
 
 -- ---- the first n records are summed

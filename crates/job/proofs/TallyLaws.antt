@@ -13,8 +13,8 @@ use Rattle.rules.specs.declared.book.Head.{Head}
 use Rattle.rules.specs.declared.record.Outcome.{Outcome}
 use Rattle.rules.specs.declared.record.Outcome.the-variants.{SetAside}
 use Rattle.rules.specs.Book.{opened, accepted}
+use Rattle.rules.specs.Bounds.{Bounded}
 use Rattle.rules.proofs.BookLaws.{accepted-facts}
-use Rattle.rules.proofs.RecordLaws.{Within}
 use Rattle.job.specs.declared.tally.Tally.{Tally}
 use Rattle.job.specs.State.{State, after, run, ledgersOf}
 use Rattle.job.specs.Bounds.{FitFor}
@@ -69,7 +69,7 @@ ledgersOf-after-aside t r h = λ i. record {
 -- What it gives leaves the ledgers sound, and a tally has room for it.
 pub record Ready (h : Head) (s : State) : Type 0 where
   pub room : (s .done < 4294967295) × (s .aside < 4294967295)
-  pub next-sound : (o : Outcome) → Within o → AllSound (ledgersOf (after s o))
+  pub next-sound : (o : Outcome) → Bounded o → AllSound (ledgersOf (after s o))
 
 far : {a d n : ℕ} → a ≤ d → d < n → n ≤ recordsForeseen → (d < 4294967295) × (a < 4294967295)
 far h l m = (omega arith, omega arith)

@@ -22,12 +22,13 @@ use Rattle.mass.proofs.FuelLaws.{mostEach, co2OfHeat-le, co2OfCarbon-le, traceO
 use Rattle.mass.proofs.GasLaws.{co2OfGas-le}
 use Rattle.mass.proofs.HourLaws.{hourMass-le}
 use Rattle.mass.proofs.AnodeLaws.{co2OfAnodes-le}
-use Rattle.rules.specs.declared.entry.Entry.{Entry}
+use Rattle.rules.specs.declared.record.Outcome.the-variants.{Counted}
 use Rattle.rules.specs.Fields.{fuelKind, defaultHeat, co2Factor, ch4Factor, n2oFactor, molarVolume, analysed, heatMeasured, heatLow, amount, heat, carbon, molecularWeight, moisture, month, metal, anodeUse, sulphur, ash, otherImpurities}
 use Rattle.rules.specs.Book.{molarVolumeOk, fuelHeadOk, fuelOk}
 use Rattle.rules.specs.Method.{methodOf}
 use Rattle.rules.specs.Entry.{measuredHeat, heatInUse, co2ByCarbon, co2By, entryBy, fuelEntry, co2Alone, hourEntry, impurities, anodesEntry}
 use Rattle.rules.specs.Record.{heatLimit, heatRange, carbonLimit, gasRange, carbonRange, fuelRanges, hourRange, anodesRanges}
+use Rattle.rules.specs.Bounds.{Bounded}
 use Rattle.rules.proofs.MethodLaws.{methodOf-le}
 
 -- ---- ranges
@@ -180,12 +181,6 @@ reach l f h k =
     }
 
 -- ---- no entry gives a ledger more than one record can, and its method is one of the list
-pub record Bounded (e : Entry) : Type 0 where
-  pub method-le : e .method ≤ 4
-  pub co2-le : e .co2 .0 ≤ mostEach
-  pub ch4-le : e .ch4 .0 ≤ mostEach
-  pub n2o-le : e .n2o .0 ≤ mostEach
-
 abbrev Few : Ug → Type 0
 Few x = x .0 ≤ mostEach
 
@@ -203,25 +198,25 @@ co2By-le m l f r =
     if-choose Few (eqb m 3) (λ by-carbon. co2ByCarbon-le l f r) (λ by-heat.
     co2OfHeat-le _ _ _ (r .by-co2)))
 
-pub bounded-fuelEntry : (l u f : List ℕ) → fuelRanges l f ≡ true → fuelOk f ≡ true → Bounded (fuelEntry l u f)
+pub bounded-fuelEntry : (l u f : List ℕ) → fuelRanges l f ≡ true → fuelOk f ≡ true
+    → Bounded (Counted (fuelEntry l u f))
 unfolding fuelEntry entryBy
 bounded-fuelEntry l u f h k =
-    let r = reach l f h k in
-    record {
-      method-le = methodOf-le l u f;
-      co2-le = co2By-le (methodOf l u f) l f r;
-      ch4-le = traceOfHeat-le _ _ _ (r .by-ch4);
-      n2o-le = traceOfHeat-le _ _ _ (r .by-n2o);
-    }
+    let r = reach l f h k in (
+      methodOf-le l u f,
+      co2By-le (methodOf l u f) l f r,
+      traceOfHeat-le _ _ _ (r .by-ch4),
+      traceOfHeat-le _ _ _ (r .by-n2o),
+    )
 
-bounded-co2Alone : (x : Ug) → x .0 ≤ mostEach → Bounded (co2Alone x)
+bounded-co2Alone : (x : Ug) → x .0 ≤ mostEach → Bounded (Counted (co2Alone x))
 unfolding co2Alone
-bounded-co2Alone x h = record { method-le = zero-le; co2-le = h; ch4-le = zero-le; n2o-le = zero-le }
+bounded-co2Alone x h = (zero-le, h, zero-le, zero-le)
 
-pub bounded-hourEntry : (l : List ℕ) (r : Readings) → InRange r → Bounded (hourEntry l r)
+pub bounded-hourEntry : (l : List ℕ) (r : Readings) → InRange r → Bounded (Counted (hourEntry l r))
 unfolding hourEntry
 bounded-hourEntry l r h = bounded-co2Alone _ (le-trans (hourMass-le _ r h) (lit≤ tt))
 
-pub bounded-anodesEntry : (l : List ℕ) → anodesRanges l ≡ true → Bounded (anodesEntry l)
+pub bounded-anodesEntry : (l : List ℕ) → anodesRanges l ≡ true → Bounded (Counted (anodesEntry l))
 unfolding anodesEntry
 bounded-anodesEntry l h = bounded-co2Alone _ (co2OfAnodes-le _ _ _ (anodes-reach l h))

@@ -19,12 +19,13 @@ use Rattle.rules.specs.declared.record.Outcome.{Outcome}
 use Rattle.rules.specs.Bytes.{line, lines}
 use Rattle.rules.specs.Book.{unitLines, Answer, refused, accepted, opened, faultNumber}
 use Rattle.rules.specs.Record.{outcomeAt}
+use Rattle.rules.specs.Bounds.{Bounded}
 use Rattle.rules.specs.Reader.{Sight, turnedAway, missing, shown, sightBy, sightAt, sight, leftBy, leftFrom, placeAfter}
 use Rattle.rules.specs.Table.{noting, notingBy, notingAt, Known, KnownAt}
 use Rattle.rules.proofs.BookLaws.{Accepted, accepted-facts}
 use Rattle.rules.proofs.NumberLaws.{opened-number}
 use Rattle.rules.proofs.TableLaws.{known-blank, known-next}
-use Rattle.rules.proofs.RecordLaws.{Within, within-outcomeAt}
+use Rattle.rules.proofs.RecordLaws.{bounded-outcomeAt}
 
 -- ---- the sight of each answer
 pub sight-refused : (x : Fault) → sight (Refused x) ≡ turnedAway (faultNumber x)
@@ -49,14 +50,14 @@ sightAt-shown s h i e l =
 -- ---- what holds of every refusal, of no record, and of every outcome holds of every sight
 module _ (P : Sight → Type 0) (s : List ℕ) (i : ℕ) where
   pub sightAt-each : ((n : ℕ) → 20 ≤ n → n ≤ 23 → P (turnedAway n)) → P missing
-      → ((o : Outcome) → Within o → P (shown o)) → P (sightAt s i)
+      → ((o : Outcome) → Bounded o → P (shown o)) → P (sightAt s i)
   unfolding sightAt sightBy
   sightAt-each refuse none show = at (opened s) refl
     where
       at : (a : Answer) → opened s ≡ a → P (sightBy a s i)
       at (refused n) e = let range = opened-number s n e in refuse n (range .0) (range .1)
       at (accepted h) e =
-          if-choose P (ltb i (h .n)) (λ l. show (outcomeAt h s i) (within-outcomeAt h s i e)) (λ l. none)
+          if-choose P (ltb i (h .n)) (λ l. show (outcomeAt h s i) (bounded-outcomeAt h s i e)) (λ l. none)
 
 -- ---- one answer only
 -- What `look` gave, from the sight that it stands for.

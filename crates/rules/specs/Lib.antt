@@ -18,3 +18,4 @@ pub mod Listing
 pub mod Key
 pub mod Marks
 pub mod Co2
+pub mod Bounds

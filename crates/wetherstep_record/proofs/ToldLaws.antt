@@ -15,7 +15,7 @@ use Rattle.rules.specs.declared.entry.Entry.{Entry}
 use Rattle.rules.specs.declared.record.Outcome.{Outcome}
 use Rattle.rules.specs.declared.record.Outcome.the-variants.{SetAside, Counted}
 use Rattle.rules.specs.Reader.{turnedAway, missing, shown, sightAt}
-use Rattle.rules.proofs.RecordLaws.{Within}
+use Rattle.rules.specs.Bounds.{Bounded}
 use Rattle.rules.proofs.ReaderLaws.{sightAt-each}
 use Rattle.wetherstep.specs.Face.{packed}
 use Rattle.wetherstep.proofs.FaceLaws.{packed-sum}
@@ -108,7 +108,7 @@ recordTold-recordWord k i ms =
     refl)))
     at
   where
-    at : (o : Outcome) → Within o → recordTold (recordWord (shown o)) (massesAfter (shown o) ms) ≡ shown o
+    at : (o : Outcome) → Bounded o → recordTold (recordWord (shown o)) (massesAfter (shown o) ms) ≡ shown o
     at (SetAside r) w =
         let least = w .0 in
         let most = w .1 in
@@ -118,8 +118,8 @@ recordTold-recordWord k i ms =
         (choose-t _ (ap (ltb 0) told ∙ lt-ltb 0 r (omega arith))
         (ap (λ (x : ℕ). shown (SetAside x)) told)))
     at (Counted e) w =
-        choose-t _ (toldCounts-counted e (w .method-le))
-        (ap (λ (x : Entry). shown (Counted x)) (entryTold-counted e (w .method-le)))
+        choose-t _ (toldCounts-counted e (w .0))
+        (ap (λ (x : Entry). shown (Counted x)) (entryTold-counted e (w .0)))
 
 -- ---- a record that doesn't count leaves the masses as they were
 pub massesAfter-told : (k : List ℕ) (i : ℕ) (ms : List ℕ) → toldCounts (recordWord (sightAt k i)) ≡ false
@@ -131,6 +131,6 @@ massesAfter-told k i ms =
     (λ p. refl)
     at
   where
-    at : (o : Outcome) → Within o → toldCounts (recordWord (shown o)) ≡ false → massesAfter (shown o) ms ≡ ms
+    at : (o : Outcome) → Bounded o → toldCounts (recordWord (shown o)) ≡ false → massesAfter (shown o) ms ≡ ms
     at (SetAside r) w p = refl
-    at (Counted e) w p = absurd (subst T (sym (toldCounts-counted e (w .method-le)) ∙ p) tt)
+    at (Counted e) w p = absurd (subst T (sym (toldCounts-counted e (w .0)) ∙ p) tt)

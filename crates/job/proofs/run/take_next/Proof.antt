@@ -5,14 +5,15 @@ use borrow.Author.Needs.{needs}
 use Rattle.mass.specs.Figures.{AllSound}
 use Rattle.choice.proofs.TestsLaws.{is}
 use Rattle.rules.specs.Co2.{Co2Alone}
-use Rattle.rules.proofs.RecordLaws.{Within, within-outcomeAt}
+use Rattle.rules.specs.Bounds.{Bounded}
+use Rattle.rules.proofs.RecordLaws.{bounded-outcomeAt}
 use Rattle.rules.proofs.OnceLaws.{noting-fuel}
 use Rattle.rules.proofs.Co2Laws.{co2-outcomeAt}
 use Rattle.job.specs.State.{State, after, ledgersOf}
 use Rattle.job.specs.Tally.{stateOf}
 use Rattle.job.specs.Pile.{stateWith, stateIn}
 use Rattle.job.proofs.TallyLaws.{Ready, ready}
-use Rattle.job.proofs.StateLaws.{boundedOutcome-within}
+use Rattle.job.proofs.StateLaws.{boundedOutcome-bounded}
 use Rattle.job.proofs.run.take_next.Statement.{statement}
 use Rattle.job.proofs.run.take_next.Tie as tie
 
@@ -29,11 +30,11 @@ by-fuel c = start (c .before .before)
 abbrev by-other : tie.After-judge-unfuelled → tie.Start
 by-other c = start (c .before .before .before)
 
-judged : (c : tie.After-judge-fuelled) → Within (c .judge-fuelled .result)
-judged c = subst Within (sym (c .judge-fuelled .ensures)) (within-outcomeAt _ _ _ (by-fuel c .pre .0))
+judged : (c : tie.After-judge-fuelled) → Bounded (c .judge-fuelled .result)
+judged c = subst Bounded (sym (c .judge-fuelled .ensures)) (bounded-outcomeAt _ _ _ (by-fuel c .pre .0))
 
-judged-other : (c : tie.After-judge-unfuelled) → Within (c .judge-unfuelled .result)
-judged-other c = subst Within (sym (c .judge-unfuelled .ensures .0)) (within-outcomeAt _ _ _ (by-other c .pre .0))
+judged-other : (c : tie.After-judge-unfuelled) → Bounded (c .judge-unfuelled .result)
+judged-other c = subst Bounded (sym (c .judge-unfuelled .ensures .0)) (bounded-outcomeAt _ _ _ (by-other c .pre .0))
 
 cast-place : tie.Need-cast-place
 cast-place c = search needs
@@ -50,7 +51,7 @@ add-requires : tie.Need-add-requires
 unfolding stateIn stateWith stateOf
 add-requires c κs =
     let held = by-fuel c .pre .1 .1 .0 in
-    (held .0, (is-ready (by-fuel c) .room, (held .1, boundedOutcome-within _ (judged c))))
+    (held .0, (is-ready (by-fuel c) .room, (held .1, boundedOutcome-bounded _ (judged c))))
 
 make-room-requires : tie.Need-make-room-requires
 make-room-requires c κs =
@@ -89,7 +90,7 @@ add-co2-requires c κs =
       (
         is-ready s .room,
         (
-          (held .1, boundedOutcome-within _ (judged-other judge)),
+          (held .1, boundedOutcome-bounded _ (judged-other judge)),
           subst Co2Alone (sym (judge .judge-unfuelled .ensures .0)) (co2-outcomeAt _ _ _ other),
         ),
       ),
