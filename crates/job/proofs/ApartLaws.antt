@@ -32,14 +32,14 @@ module _ {k k′ : List ℕ} {h : Head} (apart : SetApart k k′) (e : opened k 
   e′ = opened-apart apart e named
 
   -- ---- records in turn
-  run-apart : (s : State) (m : ℕ) → s .done + m ≤ h .n → run h′ k′ s m ≡ run h k s m
+  run-apart : (s : State) (m : ℕ) → s .counts .done + m ≤ h .n → run h′ k′ s m ≡ run h k s m
   unfolding run
   run-apart s zero l = refl
   run-apart s (suc m) l =
       let before = run-apart s m (omega arith) in
-      let here : run h k s m .done + 1 ≤ h .n = omega (arith, run-done h k s m) in
-      (λ i. after (before i) (outcomeAt h′ k′ (before i .done)))
-      ∙ ap (after (run h k s m)) (outcomeAt-apart apart e _ (run h k s m .done) (omega arith))
+      let here : run h k s m .counts .done + 1 ≤ h .n = omega (arith, run-done h k s m) in
+      (λ i. after (before i) (outcomeAt h′ k′ (before i .counts .done)))
+      ∙ ap (after (run h k s m)) (outcomeAt-apart apart e _ (run h k s m .counts .done) (omega arith))
 
   -- ---- a fresh start
   module _ {A : Type 0} (refuse : ℕ → A) (go go′ : Head → A) where
@@ -88,7 +88,7 @@ module _ {k k′ : List ℕ} {h : Head} (apart : SetApart k k′) (e : opened k 
     pub wakeBytes-apart : (b : ℕ) (out : List ℕ) → wakeBytes k′ c b out ≡ wakeBytes k c b out
     unfolding wakeBytes wakeAdmitted moves encode decode
     wakeBytes-apart b out = admitted-apart _ _ _ c (λ s.
-        let few = fitFor-sound h c s .done-le in
+        let few = fitFor-sound h c s .counts-fit .done-le in
         let same = run-apart (decode c) (moves h c b) (omega arith) in
         ap (λ (x : State). choose (eqb (length out) checkpointSize) (encode h x) out) same)
 

@@ -30,13 +30,13 @@ use Rattle.rules.proofs.ApartLaws.{opened-apart, sightAt-apart}
 use Rattle.rules.proofs.RightLaws.{linesSound-rightLines}
 use Rattle.rules.proofs.ReaderLaws.{sightAt-shown}
 use Rattle.rules.proofs.ReasonLaws.{reasons-outcomeAt}
-use Rattle.job.specs.State.{State, fossilOf, biomassOf, ch4Of, n2oOf, asideOf, fresh, run, first, sumTo}
+use Rattle.job.specs.State.{mass, State, fossil, biomass, ch4, n2o, gives, asideOf, fresh, run, first, sumTo}
 use Rattle.job.specs.Checkpoint.{checkpointSize, doneIn, asideIn, indexIn, reasonIn, sound, decode, encode}
 use Rattle.job.specs.Reply.{reply}
 use Rattle.job.specs.Wake.{moves, freshReply, freshBytes, wakeReply, wakeBytes}
 use Rattle.job.specs.Report.{warmingOf, reportReply, leftReply}
 use Rattle.job.specs.History.{Wakes, History, InTurn}
-use Rattle.job.proofs.StateLaws.{first-sums}
+use Rattle.job.proofs.StateLaws.{first-mass, first-aside}
 use Rattle.job.proofs.CheckpointLaws.{fitFor-sound}
 use Rattle.job.proofs.WakeLaws.{freshAdmitted-book, freshAdmitted-32, freshAdmitted-go, freshBytes-kept}
 use Rattle.job.proofs.WakeLaws.{wakeAdmitted-book, wakeAdmitted-30, wakeAdmitted-31, wakeAdmitted-32, wakeAdmitted-go, wakeBytes-kept}
@@ -61,12 +61,12 @@ pub record Reports (k : List ℕ) (h : Head) (c : List ℕ) : Type 0 where
   pub exactly : ((vs : List ℕ) × (reportReply k c ≡ reply 0 vs)) ↔ ((doneIn c ≡ h .n) × (asideIn c ≡ 0))
   -- each rounded once from its exact mass, and the decision on exact masses, under the set that the trailer names.
   pub given : doneIn c ≡ h .n → asideIn c ≡ 0
-      → let s = decode c in
+      → let m = decode c .masses in
       let w = warmingOf (h .warming) in
-      let e = s .fossil + s .biomass + w .ch4 * s .ch4 + w .n2o * s .n2o in
+      let e = mass m fossil + mass m biomass + w .ch4 * mass m ch4 + w .n2o * mass m n2o in
       reportReply k c
-      ≡ reply 0 (kgOf (s .fossil) .0 ∷ kgOf (s .biomass) .0 ∷ kgOf (s .ch4) .0 ∷ kgOf (s .n2o) .0 ∷ kgOf e .0
-      ∷ choose (mustReport e (s .biomass)) 1 0 ∷ [])
+      ≡ reply 0 (kgOf (mass m fossil) .0 ∷ kgOf (mass m biomass) .0 ∷ kgOf (mass m ch4) .0 ∷ kgOf (mass m n2o) .0 ∷ kgOf e .0
+      ∷ choose (mustReport e (mass m biomass)) 1 0 ∷ [])
   -- Else it is told that the book isn't finished, or, once it is, the first record set aside.
   pub within : doneIn c ≤ h .n
   pub unfinished : doneIn c < h .n → reportReply k c ≡ reply 40 (doneIn c ∷ [])
@@ -77,7 +77,7 @@ pub reports : (k c : List ℕ) (h : Head) → opened k ≡ accepted h → length
 unfolding decode
 reports k c h e l s =
     let says = reportReply-at k c e l s in
-    let few = fitFor-sound h c s .done-le in
+    let few = fitFor-sound h c s .counts-fit .done-le in
     let only = replyAt-exactly h (decode c) few in
     record {
       exactly = (λ g. only .0 (g .0, sym says ∙ g .1), λ q. let g = only .1 q in (g .0, says ∙ g .1));
@@ -170,11 +170,9 @@ pub record Demand2 (k : List ℕ) (h : Head) (c : List ℕ) : Type 0 where
   -- its amount, heat and carbon, or of its readings. `look` shows what becomes of it.
   pub records : (i : ℕ) → Reasons (lines i k) (line i k) (linesIn (unitLines h k)) (linesIn (fuelLines h k)) (outcomeAt h k i)
   pub looks : (i : ℕ) → i < h .n → sightAt k i ≡ shown (outcomeAt h k i)
-  -- The ledgers are exact sums, in ng, of what each record gives by itself, and those set aside are counted.
-  pub fossil : decode c .fossil ≡ sumTo (λ i. fossilOf (outcomeAt h k i)) (doneIn c)
-  pub biomass : decode c .biomass ≡ sumTo (λ i. biomassOf (outcomeAt h k i)) (doneIn c)
-  pub ch4 : decode c .ch4 ≡ sumTo (λ i. ch4Of (outcomeAt h k i)) (doneIn c)
-  pub n2o : decode c .n2o ≡ sumTo (λ i. n2oOf (outcomeAt h k i)) (doneIn c)
+  -- The ledgers are exact sums, in ng, of what each record gives by itself, at every place of them, of which fossil,
+  -- biomass, ch4 and n2o are names, and those set aside are counted.
+  pub ledger : (i : ℕ) → mass (decode c .masses) i ≡ sumTo (λ j. mass (gives (outcomeAt h k j)) i) (doneIn c)
   pub aside : asideIn c ≡ sumTo (λ i. asideOf (outcomeAt h k i)) (doneIn c)
   -- It tells the first record that was set aside, and why.
   pub told : 0 < asideIn c → outcomeAt h k (indexIn c) ≡ SetAside (reasonIn c)
@@ -187,16 +185,12 @@ pub demand2 : (k : List ℕ) (h : Head) → opened k ≡ accepted h
 unfolding decode
 demand2 k h e cs c past i =
     let holds = decode-history k h e cs c past i in
-    let sums = first-sums h k (doneIn c) in
     let good = sound-history k h e cs c past i in
     record {
       records = λ j. reasons-outcomeAt h k j e;
       looks = λ j. sightAt-shown k h j e;
-      fossil = ap (λ (s : State). s .fossil) holds ∙ sums .fossil-sum;
-      biomass = ap (λ (s : State). s .biomass) holds ∙ sums .biomass-sum;
-      ch4 = ap (λ (s : State). s .ch4) holds ∙ sums .ch4-sum;
-      n2o = ap (λ (s : State). s .n2o) holds ∙ sums .n2o-sum;
-      aside = ap (λ (s : State). s .aside) holds ∙ sums .aside-sum;
+      ledger = λ j. ap (λ (s : State). mass (s .masses) j) holds ∙ first-mass h k (doneIn c) j;
+      aside = ap (λ (s : State). s .counts .aside) holds ∙ first-aside h k (doneIn c);
       told = λ l. told-history k h e cs c past i l .set-aside;
       none-before = λ l. told-history k h e cs c past i l .none-before;
       report = reports k c h e (good .0) (good .1);

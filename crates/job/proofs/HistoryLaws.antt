@@ -45,6 +45,9 @@ module _ (k : List ℕ) (h : Head) (e : opened k ≡ accepted h) where
   fits : (p : ℕ) → p ≤ h .n → FitFor h (first h k p)
   fits p l = fitFor-first h k p e l
 
+  length-first : (p : ℕ) → p ≤ h .n → length (left-by p) ≡ checkpointSize
+  length-first p l = length-encode h (first h k p) (fits p l .whole)
+
   decode-first : (p : ℕ) → p ≤ h .n → decode (left-by p) ≡ first h k p
   decode-first p l = decode-encode h (first h k p) (fits p l) (records-le k h e)
 
@@ -55,7 +58,7 @@ module _ (k : List ℕ) (h : Head) (e : opened k ≡ accepted h) where
 
   place-first : (p : ℕ) → p ≤ h .n → doneIn (left-by p) ≡ p
   unfolding decode
-  place-first p l = ap (λ (s : State). s .done) (decode-first p l) ∙ first-done h k p
+  place-first p l = ap (λ (s : State). s .counts .done) (decode-first p l) ∙ first-done h k p
 
   -- ---- a fresh start and a wake that are accepted had a whole buffer
   started : (c : List ℕ) → Starts k c → c ≡ left-by 0
@@ -76,7 +79,7 @@ module _ (k : List ℕ) (h : Head) (e : opened k ≡ accepted h) where
       → wakeReply k (left-by p) b out ≡ reply 0 ((min (p + b) (h .n) - p) ∷ [])
   unfolding wakeReply
   wakeReply-first p b out l o =
-      wakeAdmitted-go k (left-by p) out _ _ e (length-encode h (first h k p)) (sound-first p l) o
+      wakeAdmitted-go k (left-by p) out _ _ e (length-first p l) (sound-first p l) o
       ∙ ap (λ (m : ℕ). reply 0 (m ∷ [])) (moves-first p b l)
 
   wakeBytes-first : (p b : ℕ) (out : List ℕ) → p ≤ h .n → length out ≡ checkpointSize
@@ -84,7 +87,7 @@ module _ (k : List ℕ) (h : Head) (e : opened k ≡ accepted h) where
   unfolding wakeBytes
   wakeBytes-first p b out l o =
       let end : p + (min (p + b) (h .n) - p) ≡ min (p + b) (h .n) = omega arith in
-      wakeAdmitted-go k (left-by p) out _ _ e (length-encode h (first h k p)) (sound-first p l) o
+      wakeAdmitted-go k (left-by p) out _ _ e (length-first p l) (sound-first p l) o
       ∙ ap (λ (s : State). encode h (run h k s (moves h (left-by p) b))) (decode-first p l)
       ∙ ap (λ (m : ℕ). encode h (run h k (first h k p) m)) (moves-first p b l)
       ∙ ap (encode h) (run-first h k p (min (p + b) (h .n) - p))
@@ -102,7 +105,7 @@ module _ (k : List ℕ) (h : Head) (e : opened k ≡ accepted h) where
       ∙ wakeBytes-first 0 b next (omega arith) p
       ∙ ap left-by all in
       ap (reportReply k) saved
-      ∙ reportReply-at k (left-by (h .n)) e (length-encode h (first h k (h .n))) (sound-first (h .n) (omega arith))
+      ∙ reportReply-at k (left-by (h .n)) e (length-first (h .n) (omega arith)) (sound-first (h .n) (omega arith))
       ∙ ap (replyAt h) (decode-first (h .n) (omega arith))
 
   woke : (p b m : ℕ) (d : List ℕ) → p ≤ h .n → Wakes k (left-by p) b m d
@@ -116,7 +119,7 @@ module _ (k : List ℕ) (h : Head) (e : opened k ≡ accepted h) where
       ))
       (λ o. absurd (refused-0 (w .accepts)
       (wakeAdmitted-32 k (left-by p) (w .out) (λ n. reply n []) (λ x. reply 0 (moves x (left-by p) b ∷ [])) e
-      (length-encode h (first h k p)) (sound-first p l) o) (omega arith)))
+      (length-first p l) (sound-first p l) o) (omega arith)))
 
   -- ---- histories
   record Stands (c : List ℕ) : Type 0 where
@@ -196,7 +199,7 @@ module _ (k : List ℕ) (h : Head) (e : opened k ≡ accepted h) where
       → 0 < asideIn c → FirstAside h k (doneIn c) (indexIn c) (reasonIn c)
   unfolding decode
   told-history cs c past i =
-      subst (λ (s : State). 0 < s .aside → FirstAside h k (doneIn c) (s .index) (s .reason))
+      subst (λ (s : State). 0 < s .counts .aside → FirstAside h k (doneIn c) (s .counts .index) (s .counts .reason))
       (sym (decode-history cs c past i))
       (first-index h k (doneIn c))
 
@@ -204,4 +207,4 @@ module _ (k : List ℕ) (h : Head) (e : opened k ≡ accepted h) where
       → (length c ≡ checkpointSize) × (sound h c ≡ true)
   sound-history cs c past i =
       let at = at-history cs c past i in
-      (ap length (at .1) ∙ length-encode h (first h k (doneIn c)), ap (sound h) (at .1) ∙ sound-first (doneIn c) (at .0))
+      (ap length (at .1) ∙ length-first (doneIn c) (at .0), ap (sound h) (at .1) ∙ sound-first (doneIn c) (at .0))

@@ -1,12 +1,14 @@
 -- The argument, from states to the demands: laws on plain values, promises, uniqueness.
+pub mod PlacesLaws
 pub mod PutLaws
 pub mod StateLaws
-pub mod TallyLaws
-pub mod PileLaws
+pub mod LaidLaws
 pub mod CheckpointLaws
+pub mod WordsLaws
 pub mod ReplyLaws
 pub mod WakeLaws
 pub mod AdmissionLaws
+pub mod RunLaws
 pub mod ReportLaws
 pub mod HistoryLaws
 pub mod ApartLaws

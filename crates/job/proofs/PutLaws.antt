@@ -5,10 +5,11 @@ use mathlib.Core.Path.{_≡_, refl, ap, ap₂, sym, _∙_}
 use native.Mathlib.Nat.{pow-suc, div-div-eq-div-mul, le-of-suc-le-suc}
 use native.Mathlib.Numerals.{add-one}
 use native.Mathlib.Omega.{arith}
-use lib.ListN.{length, getD, take, drop, set, length-append, drop-of-length-le}
-use lib.Seq.{paste, paste-suc, take-all, take-length, take-at, drop-at, drop-append-add, drop-drop}
+use lib.ListN.{length, getD, take, drop, set, length-append, drop-of-length-le, replicate, length-replicate, getD-replicate, List·getD-append, List·getD-eq-default}
+use lib.Seq.{paste, paste-suc, take-all, take-at, drop-at, drop-append-add, drop-drop}
+use Rattle.choice.proofs.Splitting.{if-lt}
 use Rattle.rules.specs.Bytes.{word, bytesOf}
-use Rattle.rules.proofs.BytesLaws.{word-drop, word-take, length-bytesOf, byte-bytesOf, word-bytesOf}
+use Rattle.rules.proofs.BytesLaws.{word-same, word-nil, word-drop, length-bytesOf, byte-bytesOf, word-bytesOf}
 
 -- ---- what is left of a number
 pub div-bytes : (v i : ℕ) → v / 256 ^ i / 256 ≡ v / 256 ^ suc i
@@ -36,27 +37,24 @@ pub record Wrote (d o p : List ℕ) (at : ℕ) : Type 0 where
 pub wrote-none : (d : List ℕ) → Wrote d d [] 0
 wrote-none d = record { whole = refl; front = refl }
 
+-- What was written stands first, and behind it all is as it was.
+pub wrote-front : {d o p : List ℕ} {at : ℕ} → Wrote d o p at → take at o ≡ p
+wrote-front {d} {o} {p} {at} w = ap (take at) (w .whole) ∙ take-at p (drop at d) at (w .front)
+
+pub wrote-behind : {d o p : List ℕ} {at : ℕ} → Wrote d o p at → (n : ℕ) → drop (at + n) o ≡ drop (at + n) d
+wrote-behind {d} {o} {p} {at} w n =
+    ap (drop (at + n)) (w .whole)
+    ∙ ap (λ (m : ℕ). drop (m + n) (p ++ drop at d)) (sym (w .front))
+    ∙ drop-append-add p (drop at d) n
+    ∙ drop-drop n at d
+
 -- The n bytes of u are put behind them, and u is v.
 pub wrote-more : {d o p : List ℕ} {at : ℕ} → Wrote d o p at → {r : List ℕ} (n : ℕ) {u v : ℕ} → v ≡ u
     → r ≡ take at o ++ bytesOf n u ++ drop (at + n) o → Wrote d r (p ++ bytesOf n v) (at + n)
 wrote-more {d} {o} {p} {at} w {r} n {u} {v} e put = record {
-  whole =
-      put
-      ∙ ap (λ (m : ℕ). take at o ++ bytesOf n m ++ drop (at + n) o) (sym e)
-      ∙ ap (λ (l : List ℕ). take at l ++ bytesOf n v ++ drop (at + n) l) (w .whole)
-      ∙ ap (λ (l : List ℕ). l ++ bytesOf n v ++ drop (at + n) (p ++ drop at d)) before
-      ∙ ap (λ (l : List ℕ). p ++ bytesOf n v ++ l) behind;
+  whole = put ∙ λ i. wrote-front w i ++ bytesOf n (sym e i) ++ wrote-behind w n i;
   front = length-append p (bytesOf n v) ∙ omega (arith, length-bytesOf n v, w .front);
 }
-  where
-    before : take at (p ++ drop at d) ≡ p
-    before = take-at p (drop at d) at (w .front)
-
-    behind : drop (at + n) (p ++ drop at d) ≡ drop (at + n) d
-    behind =
-        ap (λ (m : ℕ). drop (m + n) (p ++ drop at d)) (sym (w .front))
-        ∙ drop-append-add p (drop at d) n
-        ∙ drop-drop n at d
 
 pub wrote-all : {d o p : List ℕ} {at : ℕ} → Wrote d o p at → length d ≡ at → o ≡ p
 wrote-all {d} {o} {p} {at} w h =
@@ -64,50 +62,49 @@ wrote-all {d} {o} {p} {at} w h =
     ∙ ap (λ (l : List ℕ). p ++ l) (drop-of-length-le d {i = at} (omega arith))
     ∙ append-nil p
 
+-- ---- what is behind a word makes no difference, and a number that was put is read
+pub word-append : (p t : List ℕ) (k n : ℕ) → k + n ≤ length p → word (p ++ t) k n ≡ word p k n
+word-append p t k n l = word-same (p ++ t) p k n (λ i h j. List·getD-append p t 0 i (omega arith))
+
+pub word-blank : (m k n : ℕ) → word (replicate m 0) k n ≡ 0
+word-blank m k n = word-same (replicate m 0) [] k n (λ i h j. if-lt i m (λ l. getD-replicate m i 0 0 l) (λ l. List·getD-eq-default (replicate m 0) 0 {n = i} (omega (arith, length-replicate {A = ℕ} m 0)))) ∙ word-nil k n
+
+pub word-behind : (p : List ℕ) (at n v : ℕ) → length p ≡ at → v < 256 ^ n → word (p ++ bytesOf n v) at n ≡ v
+word-behind p at n v e l =
+    sym (word-drop (p ++ bytesOf n v) at n)
+    ∙ ap (λ (c : List ℕ). word c 0 n) (drop-at p (bytesOf n v) at e)
+    ∙ word-bytesOf n v l
+
 -- ---- numbers one after the other, read: each is its width in bytes and its value
 abbrev pub Number : Type 0
 Number = ℕ × ℕ
 
 -- The numbers of fs behind the bytes p, and where the number i of them stands, the first at byte `at`.
-abbrev pub laid : List ℕ → List Number → List ℕ
-laid p [] = p
-laid p (f ∷ fs) = laid (p ++ bytesOf (f .0) (f .1)) fs
+abbrev pub joined : List ℕ → List Number → List ℕ
+joined p [] = p
+joined p (f ∷ fs) = joined (p ++ bytesOf (f .0) (f .1)) fs
 
 abbrev pub placed : ℕ → List Number → ℕ → ℕ
 placed at fs zero = at
 placed at [] (suc i) = at
 placed at (f ∷ fs) (suc i) = placed (at + f .0) fs i
 
-laid-append : (p : List ℕ) (fs : List Number) → laid p fs ≡ p ++ laid [] fs
-laid-append p [] = sym (append-nil p)
-laid-append p (f ∷ fs) =
+pub joined-append : (p : List ℕ) (fs : List Number) → joined p fs ≡ p ++ joined [] fs
+joined-append p [] = sym (append-nil p)
+joined-append p (f ∷ fs) =
     let b = bytesOf (f .0) (f .1) in
-    laid-append (p ++ b) fs ∙ append-assoc p b (laid [] fs) ∙ ap (λ (l : List ℕ). p ++ l) (sym (laid-append b fs))
+    joined-append (p ++ b) fs ∙ append-assoc p b (joined [] fs) ∙ ap (λ (l : List ℕ). p ++ l) (sym (joined-append b fs))
 
-pub word-laid : (p : List ℕ) (at : ℕ) (fs : List Number) → length p ≡ at → (i : ℕ) → i < length fs →
+pub word-joined : (p : List ℕ) (at : ℕ) (fs : List Number) → length p ≡ at → (i : ℕ) → i < length fs →
     let f = getD fs i (0, 0) in
-    f .1 < 256 ^ f .0 → word (laid p fs) (placed at fs i) (f .0) ≡ f .1
-word-laid p at [] e i h l = omega arith
-word-laid p at (f ∷ fs) e zero h l =
-    let n = f .0 in
-    let b = bytesOf n (f .1) in
-    let rest = laid [] fs in
-    ap (λ (c : List ℕ). word c at n) (laid-append (p ++ b) fs ∙ append-assoc p b rest)
-    ∙ sym (word-drop (p ++ (b ++ rest)) at n)
-    ∙ ap (λ (c : List ℕ). word c 0 n) (drop-at p (b ++ rest) at e)
-    ∙ sym (word-take (b ++ rest) n)
-    ∙ ap (λ (c : List ℕ). word c 0 n) (take-at b rest n (length-bytesOf n (f .1)))
-    ∙ word-bytesOf n (f .1) l
-word-laid p at (f ∷ fs) e (suc i) h l =
+    f .1 < 256 ^ f .0 → word (joined p fs) (placed at fs i) (f .0) ≡ f .1
+word-joined p at [] e i h l = omega arith
+word-joined p at (f ∷ fs) e zero h l =
+    let b = bytesOf (f .0) (f .1) in
+    ap (λ (c : List ℕ). word c at (f .0)) (joined-append (p ++ b) fs)
+    ∙ word-append (p ++ b) (joined [] fs) at (f .0) (omega (arith, length-append p b, length-bytesOf (f .0) (f .1)))
+    ∙ word-behind p at (f .0) (f .1) e l
+word-joined p at (f ∷ fs) e (suc i) h l =
     let b = bytesOf (f .0) (f .1) in
     let behind = length-append p b ∙ ap₂ _+_ e (length-bytesOf (f .0) (f .1)) in
-    word-laid (p ++ b) (at + f .0) fs behind i (le-of-suc-le-suc h) l
-
--- ---- a copy over a whole list
-pub copied-all : (s d : List ℕ) {r : List ℕ} → r ≡ take (length s) s ++ drop (length s) d
-    → length s ≡ length d → r ≡ s
-copied-all s d e h =
-    e
-    ∙ ap (λ (l : List ℕ). l ++ drop (length s) d) (take-length s)
-    ∙ ap (λ (l : List ℕ). s ++ l) (drop-of-length-le d {i = length s} (omega arith))
-    ∙ append-nil s
+    word-joined (p ++ b) (at + f .0) fs behind i (le-of-suc-le-suc h) l

@@ -1,6 +1,6 @@
 -- The set of warming values decides: of checkpoints that no wake made, with tonnes of CH4 or of N2O alone, one set
 -- asks for a report and the other doesn't, both ways. Assumes nothing.
-use Prim.Native.Nat.{ℕ, _+_, _*_, _≤_}
+use Prim.Native.Nat.{ℕ, zero, suc, _+_, _*_, _/_, _<_, _≤_}
 use mathlib.Core.List.{List, [], _∷_}
 use mathlib.Core.Path.{_≡_, refl, ap, _∙_}
 use native.Mathlib.Nat.{mul-assoc}
@@ -11,11 +11,11 @@ use Rattle.choice.proofs.TestsLaws.{choose-t, choose-f}
 use Rattle.mass.specs.Ledger.{tonne, tonnesEach}
 use Rattle.mass.specs.Figures.{mustReport}
 use Rattle.mass.proofs.FiguresLaws.{mustReport-none, kgOf-tonnes}
-use Rattle.mass.proofs.Cases as mass
+use Rattle.mass.proofs.Cases as cases
 use Rattle.rules.specs.Book.{accepted, opened}
 use Rattle.rules.proofs.ApartLaws.{naming}
 use Rattle.rules.proofs.Sample.{sampleBook, sampleHead, opened-sampleBook, secondBook, opened-secondBook}
-use Rattle.job.specs.State.{State}
+use Rattle.job.specs.State.{mass, State, ledgers, fossil, biomass, ch4, n2o}
 use Rattle.job.specs.Bounds.{FitFor}
 use Rattle.job.specs.Checkpoint.{sound, decode, encode}
 use Rattle.job.specs.Reply.{reply}
@@ -29,30 +29,31 @@ use Rattle.job.proofs.Witness.{figures}
 -- ---- a state of so many tonnes of CH4 and of N2O alone, and a checkpoint that says it
 abbrev pub only : ℕ → ℕ → State
 only c n = record {
-  done = 1;
-  aside = 0;
-  index = 0;
-  reason = 0;
-  fossil = 0;
-  biomass = 0;
-  ch4 = c * tonne;
-  n2o = n * tonne;
+  counts = record { done = 1; aside = 0; index = 0; reason = 0 };
+  masses = 0 ∷ 0 ∷ c * tonne ∷ n * tonne ∷ [];
 }
 
 abbrev pub made-up : ℕ → ℕ → List ℕ
 made-up c n = encode sampleHead (only c n)
 
 module _ (c n : ℕ) (l : c ≤ tonnesEach) (m : n ≤ tonnesEach) where
+  masses-fit : (i : ℕ) → i < ledgers → mass (only c n .masses) i / tonne ≤ tonnesEach * 1
+  masses-fit zero h = lit≤ tt
+  masses-fit (suc zero) h = lit≤ tt
+  masses-fit (suc (suc zero)) h = omega arith
+  masses-fit (suc (suc (suc zero))) h = omega arith
+  masses-fit (suc (suc (suc (suc i)))) h = absurd (omega arith)
+
   fits : FitFor sampleHead (only c n)
   fits = record {
-    done-le = lit≤ tt;
-    aside-le = lit≤ tt;
-    none-first = λ z. (refl, refl);
-    some-first = λ z. absurd (z refl);
-    fossil-le = lit≤ tt;
-    biomass-le = lit≤ tt;
-    ch4-le = omega arith;
-    n2o-le = omega arith;
+    counts-fit = record {
+      done-le = lit≤ tt;
+      aside-le = lit≤ tt;
+      none-first = λ z. (refl, refl);
+      some-first = λ z. absurd (z refl);
+    };
+    whole = refl;
+    masses-le = masses-fit;
   }
 
   reportReply-only : (k : List ℕ) (w : ℕ) → opened k ≡ accepted (naming w sampleHead)
@@ -62,9 +63,9 @@ module _ (c n : ℕ) (l : c ≤ tonnesEach) (m : n ≤ tonnesEach) where
       let few = records-le sampleBook sampleHead opened-sampleBook in
       let good = sound-encode sampleHead (only c n) fits few (lit< tt) (lit< tt) in
       let says = decode-encode sampleHead (only c n) fits few in
-      let told = demand1 k (made-up c n) 0 (made-up c n) .accepts-report _ e (length-encode sampleHead (only c n)) good in
-      told .given (ap (λ (s : State). s .done) says) (ap (λ (s : State). s .aside) says)
-      ∙ (λ i. let s = says i in figures (warmingOf w) (s .fossil) (s .biomass) (s .ch4) (s .n2o))
+      let told = demand1 k (made-up c n) 0 (made-up c n) .accepts-report _ e (length-encode sampleHead (only c n) refl) good in
+      told .given (ap (λ (s : State). s .counts .done) says) (ap (λ (s : State). s .counts .aside) says)
+      ∙ (λ i. let m = says i .masses in figures (warmingOf w) (mass m fossil) (mass m biomass) (mass m ch4) (mass m n2o))
 
 -- ---- the figures of whole tonnes
 figures-tonnes : (w : ℕ) {x y : ℕ} → warmingOf w ≡ record { ch4 = x; n2o = y } → (c n d : ℕ) {m : ℕ}
@@ -74,7 +75,7 @@ figures-tonnes : (w : ℕ) {x y : ℕ} → warmingOf w ≡ record { ch4 = x; n2o
 figures-tonnes w {x} {y} set c n d reports sum =
     let all : 0 + 0 + x * (c * tonne) + y * (n * tonne) ≡ d * tonne =
     omega (arith, mul-assoc x c tonne, mul-assoc y n tonne) in
-    rw (set, all, reports, kgOf-tonnes c, kgOf-tonnes n, kgOf-tonnes d, mass.nothing-kg) refl
+    rw (set, all, reports, kgOf-tonnes c, kgOf-tonnes n, kgOf-tonnes d, cases.nothing-kg) refl
 
 -- ---- the set decides
 pub record Sets : Type 0 where

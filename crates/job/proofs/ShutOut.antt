@@ -11,7 +11,7 @@ use Rattle.rules.specs.Book.{accepted, opened, SetApart}
 use Rattle.rules.specs.Record.{outcomeAt}
 use Rattle.rules.proofs.Sample.{sampleBook, sampleHead, opened-sampleBook, emptyBook, emptyHead, opened-emptyBook}
 use Rattle.rules.proofs.Sample.{secondBook, opened-secondBook, sampleBook-apart}
-use Rattle.job.specs.State.{asideOf, sumTo}
+use Rattle.job.specs.State.{mass, fossil, asideOf, sumTo}
 use Rattle.job.specs.Checkpoint.{checkpointSize, doneIn, asideIn, decode}
 use Rattle.job.specs.Reply.{Reply, reply}
 use Rattle.job.specs.Wake.{freshReply, freshBytes, wakeReply, wakeBytes}
@@ -62,7 +62,7 @@ module _ (k : List ℕ) (h : Head) (e : opened k ≡ accepted h) where
 -- One fixed report for two finished books whose fossil CO2 differs.
 pub no-fixed-report : (k k′ : List ℕ) (h h′ : Head) (c c′ : List ℕ) → Demand2 k h c → Demand2 k′ h′ c′
     → doneIn c ≡ h .n → asideIn c ≡ 0 → doneIn c′ ≡ h′ .n → asideIn c′ ≡ 0
-    → (kgOf (decode c .fossil) .0 ≡ kgOf (decode c′ .fossil) .0 → ⊥)
+    → (kgOf (mass (decode c .masses) fossil) .0 ≡ kgOf (mass (decode c′ .masses) fossil) .0 → ⊥)
     → (fixed : Reply) → reportReply k c ≡ fixed → reportReply k′ c′ ≡ fixed → ⊥
 no-fixed-report k k′ h h′ c c′ p q l z l′ z′ differ fixed r r′ =
     differ (one-first (sym (p .report .given l z) ∙ r) (sym (q .report .given l′ z′) ∙ r′))

@@ -1,8 +1,8 @@
--- A call's admission, one case at a time, and what an accepted book says of a tally. Assumes nothing.
+-- A call's admission, one case at a time, and how many records an accepted book has. Assumes nothing.
 use Prim.Native.Nat.{ℕ, suc, _≤_}
 use mathlib.Core.Bool.{Bool, true, false}
 use mathlib.Core.List.{List, []}
-use mathlib.Core.Path.{_≡_, refl, sym, ap, _∙_, subst}
+use mathlib.Core.Path.{_≡_, refl, sym, ap, _∙_}
 use native.Mathlib.Omega.{arith}
 use lib.Dec.{eqb}
 use lib.ListN.{length}
@@ -10,18 +10,12 @@ use borrow.Author.Tests.{eq-eqb, ne-eqb}
 use Rattle.choice.specs.Tests.{choose}
 use Rattle.choice.proofs.TestsLaws.{choose-t, choose-f}
 use Rattle.mass.specs.Ledger.{recordsForeseen}
-use Rattle.mass.specs.Figures.{AllSound}
 use Rattle.rules.specs.declared.book.Head.{Head}
 use Rattle.rules.specs.Book.{Answer, refused, accepted, opened}
 use Rattle.rules.proofs.BookLaws.{accepted-facts}
-use Rattle.job.specs.declared.tally.Tally.{Tally}
-use Rattle.job.specs.State.{State}
-use Rattle.job.specs.Bounds.{FitFor}
 use Rattle.job.specs.Checkpoint.{checkpointSize, sound}
-use Rattle.job.specs.Tally.{tallyOf}
 use Rattle.job.specs.Reply.{reply}
 use Rattle.job.specs.Wake.{ifOpen, freshAdmitted, freshReply, freshBytes, admittedFor, admitted, wakeAdmitted, wakeReply, wakeBytes}
-use Rattle.job.proofs.TallyLaws.{sound-ledgersOf}
 use Rattle.job.proofs.ReplyLaws.{refused-0}
 
 -- ---- the book
@@ -134,9 +128,3 @@ module _ {n : ℕ} {vs out : List ℕ} where
 -- ---- a book that is accepted
 pub records-le : (k : List ℕ) (h : Head) → opened k ≡ accepted h → h .n ≤ recordsForeseen
 records-le k h e = let a = accepted-facts k h e in omega arith
-
-pub sound-tally : (h : Head) (s : State) {t : Tally} → h .n ≤ recordsForeseen → t ≡ tallyOf s
-    → FitFor h s → AllSound (t .ledgers)
-unfolding tallyOf
-sound-tally h s few p f =
-    subst AllSound (sym (ap (λ (x : Tally). x .ledgers) p)) (sound-ledgersOf h s f few)

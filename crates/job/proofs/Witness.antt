@@ -11,7 +11,7 @@ use Rattle.choice.specs.Tests.{choose}
 use Rattle.choice.proofs.TestsLaws.{choose-f}
 use Rattle.mass.specs.declared.figures.Warming.{Warming}
 use Rattle.mass.specs.Figures.{kgOf, mustReport}
-use Rattle.mass.proofs.Cases as mass
+use Rattle.mass.proofs.Cases as cases
 use Rattle.rules.specs.declared.book.Head.{Head}
 use Rattle.rules.specs.declared.record.Outcome.{Outcome}
 use Rattle.rules.specs.Book.{accepted, opened}
@@ -19,8 +19,8 @@ use Rattle.rules.specs.Record.{outcomeAt}
 use Rattle.rules.proofs.Cases.{counted}
 use Rattle.rules.proofs.Sample.{sampleBook, sampleHead, opened-sampleBook, outcomeAt-sampleBook}
 use Rattle.rules.proofs.Sample.{emptyBook, emptyHead, opened-emptyBook}
-use Rattle.job.specs.State.{fossilOf, biomassOf, ch4Of, n2oOf, asideOf, sumTo}
-use Rattle.job.specs.Checkpoint.{checkpointSize, doneIn}
+use Rattle.job.specs.State.{_to_, _plus_, mass, fossil, biomass, ch4, n2o, gives, asideOf, sumTo}
+use Rattle.job.specs.Checkpoint.{checkpointSize, doneIn, decode}
 use Rattle.job.specs.Reply.{Reply, reply}
 use Rattle.job.specs.Wake.{freshReply, freshBytes, wakeReply, wakeBytes}
 use Rattle.job.specs.Report.{warmingOf, reportReply}
@@ -82,16 +82,14 @@ module _ (k : List ℕ) (h : Head) (e : opened k ≡ accepted h) where
       whole : (g : Outcome → ℕ) {v w : ℕ} → v ≡ sumTo (λ i. g (outcomeAt h k i)) (doneIn end) → sum g ≡ w → v ≡ w
       whole g q r = q ∙ ap (sumTo (λ i. g (outcomeAt h k i))) all-done ∙ r
 
-      reportReply-end : {f v c n : ℕ} → sum fossilOf ≡ f → sum biomassOf ≡ v → sum ch4Of ≡ c → sum n2oOf ≡ n
-          → sum asideOf ≡ 0 → reportReply k end ≡ figures (warmingOf (h .warming)) f v c n
-      reportReply-end f v c n a =
+      -- The masses of the ledgers at the end, given to a report.
+      reportReply-end : {m : ℕ → ℕ} → ((i : ℕ) → sum (λ o. mass (gives o) i) ≡ m i) → sum asideOf ≡ 0
+          → reportReply k end ≡ figures (warmingOf (h .warming)) (m fossil) (m biomass) (m ch4) (m n2o)
+      reportReply-end {m} masses none =
           let says = demands (0 + b) end ended .0 in
-          let fossil = whole fossilOf (says .fossil) f in
-          let biomass = whole biomassOf (says .biomass) v in
-          let ch4 = whole ch4Of (says .ch4) c in
-          let n2o = whole n2oOf (says .n2o) n in
-          says .report .given all-done (whole asideOf (says .aside) a)
-          ∙ (λ i. figures (warmingOf (h .warming)) (fossil i) (biomass i) (ch4 i) (n2o i))
+          let at : (i : ℕ) → mass (decode end .masses) i ≡ m i = λ i. whole (λ o. mass (gives o) i) (says .ledger i) (masses i) in
+          says .report .given all-done (whole asideOf (says .aside) none)
+          ∙ (λ i. figures (warmingOf (h .warming)) (at fossil i) (at biomass i) (at ch4 i) (at n2o i))
 
 -- ---- what the one record gives
 sum-sampleBook : (g : Outcome → ℕ)
@@ -101,8 +99,8 @@ sum-sampleBook g = ap (λ (x : Outcome). 0 + g x) outcomeAt-sampleBook
 
 figures-sampleBook : figures (warmingOf 0) 1900000000000000 0 34200000000 3420000000 ≡ reply 0 (1900 ∷ 0 ∷ 0 ∷ 0 ∷ 1902 ∷ 0 ∷ [])
 figures-sampleBook =
-    rw (warmingOf-first, mass.p1-co2-kg, mass.nothing-kg, mass.p1-ch4-kg, mass.p1-n2o-kg, mass.p1-co2e-kg)
-    (ap (λ (m : ℕ). reply 0 (1900 ∷ 0 ∷ 0 ∷ 0 ∷ 1902 ∷ m ∷ [])) (choose-f 1 mass.p1-reports refl))
+    rw (warmingOf-first, cases.p1-co2-kg, cases.nothing-kg, cases.p1-ch4-kg, cases.p1-n2o-kg, cases.p1-co2e-kg)
+    (ap (λ (m : ℕ). reply 0 (1900 ∷ 0 ∷ 0 ∷ 0 ∷ 1902 ∷ m ∷ [])) (choose-f 1 cases.p1-reports refl))
 
 -- ---- the witness
 -- out and next are buffers of 96 bytes, whatever they held, and b is a budget above 0.
@@ -119,27 +117,27 @@ pub record Witness (out next : List ℕ) (b : ℕ) : Type 0 where
       ≡ reply 0 (1900 ∷ 0 ∷ 0 ∷ 0 ∷ 1902 ∷ 0 ∷ [])
 
 pub witness : (out next : List ℕ) (b : ℕ) → length out ≡ checkpointSize → length next ≡ checkpointSize → 1 ≤ b → Witness out next b
+unfolding _to_ _plus_
 witness out next b o p l = record {
   starts = demand1 sampleBook out b out .accepts-fresh sampleHead opened-sampleBook o;
   waits = reportReply-start sampleBook sampleHead opened-sampleBook out o (lit< tt);
   wakes = wakeReply-start sampleBook sampleHead opened-sampleBook out o next p b l;
   reports =
       reportReply-end sampleBook sampleHead opened-sampleBook out o next p b l
-      (sum-sampleBook fossilOf) (sum-sampleBook biomassOf) (sum-sampleBook ch4Of) (sum-sampleBook n2oOf)
-      (sum-sampleBook asideOf)
+      (λ i. sum-sampleBook (λ x. mass (gives x) i)) (sum-sampleBook asideOf)
       ∙ figures-sampleBook;
 }
 
 -- ---- a book with no record, which is at its end at once
 figures-emptyBook : figures (warmingOf 0) 0 0 0 0 ≡ reply 0 (0 ∷ 0 ∷ 0 ∷ 0 ∷ 0 ∷ 0 ∷ [])
 figures-emptyBook =
-    rw (warmingOf-first, mass.nothing-kg)
-    (ap (λ (m : ℕ). reply 0 (0 ∷ 0 ∷ 0 ∷ 0 ∷ 0 ∷ m ∷ [])) (choose-f 1 mass.nothing-reports refl))
+    rw (warmingOf-first, cases.nothing-kg)
+    (ap (λ (m : ℕ). reply 0 (0 ∷ 0 ∷ 0 ∷ 0 ∷ 0 ∷ m ∷ [])) (choose-f 1 cases.nothing-reports refl))
 
 pub reportReply-emptyBook : (out next : List ℕ) → length out ≡ checkpointSize → length next ≡ checkpointSize
     → reportReply emptyBook (wakeBytes emptyBook (freshBytes emptyBook out) 0 next)
     ≡ reply 0 (0 ∷ 0 ∷ 0 ∷ 0 ∷ 0 ∷ 0 ∷ [])
 unfolding sumTo
 reportReply-emptyBook out next o p =
-    reportReply-end emptyBook emptyHead opened-emptyBook out o next p 0 (omega arith) refl refl refl refl refl
+    reportReply-end emptyBook emptyHead opened-emptyBook out o next p 0 (omega arith) (λ i. refl) refl
     ∙ figures-emptyBook

@@ -12,7 +12,7 @@ use Rattle.rules.specs.declared.book.Head.{Head}
 use Rattle.rules.specs.Book.{Answer, refused, accepted}
 use Rattle.job.specs.declared.admission.Admission.{Admission}
 use Rattle.job.specs.declared.admission.Admission.the-variants.{Refused, Sound}
-use Rattle.job.specs.Checkpoint.{decode}
+use Rattle.job.specs.Checkpoint.{doneIn, decode}
 use Rattle.job.specs.Reply.{Reply, reply, refusalNumber}
 use Rattle.job.specs.Wake.{ifOpen, admittedFor}
 use Rattle.job.specs.Report.{replyAt}
@@ -25,4 +25,4 @@ unfoldable pub reportFor : Head → List ℕ → Reply
 reportFor h c = ifOpen (admittedFor h c) (λ n. reply n []) (λ x. replyAt x (decode c))
 
 unfoldable pub leftFor : Head → List ℕ → Reply
-leftFor h c = ifOpen (admittedFor h c) (λ n. reply n []) (λ x. reply 0 ((x .n - decode c .done) ∷ []))
+leftFor h c = ifOpen (admittedFor h c) (λ n. reply n []) (λ x. reply 0 ((x .n - doneIn c) ∷ []))

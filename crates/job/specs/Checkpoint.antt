@@ -2,26 +2,28 @@
 --
 --     checkpointSize                 96
 --     doneIn c .. yearIn c           the fields of a checkpoint c
---     fossilAt .. n2oAt              where each ledger stands
---     tonnesIn c k, restIn c k       the ledger at byte k: whole tonnes, and ng
+--     ledgerPlace i                  where the ledger at place i stands
+--     tonnesIn c i, restIn c i       this ledger: whole tonnes, and ng
 --     gapIn c, blankIn c             the bytes that no field names are 0
 --     firstSound c                   index and reason of the first record set aside are right
---     ledgerSound c k                the ledger at byte k is right
+--     ledgerSound c i                the ledger at place i is right
+--     every t n                      the test t passes for 0 .. n - 1
 --     sound h c                      c is sound for a book with the head h (else 31)
 --     decode c                       the state that c says
+--     laid p ms                      the bytes p, and behind them a ledger for each mass of ms
 --     encode h s                     the checkpoint that says s, of a book with the head h
 --
 -- Laws: proofs/CheckpointLaws.antt. Definitions only.
-use Prim.Native.Nat.{ℕ, _+_, _*_, _/_, _%_}
-use mathlib.Core.Bool.{Bool}
-use mathlib.Core.List.{List, _++_}
+use Prim.Native.Nat.{ℕ, zero, suc, _+_, _*_, _/_, _%_}
+use mathlib.Core.Bool.{Bool, true}
+use mathlib.Core.List.{List, [], _∷_, _++_}
 use lib.Dec.{leb, ltb, eqb}
 use Rattle.choice.specs.Tests.{_also_, choose}
 use Rattle.mass.specs.Ledger.{tonne, tonnesEach}
 use Rattle.rules.specs.declared.book.Head.{Head}
 use Rattle.rules.specs.Bytes.{word, zeros, bytesOf}
 use Rattle.rules.specs.Record.{lastReason}
-use Rattle.job.specs.State.{State}
+use Rattle.job.specs.State.{State, each, ledgers}
 
 abbrev pub checkpointSize : ℕ
 checkpointSize = 96
@@ -42,23 +44,14 @@ reasonIn c = word c 12 1
 abbrev pub gapIn : List ℕ → Bool
 gapIn c = zeros c 13 3
 
-abbrev pub fossilAt : ℕ
-fossilAt = 16
-
-abbrev pub biomassAt : ℕ
-biomassAt = 32
-
-abbrev pub ch4At : ℕ
-ch4At = 48
-
-abbrev pub n2oAt : ℕ
-n2oAt = 64
+abbrev pub ledgerPlace : ℕ → ℕ
+ledgerPlace i = 16 + 16 * i
 
 abbrev pub tonnesIn : List ℕ → ℕ → ℕ
-tonnesIn c k = word c k 8
+tonnesIn c i = word c (ledgerPlace i) 8
 
 abbrev pub restIn : List ℕ → ℕ → ℕ
-restIn c k = word c (k + 8) 8
+restIn c i = word c (ledgerPlace i + 8) 8
 
 abbrev pub lengthIn : List ℕ → ℕ
 lengthIn c = word c 80 4
@@ -77,7 +70,11 @@ firstSound c =
     (ltb (indexIn c) (doneIn c) also leb 1 (reasonIn c) also leb (reasonIn c) lastReason)
 
 unfoldable pub ledgerSound : List ℕ → ℕ → Bool
-ledgerSound c k = ltb (restIn c k) tonne also leb (tonnesIn c k) (tonnesEach * doneIn c)
+ledgerSound c i = ltb (restIn c i) tonne also leb (tonnesIn c i) (tonnesEach * doneIn c)
+
+unfoldable pub every : (ℕ → Bool) → ℕ → Bool
+every t zero = true
+every t (suc n) = every t n also t n
 
 unfoldable pub sound : Head → List ℕ → Bool
 sound h c =
@@ -86,31 +83,25 @@ sound h c =
     also leb (doneIn c) (h .n)
     also leb (asideIn c) (doneIn c)
     also firstSound c
-    also ledgerSound c fossilAt
-    also ledgerSound c biomassAt
-    also ledgerSound c ch4At
-    also ledgerSound c n2oAt
+    also every (ledgerSound c) ledgers
     also gapIn c
     also blankIn c
 
 -- ---- what a checkpoint says, and how it is said
 unfoldable pub decode : List ℕ → State
 decode c = record {
-  done = doneIn c;
-  aside = asideIn c;
-  index = indexIn c;
-  reason = reasonIn c;
-  fossil = tonnesIn c fossilAt * tonne + restIn c fossilAt;
-  biomass = tonnesIn c biomassAt * tonne + restIn c biomassAt;
-  ch4 = tonnesIn c ch4At * tonne + restIn c ch4At;
-  n2o = tonnesIn c n2oAt * tonne + restIn c n2oAt;
+  counts = record { done = doneIn c; aside = asideIn c; index = indexIn c; reason = reasonIn c };
+  masses = each (λ i. tonnesIn c i * tonne + restIn c i) ledgers;
 }
+
+unfoldable pub laid : List ℕ → List ℕ → List ℕ
+laid p [] = p
+laid p (v ∷ ms) = laid (p ++ bytesOf 8 (v / tonne) ++ bytesOf 8 (v % tonne)) ms
 
 unfoldable pub encode : Head → State → List ℕ
 encode h s =
-    bytesOf 4 (s .done) ++ bytesOf 4 (s .aside) ++ bytesOf 4 (s .index) ++ bytesOf 1 (s .reason) ++ bytesOf 3 0
-    ++ bytesOf 8 (s .fossil / tonne) ++ bytesOf 8 (s .fossil % tonne)
-    ++ bytesOf 8 (s .biomass / tonne) ++ bytesOf 8 (s .biomass % tonne)
-    ++ bytesOf 8 (s .ch4 / tonne) ++ bytesOf 8 (s .ch4 % tonne)
-    ++ bytesOf 8 (s .n2o / tonne) ++ bytesOf 8 (s .n2o % tonne)
+    let c = s .counts in
+    laid
+    (bytesOf 4 (c .done) ++ bytesOf 4 (c .aside) ++ bytesOf 4 (c .index) ++ bytesOf 1 (c .reason) ++ bytesOf 3 0)
+    (s .masses)
     ++ bytesOf 4 (h .length) ++ bytesOf 2 (h .year) ++ bytesOf 10 0

@@ -7,6 +7,5 @@ pub mod Report
 pub mod History
 -- What serves the code alone.
 pub mod Bounds
-pub mod Tally
-pub mod Pile
+pub mod Words
 pub mod Admission

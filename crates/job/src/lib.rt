@@ -2,9 +2,10 @@
 // Bad input is answered with a number; nothing here asks anything of its caller.
 mod admission;
 pub mod checkpoint;
+mod counts;
+mod ledgers;
 mod put;
 pub mod reply;
 pub mod report;
 mod run;
-mod tally;
 pub mod wake;

@@ -1,23 +1,12 @@
-// Numbers put into a buffer of a checkpoint's size, little-endian.
-use crate::checkpoint::SIZE;
+// Numbers put into a buffer, little-endian.
 ghost use mathlib.Core.List.{_++_};
 ghost use mathlib.Core.Path.{_≡_};
 ghost use Prim.Native.Nat.{_+_, _≤_};
 ghost use lib.ListN.{length, take, drop};
 ghost use Rattle.rules.specs.Bytes.{bytesOf};
-ghost use Rattle.job.specs.Checkpoint.{checkpointSize};
 
-// The buffer with v in the n bytes from `at` on.
-pub(crate) fn put(b: [u8; SIZE], at: usize, n: usize, v: u64) -> [u8; SIZE]
-    requires within { ⌜ at + n ≤ checkpointSize ⌝ }
-    ensures put { λ r. ⌜ r ≡ take at b ++ bytesOf n v ++ drop (at + n) b ⌝ }
-{
-    let mut out = b;
-    put_in(&mut out, at, n, v);
-    out
-}
-
-fn put_in(out: &mut [u8], at: usize, n: usize, v: u64)
+// v goes in the n bytes from `at` on.
+pub(crate) fn put(out: &mut [u8], at: usize, n: usize, v: u64)
     requires within { ⌜ at + n ≤ length (now out) ⌝ }
     ensures put { λ _. ⌜ now (out .exit) ≡ take at (now (out .entry)) ++ bytesOf n v ++ drop (at + n) (now (out .entry)) ⌝ }
 {

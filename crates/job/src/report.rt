@@ -3,21 +3,25 @@
 use crate::admission;
 use crate::admission::Admission;
 use crate::checkpoint;
+use crate::ledgers;
 use crate::reply::Refusal;
 use crate::reply::Remaining;
 use crate::reply::Reported;
-use crate::tally::Tally;
 use mass::figures;
 use mass::figures::Warming;
+use mass::ledger::Ledgers;
 use rules::book;
 use rules::book::Head;
 use rules::book::Opened;
 ghost use mathlib.Core.Path.{_≡_};
 ghost use Prim.Native.Nat.{_≤_};
+ghost use lib.ListN.{length};
 ghost use Rattle.mass.specs.Ledger.{recordsForeseen};
-ghost use Rattle.job.specs.Bounds.{FitFor};
-ghost use Rattle.job.specs.Tally.{tallyOf, stateOf};
+ghost use Rattle.rules.specs.Book.{accepted};
+ghost use Rattle.job.specs.Checkpoint.{checkpointSize, decode};
+ghost use Rattle.job.specs.Words.{totalsIn};
 ghost use Rattle.job.specs.Reply.{reported, remaining};
+ghost use Rattle.job.specs.Wake.{admittedFor};
 ghost use Rattle.job.specs.Report.{warmingOf, replyAt, reportReply, leftReply};
 ghost use Rattle.job.specs.Admission.{reportFor, leftFor};
 
@@ -36,25 +40,37 @@ fn report_open(h: Head, from: &[u8]) -> Reported
 {
     match admission::admit(h, from) {
         Admission::Refused(x) => Reported::NotReported(x),
-        Admission::Sound => report_at(h, checkpoint::read(from)),
+        Admission::Sound => report_sound(h, from),
     }
 }
 
-// A report of a state that is sound.
-fn report_at(h: Head, t: Tally) -> Reported
+// A report of a checkpoint that is sound.
+fn report_sound(h: Head, from: &[u8]) -> Reported
     requires few { ⌜ h .n ≤ recordsForeseen ⌝ }
-    requires canonical { ⌜ t ≡ tallyOf (stateOf t) ⌝ }
-    requires fit { ⌜ FitFor h (stateOf t) ⌝ }
-    ensures reply { λ r. ⌜ reported r ≡ replyAt h (stateOf t) ⌝ }
+    requires sound { ⌜ admittedFor h (now from) ≡ accepted h ⌝ }
+    ensures reply { λ r. ⌜ reported r ≡ replyAt h (decode (now (from .entry))) ⌝ }
 {
+    let t = checkpoint::read_counts(from);
     if (t.done as usize) < h.n {
         return Reported::Unfinished(t.done);
     }
     if 0 < t.aside {
         return Reported::RecordAside(t.index, t.reason);
     }
-    let ledgers = t.ledgers;
-    Reported::Given(figures::work_out(ledgers, find_warming(h.warming)))
+    Reported::Given(figures::work_out(find_totals(from), find_warming(h.warming)))
+}
+
+// The four masses of which a report tells.
+fn find_totals(from: &[u8]) -> Ledgers
+    requires whole { ⌜ length (now from) ≡ checkpointSize ⌝ }
+    ensures totals { λ r. ⌜ r ≡ totalsIn (now (from .entry)) ⌝ }
+{
+    Ledgers {
+        fossil: checkpoint::read_ledger(from, ledgers::FOSSIL),
+        biomass: checkpoint::read_ledger(from, ledgers::BIOMASS),
+        ch4: checkpoint::read_ledger(from, ledgers::CH4),
+        n2o: checkpoint::read_ledger(from, ledgers::N2O),
+    }
 }
 
 // The first set is the TSD's, the second that of Part 98's Table A-1 as amended in 2013.
@@ -84,7 +100,7 @@ fn count_left_open(h: Head, from: &[u8]) -> Remaining
     match admission::admit(h, from) {
         Admission::Refused(x) => Remaining::Unknown(x),
         Admission::Sound => {
-            let t = checkpoint::read(from);
+            let t = checkpoint::read_counts(from);
             let left = h.n as u32 - t.done;
             Remaining::Left(left)
         }

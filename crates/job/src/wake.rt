@@ -2,23 +2,18 @@
 use crate::admission;
 use crate::admission::Admission;
 use crate::checkpoint;
+use crate::counts;
+use crate::ledgers;
 use crate::reply::Refusal;
 use crate::reply::Started;
 use crate::reply::Woken;
 use crate::run;
-use crate::tally::Tally;
-use mass::Ng;
-use mass::ledger::Ledger;
-use mass::ledger::Ledgers;
 use rules::book;
 use rules::book::Head;
 use rules::book::Opened;
 ghost use mathlib.Core.Path.{_≡_};
 ghost use Prim.Native.Nat.{min};
-ghost use Rattle.mass.specs.Ledger.{ledgerOf};
 ghost use Rattle.rules.specs.Book.{opened, accepted};
-ghost use Rattle.job.specs.State as state;
-ghost use Rattle.job.specs.Tally.{tallyOf};
 ghost use Rattle.job.specs.Reply.{started, woken};
 ghost use Rattle.job.specs.Wake.{freshReply, freshBytes, admittedFor, wakeReply, wakeBytes};
 
@@ -41,34 +36,10 @@ fn fresh_open(book: &[u8], h: Head, out: &mut [u8]) -> Started
     if out.len() != checkpoint::SIZE {
         return Started::NotStarted(Refusal::BufferLength);
     }
-    checkpoint::write(h, begin(), out);
+    let blank = [0u8; checkpoint::SIZE];
+    let nothing = [0u64; ledgers::WORDS];
+    checkpoint::write(h, counts::begin(), &blank, &nothing, out);
     Started::Fresh
-}
-
-fn begin() -> Tally
-    ensures nothing { λ r. ⌜ r ≡ tallyOf state.fresh ⌝ }
-{
-    Tally {
-        done: 0,
-        aside: 0,
-        index: 0,
-        reason: 0,
-        ledgers: Ledgers {
-            fossil: empty(),
-            biomass: empty(),
-            ch4: empty(),
-            n2o: empty(),
-        },
-    }
-}
-
-fn empty() -> Ledger
-    ensures nothing { λ r. ⌜ r ≡ ledgerOf 0 ⌝ }
-{
-    Ledger {
-        tonnes: 0,
-        rest: Ng(0),
-    }
 }
 
 // The checkpoint after at most `budget` records more, from where `from` stands.
@@ -102,10 +73,10 @@ fn wake_sound(book: &[u8], h: Head, from: &[u8], budget: u32, out: &mut [u8]) ->
     if out.len() != checkpoint::SIZE {
         return Woken::NotWoken(Refusal::BufferLength);
     }
-    let t = checkpoint::read(from);
-    let left = h.n as u32 - t.done;
+    let c = checkpoint::read_counts(from);
+    let left = h.n as u32 - c.done;
     let n = take_lesser(budget, left);
-    checkpoint::write(h, run::go_through(book, h, t, n), out);
+    run::go_through(book, h, c, n, from, out);
     Woken::Moved(n)
 }
 

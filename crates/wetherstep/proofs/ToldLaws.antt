@@ -94,12 +94,12 @@ module _ (P : Reply → Type 0) (refuse : (n : ℕ) → 20 ≤ n → n ≤ 32 �
     replyAt-each : (h : Head) (c : List ℕ) → sound h c ≡ true → P (replyAt h (decode c))
     replyAt-each h c t =
         let s = decode c in
-        let fit = fitFor-sound h c t in
+        let fit = fitFor-sound h c t .counts-fit in
         let within = fit .done-le in
-        if-lt (s .done) (h .n)
+        if-lt (s .counts .done) (h .n)
         (λ l. subst P (sym (replyAt-40 h s l)) (unfinished _))
-        (λ l. let ends : s .done ≡ h .n = omega arith in
-        if-eq (s .aside) 0
+        (λ l. let ends : s .counts .done ≡ h .n = omega arith in
+        if-eq (s .counts .aside) 0
         (λ z. subst P (sym (replyAt-0 h s ends z)) (given _ _ _ _ _ _))
         (λ z. let few = fit .some-first z .2 in
         subst P (sym (replyAt-41 h s ends z)) (withheld _ _ (omega arith))))

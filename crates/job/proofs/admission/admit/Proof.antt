@@ -11,9 +11,6 @@ returns : tie.Need-returns
 unfolding admission
 returns c = sym (admittedFor-30 _ _ (c .if1 .taken))
 
-is-sound-requires : tie.Need-is-sound-requires
-is-sound-requires c κs = search needs
-
 returns-2 : tie.Need-returns-2
 unfolding admission
 returns-2 c =
@@ -25,4 +22,5 @@ returns-3 c =
     sym (admittedFor-sound _ _ (c .before .before .if1 .left) (is-so (c .before .is-sound .ensures) (c .if2 .left)))
 
 pub admit-spec : {M : Type 1} → statement M
-admit-spec = tie.close (tie.spec returns is-sound-requires returns-2 returns-3)
+admit-spec =
+    tie.close (tie.spec returns (λ c κs. search needs) returns-2 returns-3)

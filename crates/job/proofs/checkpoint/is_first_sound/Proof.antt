@@ -8,15 +8,6 @@ use Rattle.job.specs.Checkpoint.{firstSound}
 use Rattle.job.proofs.checkpoint.is_first_sound.Statement.{statement}
 use Rattle.job.proofs.checkpoint.is_first_sound.Tie as tie
 
-read-word-requires : tie.Need-read-word-requires
-read-word-requires c κs = search needs
-
-read-word-requires-2 : tie.Need-read-word-requires-2
-read-word-requires-2 c κs = search needs
-
-read-word-requires-3 : tie.Need-read-word-requires-3
-read-word-requires-3 c κs = search needs
-
 returns : tie.Need-returns
 unfolding firstSound
 returns c =
@@ -25,9 +16,6 @@ returns c =
     let index = c .before .before .before .read-word .ensures .0 in
     both (λ i. eqb (index i) 0) (λ i. eqb (reason i) 0)
     ∙ sym (choose-t _ (eq-of aside (c .if1 .taken)) refl)
-
-read-word-requires-4 : tie.Need-read-word-requires-4
-read-word-requires-4 c κs = search needs
 
 returns-2 : tie.Need-returns-2
 unfolding firstSound
@@ -43,9 +31,5 @@ pub is-first-sound-spec : {M : Type 1} → statement M
 is-first-sound-spec =
     tie.close
     (tie.spec
-    read-word-requires
-    read-word-requires-2
-    read-word-requires-3
-    returns
-    read-word-requires-4
+    (λ c κs. search needs) (λ c κs. search needs) (λ c κs. search needs) returns (λ c κs. search needs)
     returns-2)

@@ -8,36 +8,13 @@ use Rattle.job.specs.Checkpoint.{ledgerSound}
 use Rattle.job.proofs.checkpoint.is_ledger_sound.Statement.{statement}
 use Rattle.job.proofs.checkpoint.is_ledger_sound.Tie as tie
 
-add-read-word : tie.Need-add-read-word
-add-read-word c = search needs
-
-read-word-requires : tie.Need-read-word-requires
-read-word-requires c κs = search needs
-
-read-word-requires-2 : tie.Need-read-word-requires-2
-read-word-requires-2 c κs = search needs
-
-read-word-requires-3 : tie.Need-read-word-requires-3
-read-word-requires-3 c κs = search needs
-
-mul-result : tie.Need-mul-result
-mul-result c = search needs
-
 returns : tie.Need-returns
 unfolding ledgerSound
 returns c =
-    let rest = c .before .before .read-word .ensures .0 in
-    let tonnes = c .before .read-word2 .ensures .0 in
-    let done = c .read-word3 .ensures .0 in
-    both (λ i. ltb (rest i) tonne) (λ i. leb (tonnes i) (tonnesEach * done i))
+    let done = c .before .before .read-word .ensures .0 in
+    let ledger = c .before .before .before .read-ledger .ensures in
+    both (λ i. ltb (ledger i .rest .0) tonne) (λ i. leb (ledger i .tonnes) (tonnesEach * done i))
 
 pub is-ledger-sound-spec : {M : Type 1} → statement M
 is-ledger-sound-spec =
-    tie.close
-    (tie.spec
-    add-read-word
-    read-word-requires
-    read-word-requires-2
-    read-word-requires-3
-    mul-result
-    returns)
+    tie.close (tie.spec (λ c κs. search needs) (λ c κs. search needs) (λ c. search needs) returns)

@@ -8,15 +8,6 @@ use Rattle.job.proofs.ReportLaws.{leftReply-book, leftReply-open}
 use Rattle.job.proofs.report.count_left.Statement.{statement}
 use Rattle.job.proofs.report.count_left.Tie as tie
 
-open-requires : tie.Need-open-requires
-open-requires c κs = search needs
-
-enum-known-fault : tie.Need-enum-known-fault
-enum-known-fault c = search needs
-
-enum-known-h : tie.Need-enum-known-h
-enum-known-h c = search needs
-
 count-left-open-requires : tie.Need-count-left-open-requires
 count-left-open-requires c κs =
     let told = c .before in
@@ -36,4 +27,5 @@ returns-2 c =
 pub count-left-spec : {M : Type 1} → statement M
 count-left-spec =
     tie.close
-    (tie.spec open-requires enum-known-fault enum-known-h count-left-open-requires returns returns-2)
+    (tie.spec
+    (λ c κs. search needs) (λ c. search needs) (λ c. search needs) count-left-open-requires returns returns-2)

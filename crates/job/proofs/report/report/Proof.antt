@@ -8,15 +8,6 @@ use Rattle.job.proofs.ReportLaws.{reportReply-book, reportReply-open}
 use Rattle.job.proofs.report.report.Statement.{statement}
 use Rattle.job.proofs.report.report.Tie as tie
 
-open-requires : tie.Need-open-requires
-open-requires c κs = search needs
-
-enum-known-fault : tie.Need-enum-known-fault
-enum-known-fault c = search needs
-
-enum-known-h : tie.Need-enum-known-h
-enum-known-h c = search needs
-
 report-open-requires : tie.Need-report-open-requires
 report-open-requires c κs =
     let told = c .before in
@@ -36,4 +27,5 @@ returns-2 c =
 pub report-spec : {M : Type 1} → statement M
 report-spec =
     tie.close
-    (tie.spec open-requires enum-known-fault enum-known-h report-open-requires returns returns-2)
+    (tie.spec
+    (λ c κs. search needs) (λ c. search needs) (λ c. search needs) report-open-requires returns returns-2)

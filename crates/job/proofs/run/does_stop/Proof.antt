@@ -6,14 +6,9 @@ use borrow.Author.Tests.{not-false}
 use Rattle.job.proofs.run.does_stop.Statement.{statement}
 use Rattle.job.proofs.run.does_stop.Tie as tie
 
-returns : tie.Need-returns
-returns c = search needs
-
-is-repeatable-requires : tie.Need-is-repeatable-requires
-is-repeatable-requires c κs = search needs
-
 returns-2 : tie.Need-returns-2
 returns-2 c = λ e. absurd (false≢true (sym e ∙ not-false _ (c .before .if1 .left)))
 
 pub does-stop-spec : {M : Type 1} → statement M
-does-stop-spec = tie.close (tie.spec returns is-repeatable-requires returns-2)
+does-stop-spec =
+    tie.close (tie.spec (λ c. search needs) (λ c κs. search needs) returns-2)

@@ -1,4 +1,5 @@
--- The records before are noted in a blank table, and it is gone on from there. Assumes nothing.
+-- The records before are noted in a blank table, it is gone on from there, and what is come to is written. Assumes
+-- nothing.
 use Prim.Native.Nat.{ℕ, _-_}
 use mathlib.Core.Path.{refl, ap, _∙_}
 use native.Mathlib.Nat.{le-trans}
@@ -9,50 +10,65 @@ use Rattle.rules.specs.Book.{unitLines}
 use Rattle.rules.specs.Table.{notedAll}
 use Rattle.rules.proofs.TableLaws.{known-notedAll}
 use Rattle.job.specs.State.{run}
-use Rattle.job.specs.Pile.{stateIn}
+use Rattle.job.specs.Checkpoint.{doneIn, decode, encode}
+use Rattle.job.specs.Words.{Gone}
+use Rattle.job.proofs.AdmissionLaws.{admittedFor-whole}
+use Rattle.job.proofs.RunLaws.{stateOn-gone, fitFor-gone, light-gone, gone-on}
 use Rattle.job.proofs.run.go_noting.Statement.{statement}
 use Rattle.job.proofs.run.go_noting.Tie as tie
 
-cast-note-records : tie.Need-cast-note-records
-cast-note-records c = search needs
+abbrev start : tie.After-note-records → tie.Start
+start c = c .before .before .before .before .before .before .before .before .before .before
 
 note-records-requires : tie.Need-note-records-requires
 note-records-requires c κs =
-    let p = c .before .before .before .before .before .before .pre in
-    (p .0, (le-trans (p .1 .1 .1 .0 .0) (p .1 .1 .1 .0 .1), p .1 .1 .1 .1 .0))
+    let p = c .before .before .before .before .before .before .before .before .before .pre in
+    let on = p .1 .1 .0 in
+    (p .0, (le-trans (on .0) (on .1), p .1 .1 .1 .1 .0))
 
 go-on-requires : tie.Need-go-on-requires
 go-on-requires c κs =
-    let noted = c .before .before .before in
-    let begun = noted .before .before .before .before .before .before .before in
-    let a = begun .args in
-    let p = begun .pre in
-    let before = lines (a .p .tally .done) (a .book .now) in
-    let units = unitLines (a .h) (a .book .now) in (
-      p .0,
-      (
-        p .1 .0,
-        (
-          p .1 .1 .0,
-          (
-            p .1 .1 .1 .0,
-            known-notedAll before units (length (a .table .now)) (noted .note-records .ensures ∙ ap (notedAll before units) (p .1 .1 .1 .1 .1)),
-          ),
-        ),
-      ),
-    )
+    let noted = c .before .before .before .before in
+    let a = start noted .args in
+    let p = start noted .pre in
+    let on = p .1 .1 .0 in
+    let fit = fitFor-gone _ _ _ (p .0) (p .1 .1 .1 .0 .0) _ _ (p .1 .0) (le-trans (on .0) (on .1)) in
+    let before = lines (a .c .done) (a .book .now) in
+    let units = unitLines (a .h) (a .book .now) in
+    let known = known-notedAll before units (length (a .table .now)) (noted .note-records .ensures ∙ ap (notedAll before units) (p .1 .1 .1 .1 .1)) in
+    (p .0, (fit, (p .1 .0 .kept, (on, known))))
 
-same-length : tie.Need-same-length
-same-length c = search needs
+-- All records up to the place are gone through.
+gone : (c : tie.After-go-on) →
+    let a = start (c .before .before .before .before .before) .args in
+    Gone (a .h) (a .book .now) (a .from .now) (c .go-on .result) (c .go-on .last .1 .1 .1 .1 .1 .1 .1 .1 .0)
+gone c =
+    let p = start (c .before .before .before .before .before) .pre in
+    let there = c .go-on .ensures in
+    gone-on _ _ _ _ _ _ _ (p .1 .0) (there .1 .1 .0) (there .0) (there .1 .0)
+
+write-requires : tie.Need-write-requires
+write-requires c κs =
+    let on = c .before .before .before .before .before .before in
+    let p = start (on .before .before .before .before .before) .pre in
+    let all = gone on in
+    let end = le-trans (on .go-on .ensures .1 .1 .1) (p .1 .1 .0 .1) in
+    ((admittedFor-whole _ _ (p .1 .1 .1 .0 .0), all .kept .whole, p .1 .1 .1 .0 .1), light-gone _ _ _ (p .0) (p .1 .1 .1 .0 .0) _ _ all end)
 
 returns : tie.Need-returns
 returns c =
-    let gone = c .before .before .go-on .ensures in
-    let a = c .before .before .before .before .before .before .before .before .before .before .before .before .before .args in (
-      gone .0 ∙ ap (λ (d : ℕ). run (a .h) (a .book .now) (stateIn (a .p)) (d - a .p .tally .done)) (gone .1 .1 .2 refl),
-      gone .1 .0 .0,
-    )
+    let write = c .before .before in
+    let on = write .before .before .before .before .before .before .before in
+    let s = start (on .before .before .before .before .before) in
+    let a = s .args in
+    let there = stateOn-gone _ _ _ (s .pre .0) (s .pre .1 .1 .1 .0 .0) _ _ (gone on) in
+    write .write .ensures
+    ∙ ap (encode (a .h)) there
+    ∙ ap (λ (d : ℕ). encode (a .h) (run (a .h) (a .book .now) (decode (a .from .now)) (d - doneIn (a .from .now)))) (on .go-on .ensures .1 .1 .2 refl)
 
 pub go-noting-spec : {M : Type 1} → statement M
 go-noting-spec =
-    tie.close (tie.spec cast-note-records note-records-requires go-on-requires same-length returns)
+    tie.close
+    (tie.spec
+    (λ c. search needs) note-records-requires go-on-requires write-requires (λ c. search needs)
+    (λ c. search needs) (λ c. search needs) returns)

@@ -8,15 +8,6 @@ use Rattle.job.proofs.WakeLaws.{freshAdmitted-book}
 use Rattle.job.proofs.wake.fresh.Statement.{statement}
 use Rattle.job.proofs.wake.fresh.Tie as tie
 
-open-requires : tie.Need-open-requires
-open-requires c κs = search needs
-
-enum-known-fault : tie.Need-enum-known-fault
-enum-known-fault c = search needs
-
-enum-known-h : tie.Need-enum-known-h
-enum-known-h c = search needs
-
 fresh-open-requires : tie.Need-fresh-open-requires
 fresh-open-requires c κs =
     let told = c .before .before in
@@ -28,20 +19,9 @@ returns c =
     let e = opened-wrong _ (c .before .before .before .«open» .ensures) (c .before .fault .given .1) in
     (sym (freshAdmitted-book _ _ _ _ e), sym (freshAdmitted-book _ _ _ _ e))
 
-same-length : tie.Need-same-length
-same-length c = search needs
-
-returns-2 : tie.Need-returns-2
-returns-2 c = search needs
-
 pub fresh-spec : {M : Type 1} → statement M
 fresh-spec =
     tie.close
     (tie.spec
-    open-requires
-    enum-known-fault
-    enum-known-h
-    fresh-open-requires
-    returns
-    same-length
-    returns-2)
+    (λ c κs. search needs) (λ c. search needs) (λ c. search needs) fresh-open-requires returns
+    (λ c. search needs) (λ c. search needs))

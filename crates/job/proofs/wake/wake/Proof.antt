@@ -8,15 +8,6 @@ use Rattle.job.proofs.WakeLaws.{wakeAdmitted-book}
 use Rattle.job.proofs.wake.wake.Statement.{statement}
 use Rattle.job.proofs.wake.wake.Tie as tie
 
-open-requires : tie.Need-open-requires
-open-requires c κs = search needs
-
-enum-known-fault : tie.Need-enum-known-fault
-enum-known-fault c = search needs
-
-enum-known-h : tie.Need-enum-known-h
-enum-known-h c = search needs
-
 wake-open-requires : tie.Need-wake-open-requires
 wake-open-requires c κs =
     let told = c .before .before in
@@ -28,20 +19,9 @@ returns c =
     let e = opened-wrong _ (c .before .before .before .«open» .ensures) (c .before .fault .given .1) in
     (sym (wakeAdmitted-book _ _ _ _ _ e), sym (wakeAdmitted-book _ _ _ _ _ e))
 
-same-length : tie.Need-same-length
-same-length c = search needs
-
-returns-2 : tie.Need-returns-2
-returns-2 c = search needs
-
 pub wake-spec : {M : Type 1} → statement M
 wake-spec =
     tie.close
     (tie.spec
-    open-requires
-    enum-known-fault
-    enum-known-h
-    wake-open-requires
-    returns
-    same-length
-    returns-2)
+    (λ c κs. search needs) (λ c. search needs) (λ c. search needs) wake-open-requires returns
+    (λ c. search needs) (λ c. search needs))
