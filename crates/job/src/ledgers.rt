@@ -101,7 +101,7 @@ pub(crate) fn gather(g: Ledger, k: usize, w: &[u64]) -> Ledger
 {
     let low = w[k];
     let high = w[HIGH + k];
-    // Most records give to one ledger alone.
+    // Hours and anodes give to one ledger alone.
     if low == 0 {
         if high == 0 {
             return g;
