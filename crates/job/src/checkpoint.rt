@@ -137,7 +137,8 @@ fn is_ledger_sound(c: &[u8], k: usize) -> bool
 {
     let g = read_ledger(c, k);
     let done = read_word(c, DONE, 4);
-    (g.rest.0 < NG_PER_TONNE) & (g.tonnes <= TONNES_EACH * done)
+    let tonnes = g.tonnes;
+    (g.rest.0 < NG_PER_TONNE) & (tonnes <= TONNES_EACH * done)
 }
 
 // Writes the checkpoint of a book with the head h that says t and, at each place, what `from` says and w gives.

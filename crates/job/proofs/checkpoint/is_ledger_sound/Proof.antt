@@ -11,8 +11,8 @@ use Rattle.job.proofs.checkpoint.is_ledger_sound.Tie as tie
 returns : tie.Need-returns
 unfolding ledgerSound
 returns c =
-    let done = c .before .before .read-word .ensures .0 in
-    let ledger = c .before .before .before .read-ledger .ensures in
+    let done = c .before .read-word .ensures .0 in
+    let ledger = c .before .before .read-ledger .ensures in
     both (λ i. ltb (ledger i .rest .0) tonne) (λ i. leb (ledger i .tonnes) (tonnesEach * done i))
 
 pub is-ledger-sound-spec : {M : Type 1} → statement M
