@@ -20,9 +20,9 @@ use Rattle.rules.proofs.BytesLaws.{length-bytesOf, bytesOf-word}
 use Rattle.job.specs.declared.counts.Counts.{Counts}
 use Rattle.job.specs.State.{mass, each, State, ledgers}
 use Rattle.job.specs.Bounds.{FitFor}
-use Rattle.job.specs.Checkpoint.{doneIn, asideIn, indexIn, reasonIn, lengthIn, yearIn, ledgerPlace, tonnesIn, restIn}
+use Rattle.job.specs.Checkpoint.{doneIn, asideIn, indexIn, reasonIn, lengthIn, yearIn, ledgerPlace, tonnesIn, restIn, massIn, front}
 use Rattle.job.specs.Checkpoint.{firstSound, ledgerSound, sound, decode, laid, encode}
-use Rattle.job.specs.Words.{massIn, front, ledgerIn, ledgersOf, totalsIn}
+use Rattle.job.specs.Words.{ledgerIn, ledgersOf, totalsIn}
 use Rattle.job.proofs.PlacesLaws.{length-each, getD-each, is-each, every-all, every-one}
 use Rattle.job.proofs.PutLaws.{word-append, Number, joined, joined-append, word-joined}
 use Rattle.job.proofs.LaidLaws.{length-laid, laid-append, laid-snoc, word-laid}

@@ -12,8 +12,8 @@ use Rattle.mass.proofs.LedgerLaws.{total-tonnes, total-rest, total-ledgerOf, ca
 use Rattle.rules.specs.Bytes.{word, bytesOf}
 use Rattle.rules.proofs.BytesLaws.{length-bytesOf}
 use Rattle.job.specs.State.{each, ledgers}
-use Rattle.job.specs.Checkpoint.{checkpointSize, ledgerPlace, laid}
-use Rattle.job.specs.Words.{massAt, massIn, massesOn}
+use Rattle.job.specs.Checkpoint.{checkpointSize, ledgerPlace, laid, massIn}
+use Rattle.job.specs.Words.{massAt, massesOn}
 use Rattle.job.proofs.PlacesLaws.{length-each}
 use Rattle.job.proofs.PutLaws.{word-append, word-behind, Wrote, wrote-front, wrote-behind, wrote-more}
 

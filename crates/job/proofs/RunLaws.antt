@@ -14,9 +14,9 @@ use Rattle.rules.proofs.BookLaws.{accepted-facts}
 use Rattle.job.specs.declared.counts.Counts.{Counts}
 use Rattle.job.specs.State.{_plus_, each, State, ledgers, gives, fresh, counted, after, run}
 use Rattle.job.specs.Bounds.{FitFor}
-use Rattle.job.specs.Checkpoint.{checkpointSize, ledgerPlace, doneIn, decode}
+use Rattle.job.specs.Checkpoint.{checkpointSize, ledgerPlace, doneIn, decode, countsIn, massIn}
 use Rattle.job.specs.Wake.{admittedFor}
-use Rattle.job.specs.Words.{words, massAt, stateIn, countsIn, massIn, massesOn, stateOn, Kept, Light, Gone}
+use Rattle.job.specs.Words.{words, massAt, stateIn, massesOn, stateOn, Kept, Light, Gone}
 use Rattle.job.proofs.PlacesLaws.{plus-assoc, length-each, getD-each, each-same, each-each}
 use Rattle.job.proofs.PutLaws.{word-blank}
 use Rattle.job.proofs.StateLaws.{after-done, run-done, run-run, fitFor-run}

@@ -4,12 +4,14 @@
 --     doneIn c .. yearIn c           the fields of a checkpoint c
 --     ledgerPlace i                  where the ledger at place i stands
 --     tonnesIn c i, restIn c i       this ledger: whole tonnes, and ng
+--     countsIn c, massIn c i         the counts, and the mass of a ledger in ng
 --     gapIn c, blankIn c             the bytes that no field names are 0
 --     firstSound c                   index and reason of the first record set aside are right
 --     ledgerSound c i                the ledger at place i is right
 --     every t n                      the test t passes for 0 .. n - 1
 --     sound h c                      c is sound for a book with the head h (else 31)
 --     decode c                       the state that c says
+--     front c                        the bytes that say the counts c
 --     laid p ms                      the bytes p, and behind them a ledger for each mass of ms
 --     encode h s                     the checkpoint that says s, of a book with the head h
 --
@@ -23,6 +25,7 @@ use Rattle.mass.specs.Ledger.{tonne, tonnesEach}
 use Rattle.rules.specs.declared.book.Head.{Head}
 use Rattle.rules.specs.Bytes.{word, zeros, bytesOf}
 use Rattle.rules.specs.Record.{lastReason}
+use Rattle.job.specs.declared.counts.Counts.{Counts}
 use Rattle.job.specs.State.{State, each, ledgers}
 
 abbrev pub checkpointSize : ℕ
@@ -52,6 +55,12 @@ tonnesIn c i = word c (ledgerPlace i) 8
 
 abbrev pub restIn : List ℕ → ℕ → ℕ
 restIn c i = word c (ledgerPlace i + 8) 8
+
+abbrev pub countsIn : List ℕ → Counts
+countsIn c = record { done = doneIn c; aside = asideIn c; index = indexIn c; reason = reasonIn c }
+
+abbrev pub massIn : List ℕ → ℕ → ℕ
+massIn c i = tonnesIn c i * tonne + restIn c i
 
 abbrev pub lengthIn : List ℕ → ℕ
 lengthIn c = word c 80 4
@@ -89,19 +98,15 @@ sound h c =
 
 -- ---- what a checkpoint says, and how it is said
 unfoldable pub decode : List ℕ → State
-decode c = record {
-  counts = record { done = doneIn c; aside = asideIn c; index = indexIn c; reason = reasonIn c };
-  masses = each (λ i. tonnesIn c i * tonne + restIn c i) ledgers;
-}
+decode c = record { counts = countsIn c; masses = each (massIn c) ledgers }
+
+abbrev pub front : Counts → List ℕ
+front c =
+    bytesOf 4 (c .done) ++ bytesOf 4 (c .aside) ++ bytesOf 4 (c .index) ++ bytesOf 1 (c .reason) ++ bytesOf 3 0
 
 unfoldable pub laid : List ℕ → List ℕ → List ℕ
 laid p [] = p
 laid p (v ∷ ms) = laid (p ++ bytesOf 8 (v / tonne) ++ bytesOf 8 (v % tonne)) ms
 
 unfoldable pub encode : Head → State → List ℕ
-encode h s =
-    let c = s .counts in
-    laid
-    (bytesOf 4 (c .done) ++ bytesOf 4 (c .aside) ++ bytesOf 4 (c .index) ++ bytesOf 1 (c .reason) ++ bytesOf 3 0)
-    (s .masses)
-    ++ bytesOf 4 (h .length) ++ bytesOf 2 (h .year) ++ bytesOf 10 0
+encode h s = laid (front (s .counts)) (s .masses) ++ bytesOf 4 (h .length) ++ bytesOf 2 (h .year) ++ bytesOf 10 0

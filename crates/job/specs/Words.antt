@@ -10,8 +10,6 @@
 --     added w i x                 w with x more at place i
 --     given w e                   w with all that the entry e gives
 --     co2Place d, co2Kept d x     where the code puts the CO2 x of a record, and how much of it
---     countsIn c, massIn c i      what a checkpoint c says
---     front c                     the bytes of a checkpoint that say the counts c
 --     ledgerIn c i                the ledger that stands in c at place i, sound or not
 --     ledgersOf s, totalsIn c     the ledgers of which a report tells: of a state, and as they stand in c
 --     massesOn c w, stateOn t c w     at each place what c says and w gives, and the state of this and the counts t
@@ -21,7 +19,7 @@
 --
 -- Laws: proofs/WordsLaws.antt, proofs/RunLaws.antt. Definitions only.
 use Prim.Native.Nat.{ℕ, _+_, _-_, _*_, _/_, _<_, _≤_}
-use mathlib.Core.List.{List, _++_}
+use mathlib.Core.List.{List}
 use mathlib.Core.Path.{_≡_}
 use lib.Dec.{ltb}
 use lib.ListN.{length, getD, set, replicate}
@@ -33,10 +31,9 @@ use Rattle.rules.specs.declared.book.Head.{Head}
 use Rattle.rules.specs.declared.entry.Destination.{Destination}
 use Rattle.rules.specs.declared.entry.Destination.the-variants.{Fossil, Biomass, Nowhere}
 use Rattle.rules.specs.declared.entry.Entry.{Entry}
-use Rattle.rules.specs.Bytes.{bytesOf}
 use Rattle.job.specs.declared.counts.Counts.{Counts}
 use Rattle.job.specs.State.{mass, each, State, ledgers, fossil, biomass, ch4, n2o, run}
-use Rattle.job.specs.Checkpoint.{doneIn, asideIn, indexIn, reasonIn, tonnesIn, restIn}
+use Rattle.job.specs.Checkpoint.{doneIn, tonnesIn, restIn, countsIn, massIn}
 
 -- ---- words
 abbrev pub words : ℕ
@@ -88,16 +85,6 @@ given w e =
     added (added (added w (co2Place d) (co2Kept d (e .co2 .0))) ch4 (e .ch4 .0)) n2o (e .n2o .0)
 
 -- ---- checkpoints
-abbrev pub countsIn : List ℕ → Counts
-countsIn c = record { done = doneIn c; aside = asideIn c; index = indexIn c; reason = reasonIn c }
-
-abbrev pub massIn : List ℕ → ℕ → ℕ
-massIn c i = tonnesIn c i * tonne + restIn c i
-
-abbrev pub front : Counts → List ℕ
-front c =
-    bytesOf 4 (c .done) ++ bytesOf 4 (c .aside) ++ bytesOf 4 (c .index) ++ bytesOf 1 (c .reason) ++ bytesOf 3 0
-
 abbrev pub ledgerIn : List ℕ → ℕ → Ledger
 ledgerIn c i = record { tonnes = tonnesIn c i; rest = record { 0 = restIn c i } }
 

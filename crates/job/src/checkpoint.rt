@@ -14,8 +14,8 @@ ghost use mathlib.Core.Path.{_≡_};
 ghost use Prim.Native.Nat.{_<_};
 ghost use lib.ListN.{length, take, drop};
 ghost use Rattle.job.specs.State as state;
-ghost use Rattle.job.specs.Checkpoint.{checkpointSize, ledgerPlace, firstSound, ledgerSound, every, sound, laid, encode};
-ghost use Rattle.job.specs.Words.{words, countsIn, ledgerIn, massesOn, stateOn, Light};
+ghost use Rattle.job.specs.Checkpoint.{checkpointSize, ledgerPlace, firstSound, ledgerSound, every, sound, laid, encode, countsIn};
+ghost use Rattle.job.specs.Words.{words, ledgerIn, massesOn, stateOn, Light};
 
 // How many bytes a checkpoint has.
 pub const SIZE: usize = 96;

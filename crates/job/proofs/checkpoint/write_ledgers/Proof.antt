@@ -9,7 +9,8 @@ use Rattle.mass.specs.declared.ledger.Ledger.{Ledger}
 use Rattle.mass.specs.Ledger.{total, ledgerOf}
 use Rattle.mass.proofs.LedgerLaws.{total-parts}
 use Rattle.job.specs.State.{ledgers}
-use Rattle.job.specs.Words.{massAt, massIn, massesOn}
+use Rattle.job.specs.Checkpoint.{massIn}
+use Rattle.job.specs.Words.{massAt, massesOn}
 use Rattle.job.proofs.LaidLaws.{Laid, laid-none, laid-next}
 use Rattle.job.proofs.checkpoint.write_ledgers.Statement.{statement}
 use Rattle.job.proofs.checkpoint.write_ledgers.Tie as tie

@@ -9,8 +9,8 @@ use Rattle.mass.specs.declared.figures.Figures.{Figures}
 use Rattle.mass.specs.Figures.{AllSound, Mild, figuresOf}
 use Rattle.rules.specs.declared.book.Head.{Head}
 use Rattle.job.specs.declared.counts.Counts.{Counts}
-use Rattle.job.specs.Checkpoint.{decode}
-use Rattle.job.specs.Words.{countsIn, ledgersOf}
+use Rattle.job.specs.Checkpoint.{decode, countsIn}
+use Rattle.job.specs.Words.{ledgersOf}
 use Rattle.job.specs.Reply.{reply, reported, figureValues}
 use Rattle.job.specs.Report.{figuresAt, replyAt}
 use Rattle.job.proofs.CheckpointLaws.{fitFor-sound, totalsIn-sound, sound-ledgersOf}
