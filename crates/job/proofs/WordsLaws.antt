@@ -54,29 +54,29 @@ module _ (w : List ℕ) (k x : ℕ) (l : k < ledgers) (whole : length w ≡ word
   step-low : sum-of < half → Step w (set w k sum-of) k x
   step-low m =
       let low = getD-set-same w k sum-of 0 (omega arith) in
-      let high = getD-set-other w k (4 + k) sum-of 0 (λ e. omega arith) in
+      let high = getD-set-other w k (ledgers + k) sum-of 0 (λ e. omega arith) in
       record {
         moved = record {
           whole = length-set w k sum-of;
           low-else = λ i p n. getD-set-other w k i sum-of 0 n;
-          high-else = λ i n. getD-set-other w k (4 + i) sum-of 0 (λ e. omega arith);
+          high-else = λ i n. getD-set-other w k (ledgers + i) sum-of 0 (λ e. omega arith);
         };
         sum = omega arith;
         low = omega arith;
         few = omega arith;
       }
 
-  step-high : half ≤ sum-of → Step w (set (set w k (sum-of - full)) (4 + k) (highAt w k + 1)) k x
+  step-high : half ≤ sum-of → Step w (set (set w k (sum-of - full)) (ledgers + k) (highAt w k + 1)) k x
   step-high m =
       let u = set w k (sum-of - full) in
       let long = length-set w k (sum-of - full) in
-      let low = getD-set-other u (4 + k) k (highAt w k + 1) 0 (λ e. omega arith) ∙ getD-set-same w k (sum-of - full) 0 (omega arith) in
-      let high = getD-set-same u (4 + k) (highAt w k + 1) 0 (omega arith) in
+      let low = getD-set-other u (ledgers + k) k (highAt w k + 1) 0 (λ e. omega arith) ∙ getD-set-same w k (sum-of - full) 0 (omega arith) in
+      let high = getD-set-same u (ledgers + k) (highAt w k + 1) 0 (omega arith) in
       record {
         moved = record {
-          whole = length-set u (4 + k) _ ∙ long;
-          low-else = λ i p n. getD-set-other u (4 + k) i _ 0 (λ e. omega arith) ∙ getD-set-other w k i _ 0 n;
-          high-else = λ i n. getD-set-other u (4 + k) (4 + i) _ 0 (λ e. n (omega arith)) ∙ getD-set-other w k (4 + i) _ 0 (λ e. omega arith);
+          whole = length-set u (ledgers + k) _ ∙ long;
+          low-else = λ i p n. getD-set-other u (ledgers + k) i _ 0 (λ e. omega arith) ∙ getD-set-other w k i _ 0 n;
+          high-else = λ i n. getD-set-other u (ledgers + k) (ledgers + i) _ 0 (λ e. n (omega arith)) ∙ getD-set-other w k (ledgers + i) _ 0 (λ e. omega arith);
         };
         sum = omega arith;
         low = omega arith;
@@ -240,12 +240,12 @@ pub massAt-blank : (i : ℕ) → i < ledgers → massAt (replicate words 0) i �
 unfolding massAt
 massAt-blank i l =
     let low = blank-word i (omega arith) in
-    let high = blank-word (4 + i) (omega arith) in
+    let high = blank-word (ledgers + i) (omega arith) in
     (λ j. unitAt i * (full * high j + low j)) ∙ mul-zero (unitAt i)
 
 pub kept-blank : (m : ℕ) → Kept m (replicate words 0)
 kept-blank m = record {
   whole = length-replicate {A = ℕ} words 0;
   low = λ i l. omega (arith, blank-word i (omega arith));
-  few = λ i l. omega (arith, blank-word (4 + i) (omega arith));
+  few = λ i l. omega (arith, blank-word (ledgers + i) (omega arith));
 }

@@ -37,7 +37,7 @@ use Rattle.job.specs.Checkpoint.{doneIn, tonnesIn, restIn, countsIn, mas
 
 -- ---- words
 abbrev pub words : ℕ
-words = 8
+words = 2 * ledgers
 
 abbrev pub carries : ℕ
 carries = 1000000
@@ -52,7 +52,7 @@ abbrev pub lowAt : List ℕ → ℕ → ℕ
 lowAt w i = getD w i 0
 
 abbrev pub highAt : List ℕ → ℕ → ℕ
-highAt w i = getD w (4 + i) 0
+highAt w i = getD w (ledgers + i) 0
 
 unfoldable pub unitAt : ℕ → ℕ
 unitAt i = choose (ltb i ch4) 1000 1
@@ -67,7 +67,7 @@ stateIn c w = record { counts = c; masses = each (massAt w) ledgers }
 unfoldable pub added : List ℕ → ℕ → ℕ → List ℕ
 added w i x =
     let sum = lowAt w i + x in
-    choose (ltb sum half) (set w i sum) (set (set w i (sum - full)) (4 + i) (highAt w i + 1))
+    choose (ltb sum half) (set w i sum) (set (set w i (sum - full)) (ledgers + i) (highAt w i + 1))
 
 abbrev pub co2Place : Destination → ℕ
 co2Place Fossil = fossil

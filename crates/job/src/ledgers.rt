@@ -28,9 +28,9 @@ pub(crate) const CH4: usize = 2;
 pub(crate) const N2O: usize = 3;
 
 // How many words there are, and where the high digits start.
-pub(crate) const WORDS: usize = 8;
+pub(crate) const WORDS: usize = 2 * COUNT;
 
-const HIGH: usize = 4;
+const HIGH: usize = COUNT;
 
 // What a high digit counts: 9,000,000 t of CO2, or 9,000 of another gas.
 const FULL: u64 = 9_000_000_000_000_000_000;

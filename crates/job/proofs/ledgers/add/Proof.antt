@@ -14,8 +14,8 @@ use Rattle.job.proofs.ledgers.add.Statement.{statement}
 use Rattle.job.proofs.ledgers.add.Tie as tie
 
 -- A high digit, once its low one is set.
-high : (w : List ℕ) (k v : ℕ) → k < ledgers → getD (set w k v) (4 + k) 0 ≡ highAt w k
-high w k v l = getD-set-other w k (4 + k) v 0 (λ e. omega arith)
+high : (w : List ℕ) (k v : ℕ) → k < ledgers → getD (set w k v) (ledgers + k) 0 ≡ highAt w k
+high w k v l = getD-set-other w k (ledgers + k) v 0 (λ e. omega arith)
 
 returns : tie.Need-returns
 unfolding added
@@ -40,7 +40,7 @@ returns-2 c =
     let s = test .before .before in
     let a = s .args in
     let low = lowAt (a .w .now) (a .k) + a .x - full in
-    ap (λ (v : ℕ). set (set (a .w .now) (a .k) low) (4 + a .k) (v + 1)) (high (a .w .now) (a .k) low (s .pre .0 .1))
+    ap (λ (v : ℕ). set (set (a .w .now) (a .k) low) (ledgers + a .k) (v + 1)) (high (a .w .now) (a .k) low (s .pre .0 .1))
     ∙ sym (choose-f _ (le-ltb _ _ (test .if1 .left)) refl)
 
 pub add-spec : {M : Type 1} → statement M
