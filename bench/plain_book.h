@@ -1,6 +1,7 @@
 /*
- * The book in plain C. A call decodes the unit and fuel lines once, while it checks them. Bytes are
- * read as the host's words, which on x86-64 are little-endian as the book's are.
+ * The book in plain C. Opening it checks the unit and fuel lines where they stand and decodes none:
+ * a call that judges no record has no use for them. Bytes are read as the host's words, which on
+ * x86-64 are little-endian as the book's are.
  */
 #ifndef PLAIN_BOOK_H
 #define PLAIN_BOOK_H
@@ -12,25 +13,17 @@
 
 enum { LINE = BOOK_LINE, SETS = WARMING_SETS, MOST_LINES = 64, SMALL_RATING = 2500 };
 
-struct unit {
-    bool monitored, small;
-    bool dry; /* the monitor's analyser measures dry gas */
-};
-
-struct fuel {
-    uint32_t heat, co2, ch4, n2o, most_carbon;
-    bool biomass, natural_gas;
-    bool refined; /* natural gas or distillate oil: method 2 at any rating */
-    uint32_t molar_volume; /* 0 unless it is of a gas, which alone is analysed */
-};
+/* Kinds and classes of fuel. */
+enum { A_GAS = 3 };
+enum { OTHER, NATURAL, DISTILLATE, BIOMASS_CLASS };
 
 struct book {
-    const uint8_t *records;
+    const uint8_t *records, *unit_lines, *fuel_lines;
     uint32_t n, length, year, set, units, fuels; /* set: of warming values, below SETS */
-    uint16_t unit_number[MOST_LINES], fuel_number[MOST_LINES];
-    struct unit unit[MOST_LINES];
-    struct fuel fuel[MOST_LINES];
 };
+
+#define ALWAYS_INLINE static inline __attribute__((always_inline))
+#define RARELY(x) __builtin_expect(!!(x), 0)
 
 static inline uint32_t read16(const uint8_t *p)
 {
@@ -58,68 +51,52 @@ static inline bool in_range(uint32_t x, uint32_t least, uint32_t most)
     return x - least <= most - least;
 }
 
-/* The place of x among n rising numbers, n if it isn't there. No branch depends on the numbers. */
-static inline uint32_t find(const uint16_t *numbers, uint32_t n, uint32_t x)
+/* The line that has number x among n lines whose numbers rise, NULL if none has. No branch depends
+   on the numbers. */
+static inline const uint8_t *find_line(const uint8_t *lines, uint32_t n, uint32_t x)
 {
-    uint32_t low = 0, width = n;
     if (n == 0)
-        return n;
-    while (width > 1) {
-        uint32_t half = width / 2;
-        low = numbers[low + half] <= x ? low + half : low;
+        return NULL;
+    for (uint32_t width = n; width > 1;) {
+        const uint32_t half = width / 2;
+        const uint8_t *middle = lines + half * LINE;
+        lines = read16(middle) <= x ? middle : lines;
         width -= half;
     }
-    return numbers[low] == x ? low : n;
+    return read16(lines) == x ? lines : NULL;
 }
 
-static bool decode_units(struct book *k, const uint8_t *l)
+/* The flags have to be 0, 1 or 3; in each of these, and in no other below 4, every bit stands above
+   a set one. A word that must not be negative tells so by its top bit. */
+static bool are_units_right(const uint8_t *l, uint32_t n)
 {
-    uint32_t before = 0;
-    if (k->units > MOST_LINES)
-        return false;
-    for (uint32_t i = 0; i < k->units; i++, l += LINE) {
-        uint32_t number = read16(l), flags = read16(l + 2), rating = read32(l + 4);
-        uint64_t blank = read64(l + 8) | read64(l + 16) | read64(l + 24);
-        if (number <= before || flags > 3 || flags == 2 || !in_range(rating, 1, 100000) ||
-            blank != 0)
-            return false;
-        k->unit_number[i] = (uint16_t)number;
-        k->unit[i] = (struct unit){flags != 0, rating <= SMALL_RATING, flags == 3};
+    uint64_t blank = 0, negative = 0, before = 0;
+    for (uint32_t i = 0; i < n; i++, l += LINE) {
+        const uint64_t number = read16(l), flags = read16(l + 2), rating = read32(l + 4);
+        blank |= read64(l + 8) | read64(l + 16) | read64(l + 24) | (flags >> 1 & ~flags);
+        negative |= (number - before - 1) | (3 - flags) | (rating - 1) | (100000 - rating);
         before = number;
     }
-    return true;
+    return blank == 0 && negative >> 63 == 0;
 }
 
-static bool is_kind_right(uint32_t kind, uint32_t class)
-{
-    return in_range(kind, 1, 3) && class <= 3 && (class == 0 || kind + class == 4);
-}
+/* A bit for each kind and class that go together, by kind + 4 * class. */
+enum { SORTS = 1 << 1 | 1 << 2 | 1 << 3 | 1 << 7 | 1 << 10 | 1 << 13 };
 
-static bool decode_fuels(struct book *k, const uint8_t *l)
+static bool are_fuels_right(const uint8_t *l, uint32_t n)
 {
-    uint32_t before = 0;
-    if (k->fuels > MOST_LINES)
-        return false;
-    for (uint32_t i = 0; i < k->fuels; i++, l += LINE) {
-        uint32_t number = read16(l), kind = l[2], class = l[3], volume = read32(l + 20);
-        struct fuel f = {.heat = read32(l + 4),
-                         .co2 = read32(l + 8),
-                         .ch4 = read32(l + 12),
-                         .n2o = read32(l + 16),
-                         .most_carbon = kind == 3 ? 4000000 : 1000000,
-                         .biomass = class == 3,
-                         .natural_gas = class == 1,
-                         .refined = class == 1 || class == 2,
-                         .molar_volume = kind == 3 ? volume : 0};
-        if (number <= before || !is_kind_right(kind, class) || f.heat > 200000 ||
-            !in_range(f.co2, 1, 200000) || f.ch4 > 200000 || f.n2o > 200000 ||
-            (volume != 0 && !in_range(volume, 20000, 27000)) || read64(l + 24) != 0)
-            return false;
-        k->fuel_number[i] = (uint16_t)number;
-        k->fuel[i] = f;
+    uint64_t blank = 0, negative = 0, before = 0;
+    for (uint32_t i = 0; i < n; i++, l += LINE) {
+        const uint64_t number = read16(l), kind = l[2], class = l[3], volume = read32(l + 20);
+        const uint64_t heat = read32(l + 4), co2 = read32(l + 8);
+        const uint64_t ch4 = read32(l + 12), n2o = read32(l + 16);
+        blank |= read64(l + 24) | (~(uint64_t)SORTS >> ((kind + 4 * class) & 63) & 1) |
+                 ((volume - 20000 > 7000) & (volume != 0));
+        negative |= (number - before - 1) | (3 - kind) | (3 - class) | (200000 - heat) |
+                    (co2 - 1) | (200000 - co2) | (200000 - ch4) | (200000 - n2o);
         before = number;
     }
-    return true;
+    return blank == 0 && negative >> 63 == 0;
 }
 
 /* Reads the trailer into k; whether it keeps every rule. */
@@ -133,6 +110,8 @@ static bool decode_trailer(struct book *k, const uint8_t *bytes, uint32_t length
     if ((units | fuels) % LINE != 0 || units > fuels || fuels > length - LINE)
         return false;
     k->records = bytes;
+    k->unit_lines = bytes + units;
+    k->fuel_lines = bytes + fuels;
     k->length = length;
     k->n = units / LINE;
     k->units = (fuels - units) / LINE;
@@ -148,9 +127,9 @@ static unsigned open_book(struct book *k, const uint8_t *bytes, size_t length)
         return 20;
     if (!decode_trailer(k, bytes, (uint32_t)length))
         return 21;
-    if (!decode_units(k, bytes + k->n * LINE))
+    if (k->units > MOST_LINES || !are_units_right(k->unit_lines, k->units))
         return 22;
-    if (!decode_fuels(k, bytes + (k->n + k->units) * LINE))
+    if (k->fuels > MOST_LINES || !are_fuels_right(k->fuel_lines, k->fuels))
         return 23;
     return 0;
 }

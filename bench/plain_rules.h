@@ -1,0 +1,83 @@
+/*
+ * What a fuel record may hold and where its sums go, by unit, fuel and flags: a table in place of
+ * branches, since of a book's flags the processor foresees half.
+ *
+ * Sums are kept for each fuel, and its factors enter once, when a wake's records are all added. Of
+ * a record whose heat wasn't measured the amount alone is added, and the fuel's default heat is such
+ * a factor too.
+ */
+#ifndef PLAIN_RULES_H
+#define PLAIN_RULES_H
+
+#include "plain_book.h"
+
+enum { SMALL_UNIT, BIG_UNIT, MONITORED_UNIT, NO_UNIT, UNIT_KINDS };
+
+/* By class, but for a gas that isn't natural; with HAS_HEAT where the fuel has a default heat. */
+enum { OTHER_GAS_CLASS = 4, NO_FUEL_KIND, HAS_HEAT = 8, FUEL_KINDS = 16, FLAGS = 8 };
+
+/* Sums of a fuel: amount * heat by whether CO2 comes from it, and whether the heat was measured;
+   amount * carbon, where CO2 comes from it; and what comes to nothing. */
+enum { BY_HEAT, BY_HEAT_DEFAULT, BY_OTHER, BY_OTHER_DEFAULT, BY_CARBON_SUM, NOTHING, FUEL_SUMS };
+
+/* The heat to be multiplied is (heat * scale + offset) / 2^37, and 0 where the record is to be set
+   aside. Of a low value (111 * heat + 50) / 100 is taken by HUNDREDTH, which is the least number
+   above 2^37 / 100: up to 19,980,050 its excess of 0.28 makes no difference. */
+#define SCALE_BITS 37
+#define ONE_HEAT (UINT64_C(1) << SCALE_BITS)
+#define HUNDREDTH UINT64_C(1374389535)
+
+struct rule {
+    uint64_t scale, offset;
+    uint32_t most_heat, most_carbon;
+    uint16_t burned_at, carbon_at;
+    uint32_t counted; /* all ones, 0 where the unit's monitor gives the CO2 */
+};
+
+#define IS_MEASURED(flags) ((flags)&1)
+#define IS_CARBON(flags) ((flags) >> 1 & 1)
+#define IS_LOW(flags) ((flags) >> 2 & 1)
+#define CLASS_OF(fuel) ((fuel)&7)
+#define IS_GAS(fuel) (CLASS_OF(fuel) == NATURAL || CLASS_OF(fuel) == OTHER_GAS_CLASS)
+#define IS_REFINED(fuel) (CLASS_OF(fuel) == NATURAL || CLASS_OF(fuel) == DISTILLATE)
+#define HAS_DEFAULT(fuel) ((fuel) >> 3 & 1)
+
+/* Whether some method is permitted, and there is a heat in use. */
+#define IS_PERMITTED(unit, fuel, flags)                                                            \
+    (CLASS_OF(fuel) != NO_FUEL_KIND && (IS_MEASURED(flags) || HAS_DEFAULT(fuel)) &&                \
+     (!IS_LOW(flags) || (IS_MEASURED(flags) && CLASS_OF(fuel) == NATURAL)) &&                      \
+     ((unit) == MONITORED_UNIT || IS_CARBON(flags) || (unit) == SMALL_UNIT ||                      \
+      (IS_MEASURED(flags) && IS_REFINED(fuel))))
+
+#define RULE(unit, fuel, flags)                                                                    \
+    {                                                                                              \
+        .scale = !IS_PERMITTED(unit, fuel, flags) || !IS_MEASURED(flags) ? 0                       \
+                 : IS_LOW(flags)                                         ? 111 * HUNDREDTH         \
+                                                                         : ONE_HEAT,               \
+        .offset = !IS_PERMITTED(unit, fuel, flags) ? 0                                             \
+                  : IS_LOW(flags)                  ? 50 * HUNDREDTH                                \
+                  : IS_MEASURED(flags)             ? 0                                             \
+                                                   : ONE_HEAT,                                     \
+        .most_heat = IS_LOW(flags) ? 180000 : IS_MEASURED(flags) ? 200000 : 0,                     \
+        .most_carbon = !IS_CARBON(flags) ? 0 : IS_GAS(fuel) ? 4000000 : 1000000,                   \
+        .burned_at = 8 * (((unit) == MONITORED_UNIT || IS_CARBON(flags) ? BY_OTHER : BY_HEAT) +     \
+                         !IS_MEASURED(flags)),                                                     \
+        .carbon_at = 8 * ((unit) == MONITORED_UNIT ? NOTHING : BY_CARBON_SUM),                     \
+        .counted = (unit) == MONITORED_UNIT ? 0 : UINT32_MAX                                       \
+    }
+
+#define BY_FLAGS(unit, fuel)                                                                       \
+    RULE(unit, fuel, 0), RULE(unit, fuel, 1), RULE(unit, fuel, 2), RULE(unit, fuel, 3),            \
+        RULE(unit, fuel, 4), RULE(unit, fuel, 5), RULE(unit, fuel, 6), RULE(unit, fuel, 7)
+
+#define BY_CLASS(unit, heat)                                                                       \
+    BY_FLAGS(unit, heat), BY_FLAGS(unit, heat + 1), BY_FLAGS(unit, heat + 2),                      \
+        BY_FLAGS(unit, heat + 3), BY_FLAGS(unit, heat + 4), BY_FLAGS(unit, heat + 5),              \
+        BY_FLAGS(unit, heat + 6), BY_FLAGS(unit, heat + 7)
+
+#define BY_FUEL(unit) BY_CLASS(unit, 0), BY_CLASS(unit, HAS_HEAT)
+
+static const struct rule rules[UNIT_KINDS * FUEL_KINDS * FLAGS] = {
+    BY_FUEL(SMALL_UNIT), BY_FUEL(BIG_UNIT), BY_FUEL(MONITORED_UNIT)};
+
+#endif
