@@ -20,30 +20,24 @@ static inline uint64_t key_of(const uint8_t *l)
     return read64(l) & UINT64_C(0xffff0000ffff00ff);
 }
 
-/* By four lines at a time, and by their numbers alone where these are hours, of which hardly two
-   are the same. */
-static inline bool is_hour_among(const uint8_t *from, const uint8_t *l)
+static inline bool has_key(const uint8_t *l, uint64_t key)
+{
+    return key_of(l) == key;
+}
+
+/* Whether the hour or the anodes at l stand before, from this line on. By four lines at a time: a
+   loop over single ones takes a third longer. */
+static inline bool is_among(const uint8_t *from, const uint8_t *l)
 {
     const uint64_t key = key_of(l);
-    const uint16_t hour = (uint16_t)read16(l + 6);
+    for (; l - from >= 4 * LINE; from += 4 * LINE)
+        if (RARELY(has_key(from, key)) || RARELY(has_key(from + LINE, key)) ||
+            RARELY(has_key(from + 2 * LINE, key)) || RARELY(has_key(from + 3 * LINE, key)))
+            return true;
     for (; from < l; from += LINE)
-        if (RARELY(read16(from + 6) == hour) && key_of(from) == key)
+        if (has_key(from, key))
             return true;
     return false;
-}
-
-static inline bool is_key_among(const uint8_t *from, const uint8_t *l)
-{
-    const uint64_t key = key_of(l);
-    for (; from + LINE < l; from += 2 * LINE)
-        if ((key_of(from) == key) | (key_of(from + LINE) == key))
-            return true;
-    return from < l && key_of(from) == key;
-}
-
-static bool is_among(const uint8_t *from, const uint8_t *l)
-{
-    return l[0] == HOUR ? is_hour_among(from, l) : is_key_among(from, l);
 }
 
 /* Whether at most FEW of these records can repeat others. */

@@ -13,9 +13,8 @@
 
 enum { LINE = BOOK_LINE, SETS = WARMING_SETS, MOST_LINES = 64, SMALL_RATING = 2500 };
 
-/* Kinds and classes of fuel. */
-enum { A_GAS = 3 };
-enum { OTHER, NATURAL, DISTILLATE, BIOMASS_CLASS };
+/* Of a fuel line: the kind of a gas, and the classes that rules name. */
+enum { A_GAS = 3, NATURAL = 1, DISTILLATE = 2, BIOMASS_CLASS = 3 };
 
 struct book {
     const uint8_t *records, *unit_lines, *fuel_lines;
@@ -23,6 +22,7 @@ struct book {
 };
 
 #define ALWAYS_INLINE static inline __attribute__((always_inline))
+#define NOINLINE __attribute__((noinline))
 #define RARELY(x) __builtin_expect(!!(x), 0)
 
 static inline uint32_t read16(const uint8_t *p)
@@ -46,6 +46,16 @@ static inline uint64_t read64(const uint8_t *p)
     return x;
 }
 
+enum { PIECE = 64 };
+
+/* By pieces, of which there is a whole number: to clear more at once the compiler takes an
+   instruction that needs 10 ns to begin. */
+static inline void clear(void *at, size_t length)
+{
+    for (size_t i = 0; i < length; i += PIECE)
+        memset((char *)at + i, 0, PIECE);
+}
+
 static inline bool in_range(uint32_t x, uint32_t least, uint32_t most)
 {
     return x - least <= most - least;
@@ -66,37 +76,63 @@ static inline const uint8_t *find_line(const uint8_t *lines, uint32_t n, uint32_
     return read16(lines) == x ? lines : NULL;
 }
 
-/* The flags have to be 0, 1 or 3; in each of these, and in no other below 4, every bit stands above
-   a set one. A word that must not be negative tells so by its top bit. */
-static bool are_units_right(const uint8_t *l, uint32_t n)
+/* A test is a branch of its own: foreseen, it takes half the time of the same test added to others
+   without one. */
+static inline bool are_units_right(const uint8_t *l, uint32_t n)
 {
-    uint64_t blank = 0, negative = 0, before = 0;
-    for (uint32_t i = 0; i < n; i++, l += LINE) {
-        const uint64_t number = read16(l), flags = read16(l + 2), rating = read32(l + 4);
-        blank |= read64(l + 8) | read64(l + 16) | read64(l + 24) | (flags >> 1 & ~flags);
-        negative |= (number - before - 1) | (3 - flags) | (rating - 1) | (100000 - rating);
+    uint32_t before = 0;
+    for (const uint8_t *end = l + n * LINE; l < end; l += LINE) {
+        const uint32_t number = read16(l);
+        if (number <= before)
+            return false;
         before = number;
+        const uint32_t flags = read16(l + 2);
+        if (flags > 3 || flags == 2)
+            return false;
+        const uint32_t rating = read32(l + 4);
+        if (!in_range(rating, 1, 100000))
+            return false;
+        if ((read64(l + 8) | read64(l + 16) | read64(l + 24)) != 0)
+            return false;
     }
-    return blank == 0 && negative >> 63 == 0;
+    return true;
 }
 
-/* A bit for each kind and class that go together, by kind + 4 * class. */
-enum { SORTS = 1 << 1 | 1 << 2 | 1 << 3 | 1 << 7 | 1 << 10 | 1 << 13 };
+/* What a fuel is by kind and class; MADE_UP where there is none. */
+enum {
+    OTHER_FUEL,
+    NATURAL_GAS_FUEL,
+    DISTILLATE_FUEL,
+    BIOMASS_FUEL,
+    OTHER_GAS_FUEL,
+    MADE_UP
+};
 
-static bool are_fuels_right(const uint8_t *l, uint32_t n)
+/* By kind + 256 * class, as they stand in a fuel line; one more than the fuel is, and 0 where the
+   two don't go together. */
+static const uint8_t sorts_of_fuel[1024] = {
+    [0x001] = 1 + OTHER_FUEL,       [0x002] = 1 + OTHER_FUEL,      [0x003] = 1 + OTHER_GAS_FUEL,
+    [0x103] = 1 + NATURAL_GAS_FUEL, [0x202] = 1 + DISTILLATE_FUEL, [0x301] = 1 + BIOMASS_FUEL};
+
+static inline bool are_fuels_right(const uint8_t *l, uint32_t n)
 {
-    uint64_t blank = 0, negative = 0, before = 0;
-    for (uint32_t i = 0; i < n; i++, l += LINE) {
-        const uint64_t number = read16(l), kind = l[2], class = l[3], volume = read32(l + 20);
-        const uint64_t heat = read32(l + 4), co2 = read32(l + 8);
-        const uint64_t ch4 = read32(l + 12), n2o = read32(l + 16);
-        blank |= read64(l + 24) | (~(uint64_t)SORTS >> ((kind + 4 * class) & 63) & 1) |
-                 ((volume - 20000 > 7000) & (volume != 0));
-        negative |= (number - before - 1) | (3 - kind) | (3 - class) | (200000 - heat) |
-                    (co2 - 1) | (200000 - co2) | (200000 - ch4) | (200000 - n2o);
+    uint32_t before = 0;
+    for (const uint8_t *end = l + n * LINE; l < end; l += LINE) {
+        const uint32_t number = read16(l);
+        if (number <= before)
+            return false;
         before = number;
+        const uint32_t sort = read16(l + 2);
+        if (sort >= sizeof sorts_of_fuel || sorts_of_fuel[sort] == 0)
+            return false;
+        if (read32(l + 4) > 200000 || !in_range(read32(l + 8), 1, 200000) ||
+            read32(l + 12) > 200000 || read32(l + 16) > 200000)
+            return false;
+        const uint32_t volume = read32(l + 20);
+        if (volume > 27000 || in_range(volume, 1, 19999) || read64(l + 24) != 0)
+            return false;
     }
-    return blank == 0 && negative >> 63 == 0;
+    return true;
 }
 
 /* Reads the trailer into k; whether it keeps every rule. */

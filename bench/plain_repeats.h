@@ -13,8 +13,10 @@
 #include "plain_before.h"
 #include "plain_many.h"
 
-/* Bits of a hash. With 64 hashes for each record of the wake hardly a line is marked in vain. */
-enum { LEAST_BITS = 12, MOST_BITS = 15, HASHES_EACH = 64 };
+/* Bits of a hash, while there is a byte for each and at most. With 64 hashes for each record of the
+   wake, and while there is room 4 for each line before, hardly a line is marked in vain; the most
+   are 64 KB. */
+enum { LEAST_BYTES = 10, MOST_BYTES = 13, MOST_BITS = 19, HASHES_EACH = 64, HASHES_BEFORE = 4 };
 
 /* Marks an hour of a monitored unit; whether it was marked. A row is cleared when it is first
    needed: all 64 are 70 KB. */
@@ -23,7 +25,7 @@ static inline bool mark_hour(struct many *m, struct unit *u, uint32_t hour)
     uint64_t *row = u->row, bit = UINT64_C(1) << hour % 64;
     if (u->moistures == 0) {
         const uint8_t *line = m->book->unit_lines + (u - m->unit) * LINE;
-        memset(row, 0, sizeof *m->hours);
+        clear(row, sizeof *m->hours);
         u->moistures = line[2] == 3 ? 1001 : 1;
     }
     const bool was_marked = (row[hour / 64] & bit) != 0;
@@ -48,9 +50,9 @@ static inline struct unit *find_unit(struct many *m, uint32_t number)
     return line == NULL ? NULL : &m->unit[(line - k->unit_lines) / LINE];
 }
 
-/* Marks the record at l, whatever becomes of it, unless none that would count can repeat it; whether
-   it was marked. */
-static inline bool mark(struct many *m, const uint8_t *l)
+/* Marks the record at l, whatever becomes of it, unless none that would count can repeat it;
+   whether it was marked. */
+ALWAYS_INLINE bool mark(struct many *m, const uint8_t *l)
 {
     const uint32_t number = read16(l + 6);
     struct unit *u = find_unit(m, read16(l + 2));
@@ -58,35 +60,106 @@ static inline bool mark(struct many *m, const uint8_t *l)
         return false;
     if (l[0] == ANODES)
         return mark_month(u, number);
-    return u->rules == &rules[MONITORED_UNIT * FUEL_KINDS * FLAGS] && mark_hour(m, u, number);
+    return u->rules == rules_of(MONITORED_UNIT) && mark_hour(m, u, number);
 }
 
 /* Below 2^bits. Two records may share one, which costs a look-up. */
-static inline uint32_t hash(const uint8_t *l, unsigned bits)
+static inline uint64_t hash(const uint8_t *l, unsigned bits)
 {
-    return (uint32_t)(key_of(l) * UINT64_C(0x9e3779b97f4a7c15) >> (64 - bits));
+    return key_of(l) * UINT64_C(0x9e3779b97f4a7c15) >> (64 - bits);
+}
+
+ALWAYS_INLINE void mark_line(struct many *m, const uint8_t *l)
+{
+    if (can_repeat(l[0]))
+        mark(m, l);
+}
+
+/* The hashes of what a wake asks for: a byte for each where these are few, which is found sooner
+   than a bit, but of more hashes has no room beside the lines. */
+struct asked {
+    unsigned bits;
+    union {
+        bool byte[1 << MOST_BYTES];
+        uint64_t word[1 << (MOST_BITS - 6)];
+    };
+};
+
+ALWAYS_INLINE bool is_asked(const struct asked *asked, const uint8_t *l, bool by_bytes)
+{
+    const uint64_t i = hash(l, asked->bits);
+    return by_bytes ? asked->byte[i] : asked->word[i / 64] >> i % 64 & 1;
+}
+
+ALWAYS_INLINE void ask(struct asked *asked, const uint8_t *l, bool by_bytes)
+{
+    const uint64_t i = hash(l, asked->bits);
+    if (by_bytes)
+        asked->byte[i] |= can_repeat(l[0]);
+    else
+        asked->word[i / 64] |= (uint64_t)can_repeat(l[0]) << i % 64;
+}
+
+/* Marks the line at l, and those behind it that are asked for too; the first that isn't. */
+ALWAYS_INLINE const uint8_t *mark_run(struct many *m, const struct asked *asked, const uint8_t *l,
+                                      const uint8_t *end, bool by_bytes)
+{
+    do {
+        mark_line(m, l);
+        l += LINE;
+    } while (l < end && is_asked(asked, l, by_bytes));
+    return l;
+}
+
+static NOINLINE const uint8_t *
+mark_run_of_few(struct many *m, const struct asked *asked, const uint8_t *l, const uint8_t *end)
+{
+    return mark_run(m, asked, l, end, true);
+}
+
+static NOINLINE const uint8_t *
+mark_run_of_more(struct many *m, const struct asked *asked, const uint8_t *l, const uint8_t *end)
+{
+    return mark_run(m, asked, l, end, false);
+}
+
+/* The first line from l on that is asked for, or a line of the last two before the end. */
+ALWAYS_INLINE const uint8_t *skip(const struct asked *asked, const uint8_t *l, const uint8_t *end,
+                                  bool by_bytes)
+{
+    if (end - l < 2 * LINE)
+        return l;
+    const uint8_t *last = end - 2 * LINE;
+    for (; l <= last; l += 2 * LINE) {
+        if (RARELY(is_asked(asked, l, by_bytes)))
+            return l;
+        if (RARELY(is_asked(asked, l + LINE, by_bytes)))
+            return l + LINE;
+    }
+    return l;
 }
 
 /* Marks the records before l that may have the key of one of the wake's. */
-ALWAYS_INLINE void mark_asked(struct many *m, const uint8_t *l, unsigned bits)
+static NOINLINE void mark_for_few(struct many *m, const uint8_t *l, unsigned bits)
 {
-    uint8_t asked[1 << MOST_BITS];
-    memset(asked, 0, (size_t)1 << bits);
+    struct asked asked;
+    asked.bits = bits;
+    clear(asked.byte, (size_t)1 << bits);
     for (const uint8_t *asking = l; asking < m->end; asking += LINE)
-        asked[hash(asking, bits)] |= can_repeat(asking[0]);
-    for (const uint8_t *before = m->book->records; before < l; before += LINE)
-        if (RARELY(asked[hash(before, bits)]) && can_repeat(before[0]))
-            mark(m, before);
+        ask(&asked, asking, true);
+    for (const uint8_t *from = m->book->records; (from = skip(&asked, from, l, true)) < l;)
+        from = mark_run_of_few(m, &asked, from, l);
 }
 
-static __attribute__((noinline)) void mark_few(struct many *m, const uint8_t *l)
+static NOINLINE void mark_for_more(struct many *m, const uint8_t *l, unsigned bits)
 {
-    mark_asked(m, l, LEAST_BITS); /* a shift that the compiler knows saves a twentieth */
-}
-
-static __attribute__((noinline)) void mark_more(struct many *m, const uint8_t *l, unsigned bits)
-{
-    mark_asked(m, l, bits);
+    struct asked asked;
+    asked.bits = bits;
+    clear(asked.word, (size_t)1 << (bits - 3));
+    for (const uint8_t *asking = l; asking < m->end; asking += LINE)
+        ask(&asked, asking, false);
+    for (const uint8_t *from = m->book->records; (from = skip(&asked, from, l, false)) < l;)
+        from = mark_run_of_more(m, &asked, from, l);
 }
 
 /* Marks the records before l that the wake asks for. Where the lines of the wake are more than
@@ -94,19 +167,21 @@ static __attribute__((noinline)) void mark_more(struct many *m, const uint8_t *l
 static void mark_before(struct many *m, const uint8_t *l)
 {
     const uint8_t *from = m->book->records;
-    unsigned bits = LEAST_BITS;
-    if (l - from < m->end - l) {
+    const ptrdiff_t before = (l - from) / LINE, asking = (m->end - l) / LINE;
+    unsigned bits = LEAST_BYTES;
+    if (before < asking) {
         for (; from < l; from += LINE)
-            if (can_repeat(from[0]))
-                mark(m, from);
+            mark_line(m, from);
         return;
     }
-    while (bits < MOST_BITS && (m->end - l) / LINE * HASHES_EACH > 1 << bits)
+    while (bits < MOST_BYTES && HASHES_BEFORE * before > 1 << bits)
         bits++;
-    if (bits == LEAST_BITS)
-        mark_few(m, l);
+    while (bits < MOST_BITS && HASHES_EACH * asking > 1 << bits)
+        bits++;
+    if (bits <= MOST_BYTES)
+        mark_for_few(m, l, bits);
     else
-        mark_more(m, l, bits);
+        mark_for_more(m, l, bits);
 }
 
 static void decide(struct many *m, const uint8_t *l)

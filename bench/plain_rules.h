@@ -3,8 +3,8 @@
  * branches, since of a book's flags the processor foresees half.
  *
  * Sums are kept for each fuel, and its factors enter once, when a wake's records are all added. Of
- * a record whose heat wasn't measured the amount alone is added, and the fuel's default heat is such
- * a factor too.
+ * a record whose heat wasn't measured the amount alone is added, and the fuel's default heat is a
+ * factor too.
  */
 #ifndef PLAIN_RULES_H
 #define PLAIN_RULES_H
@@ -13,8 +13,8 @@
 
 enum { SMALL_UNIT, BIG_UNIT, MONITORED_UNIT, NO_UNIT, UNIT_KINDS };
 
-/* By class, but for a gas that isn't natural; with HAS_HEAT where the fuel has a default heat. */
-enum { OTHER_GAS_CLASS = 4, NO_FUEL_KIND, HAS_HEAT = 8, FUEL_KINDS = 16, FLAGS = 8 };
+/* A fuel goes by its sort, with HAS_HEAT where it has a default heat. */
+enum { HAS_HEAT = 8, FUEL_KINDS = 16, FLAGS = 8 };
 
 /* Sums of a fuel: amount * heat by whether CO2 comes from it, and whether the heat was measured;
    amount * carbon, where CO2 comes from it; and what comes to nothing. */
@@ -37,15 +37,15 @@ struct rule {
 #define IS_MEASURED(flags) ((flags)&1)
 #define IS_CARBON(flags) ((flags) >> 1 & 1)
 #define IS_LOW(flags) ((flags) >> 2 & 1)
-#define CLASS_OF(fuel) ((fuel)&7)
-#define IS_GAS(fuel) (CLASS_OF(fuel) == NATURAL || CLASS_OF(fuel) == OTHER_GAS_CLASS)
-#define IS_REFINED(fuel) (CLASS_OF(fuel) == NATURAL || CLASS_OF(fuel) == DISTILLATE)
+#define SORT_OF(fuel) ((fuel)&7)
+#define IS_GAS(fuel) (SORT_OF(fuel) == NATURAL_GAS_FUEL || SORT_OF(fuel) == OTHER_GAS_FUEL)
+#define IS_REFINED(fuel) (SORT_OF(fuel) == NATURAL_GAS_FUEL || SORT_OF(fuel) == DISTILLATE_FUEL)
 #define HAS_DEFAULT(fuel) ((fuel) >> 3 & 1)
 
 /* Whether some method is permitted, and there is a heat in use. */
 #define IS_PERMITTED(unit, fuel, flags)                                                            \
-    (CLASS_OF(fuel) != NO_FUEL_KIND && (IS_MEASURED(flags) || HAS_DEFAULT(fuel)) &&                \
-     (!IS_LOW(flags) || (IS_MEASURED(flags) && CLASS_OF(fuel) == NATURAL)) &&                      \
+    (SORT_OF(fuel) != MADE_UP && (IS_MEASURED(flags) || HAS_DEFAULT(fuel)) &&                      \
+     (!IS_LOW(flags) || (IS_MEASURED(flags) && SORT_OF(fuel) == NATURAL_GAS_FUEL)) &&              \
      ((unit) == MONITORED_UNIT || IS_CARBON(flags) || (unit) == SMALL_UNIT ||                      \
       (IS_MEASURED(flags) && IS_REFINED(fuel))))
 
@@ -60,7 +60,7 @@ struct rule {
                                                    : ONE_HEAT,                                     \
         .most_heat = IS_LOW(flags) ? 180000 : IS_MEASURED(flags) ? 200000 : 0,                     \
         .most_carbon = !IS_CARBON(flags) ? 0 : IS_GAS(fuel) ? 4000000 : 1000000,                   \
-        .burned_at = 8 * (((unit) == MONITORED_UNIT || IS_CARBON(flags) ? BY_OTHER : BY_HEAT) +     \
+        .burned_at = 8 * (((unit) == MONITORED_UNIT || IS_CARBON(flags) ? BY_OTHER : BY_HEAT) +    \
                          !IS_MEASURED(flags)),                                                     \
         .carbon_at = 8 * ((unit) == MONITORED_UNIT ? NOTHING : BY_CARBON_SUM),                     \
         .counted = (unit) == MONITORED_UNIT ? 0 : UINT32_MAX                                       \
