@@ -2,6 +2,7 @@
 #include "compare.h"
 #include "flat.h"
 #include "late.h"
+#include "limits.h"
 #include "stack.h"
 #include "timing.h"
 
@@ -152,7 +153,7 @@ static const struct table {
     void (*tell)(struct bytes *b);
 } tables[] = {{"books", time_books},       {"wakes", time_wakes}, {"lasts", time_lasts},
               {"openings", time_openings}, {"flat", time_flat},   {"late", time_late},
-              {"stack", measure_stack}};
+              {"limits", time_limits},     {"stack", measure_stack}};
 
 enum { TABLES = sizeof tables / sizeof *tables };
 
