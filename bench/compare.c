@@ -7,6 +7,8 @@
 #include "compare_gas.h"
 #include "compare_gas_co2.h"
 #include "compare_large.h"
+#include "compare_long.h"
+#include "compare_numbers.h"
 #include "compare_repeats.h"
 #include "compare_tallies.h"
 #include "compare_volumes.h"
@@ -226,6 +228,7 @@ void compare_damaged(void)
     compare_gas_co2(&b);
     compare_volumes(&b);
     compare_repeats(&b);
+    compare_numbers(&b);
     compare_decisions(&b);
     compare_too_many(&b);
     compare_large(&b);
@@ -236,5 +239,7 @@ void compare_damaged(void)
     tell_gas_co2();
     tell_volumes();
     tell_tallies();
+    tell_long();
+    tell_numbers();
     tell_large();
 }

@@ -4,6 +4,7 @@
  */
 #include "compare_calls.h"
 
+#include "compare_long.h"
 #include "plain.h"
 #include "wetherstep.h"
 
@@ -68,6 +69,13 @@ struct out compare_fresh(const struct bytes *b, const char *name, size_t out_len
     return one;
 }
 
+static int is_at_start(const struct out *at)
+{
+    static const uint8_t none[4];
+    return memcmp(at->bytes, none, sizeof none) == 0;
+}
+
+/* From the start of a short book its records are gone through among many too. */
 uint32_t compare_wake(const struct bytes *b, const char *name, struct out *from, size_t from_len,
                       uint32_t budget, size_t out_len)
 {
@@ -77,6 +85,8 @@ uint32_t compare_wake(const struct bytes *b, const char *name, struct out *from,
     uint64_t plain =
         plain_wake(b->book, b->length, from->bytes, from_len, budget, two.bytes, out_len);
     same(name, WAKE, library, plain, &one, &two, sizeof one);
+    if (wetherstep_count(plain) != 0 && is_at_start(from) && is_short_book(b))
+        compare_long(b, name);
     if (wetherstep_number(plain) == 0)
         *from = one;
     return wetherstep_count(plain);

@@ -101,6 +101,47 @@ static void compare_heaviest(struct bytes *b)
     }
 }
 
+/* Carbon, hours and analysed gas as heavy as they can be, and so many tonnes of fossil CO2 each. */
+static const struct heavy {
+    struct recipe recipe;
+    uint64_t tonnes;
+} heavies[] = {{{"heaviest carbon", ALL_FUEL, MOST_RECORDS, 1, 1}, 1465600},
+               {{"heaviest hours", SITE_HOURS, MOST_RECORDS, 15, 0}, 51800},
+               {{"heaviest gas", ALL_GAS, MOST_RECORDS, 1, 1}, 3664000}};
+
+static void make_heavy(struct bytes *b, const struct recipe *recipe)
+{
+    make_book(b, recipe);
+    if (recipe->mix == ALL_GAS)
+        write_volume(b, 0, 20000);
+    for (size_t i = 0; i < b->records; i++) {
+        uint8_t *l = b->book + BOOK_LINE * i;
+        if (recipe->mix == ALL_FUEL)
+            write_heat(b, i, 0, 0, 2, 0);
+        const int is_hour = l[0] == HOUR;
+        put(l + 8, is_hour ? 0x42c80000 : 100000000, 4); /* 100 percent, or units of fuel */
+        if (is_hour)
+            put(l + 12, 0x4e6e6b28, 4); /* 1,000,000,000 scf/h */
+        else
+            put(l + 16, l[0] == GAS ? 1000000 : 4000000, 4);
+        put(l + 20, l[0] == GAS ? 200000 : 0, 4);
+    }
+}
+
+static void compare_heavies(struct bytes *b)
+{
+    for (size_t i = 0; i < sizeof heavies / sizeof *heavies; i++) {
+        const struct recipe *recipe = &heavies[i].recipe;
+        make_heavy(b, recipe);
+        struct out at = compare_fresh(b, recipe->name, SIZE);
+        compare_wake(b, recipe->name, &at, SIZE, UINT32_MAX, SIZE);
+        compare_report(b, recipe->name, &at, SIZE);
+        const uint64_t due[2] = {heavies[i].tonnes * b->records, 0};
+        if (memcmp(at.bytes + LEDGERS_AT, due, sizeof due) != 0)
+            stop_at(recipe->name, "the tonnes of the last", b->records - 1);
+    }
+}
+
 /* A checkpoint that no wake made, with as many tonnes as so many records can give, and one more. */
 static void compare_bound(const struct bytes *b, const char *name, uint32_t done)
 {
@@ -126,6 +167,7 @@ void compare_far(struct bytes *b)
     make_book(b, &hours);
     compare_pairs(b, hours.name);
     compare_anodes_apart(b);
+    compare_heavies(b);
     compare_heaviest(b);
     for (uint32_t less = 0; less < 11; less++)
         compare_bound(b, "bounds", (uint32_t)b->records + 1 - less);
