@@ -4,6 +4,7 @@
 #include "compare_anodes.h"
 #include "compare_calls.h"
 #include "compare_dry.h"
+#include "compare_fuel.h"
 #include "compare_gas.h"
 #include "compare_gas_co2.h"
 #include "compare_large.h"
@@ -222,6 +223,7 @@ void compare_damaged(void)
     compare_other_set(&b);
     compare_heats(&b);
     compare_flags(&b);
+    compare_fuel(&b);
     compare_dry(&b);
     compare_anodes(&b);
     compare_gas(&b);
@@ -233,6 +235,7 @@ void compare_damaged(void)
     compare_too_many(&b);
     compare_large(&b);
     tell_compared();
+    tell_fuel();
     tell_dry();
     tell_anodes();
     tell_gas();

@@ -74,8 +74,8 @@ static size_t index_of(uint32_t number)
     return i;
 }
 
-/* By numbering: records whose unit and fuel are listed, and whose unit or fuel isn't, but shares its
-   last byte with one that is. */
+/* By numbering: records whose unit and fuel are listed, and records whose unit or fuel isn't, most
+   of which share their last bits with one that is. */
 static unsigned long listed[SCHEMES], mistaken[SCHEMES];
 
 /* The number of this unit or fuel, and of every seventh one beside it that isn't listed. */

@@ -98,9 +98,9 @@ static int find_last_cache(void)
 
 void time_limits(struct bytes *b)
 {
-    printf("\na wake of all records, and the reading of their bytes alone; cache: one full book again "
-           "and again;\nmemory: %d copies of a longest book by turns, %d MiB, the last cache having "
-           "%d MiB (0: not told)\n",
+    printf("\na wake of all records, and the reading of their bytes alone; cache: one full book "
+           "again and again;\nmemory: %d copies of a longest book by turns, %d MiB, the last cache "
+           "having %d MiB (0: not told)\n",
            COPIES, COPIES * (LONGEST_BOOK >> 20), find_last_cache() >> 10);
     printf("%-28s %-7s %8s  %8s %8s %8s  %17s\n", "ns/record", "from", "records", "library", "C",
            "reading", "times the reading");
