@@ -16,9 +16,11 @@ enum { SMALL_UNIT, BIG_UNIT, MONITORED_UNIT, NO_UNIT, UNIT_KINDS };
 /* A fuel goes by its sort, with HAS_HEAT where it has a default heat. */
 enum { HAS_HEAT = 8, FUEL_KINDS = 16, FLAGS = 8 };
 
-/* Sums of a fuel: amount * heat by whether CO2 comes from it, and whether the heat was measured;
-   amount * carbon, where CO2 comes from it; and what comes to nothing. */
-enum { BY_HEAT, BY_HEAT_DEFAULT, BY_OTHER, BY_OTHER_DEFAULT, BY_CARBON_SUM, NOTHING, FUEL_SUMS };
+/* Sums of a fuel, in units without a monitor and then in those with one: amount * heat by the two
+   lowest flags, of records with a default heat the amount alone; and amount * carbon, which comes
+   to nothing in units with a monitor. */
+enum { CARBON_SUM = 4, UNIT_SUMS, FUEL_SUMS = 2 * UNIT_SUMS };
+enum { MONITORED_AT = UNIT_SUMS * 8 }; /* in bytes */
 
 /* The heat to be multiplied is (heat * scale + offset) / 2^37, and 0 where the record is to be set
    aside. Of a low value (111 * heat + 50) / 100 is taken by HUNDREDTH, which is the least number
@@ -30,8 +32,8 @@ enum { BY_HEAT, BY_HEAT_DEFAULT, BY_OTHER, BY_OTHER_DEFAULT, BY_CARBON_SUM, NOTH
 struct rule {
     uint64_t scale, offset;
     uint32_t most_heat, most_carbon;
-    uint16_t burned_at, carbon_at;
-    uint32_t counted; /* all ones, 0 where the unit's monitor gives the CO2 */
+    uint32_t burned_at; /* among a fuel's sums */
+    uint32_t counted;   /* all ones, 0 where the unit's monitor gives the CO2 */
 };
 
 #define IS_MEASURED(flags) ((flags)&1)
@@ -60,9 +62,7 @@ struct rule {
                                                    : ONE_HEAT,                                     \
         .most_heat = IS_LOW(flags) ? 180000 : IS_MEASURED(flags) ? 200000 : 0,                     \
         .most_carbon = !IS_CARBON(flags) ? 0 : IS_GAS(fuel) ? 4000000 : 1000000,                   \
-        .burned_at = 8 * (((unit) == MONITORED_UNIT || IS_CARBON(flags) ? BY_OTHER : BY_HEAT) +    \
-                         !IS_MEASURED(flags)),                                                     \
-        .carbon_at = 8 * ((unit) == MONITORED_UNIT ? NOTHING : BY_CARBON_SUM),                     \
+        .burned_at = ((unit) == MONITORED_UNIT ? UNIT_SUMS : 0) + (flags) % CARBON_SUM,            \
         .counted = (unit) == MONITORED_UNIT ? 0 : UINT32_MAX                                       \
     }
 
