@@ -18,18 +18,14 @@
    are 64 KB. */
 enum { LEAST_BYTES = 10, MOST_BYTES = 13, MOST_BITS = 19, HASHES_EACH = 64, HASHES_BEFORE = 4 };
 
-/* Marks an hour of a monitored unit; whether it was marked. A row is cleared when it is first
-   needed: all 64 are 70 KB. */
+/* Marks an hour of a monitored unit; whether it was marked. */
 static inline bool mark_hour(struct many *m, struct unit *u, uint32_t hour)
 {
-    uint64_t *row = u->row, bit = UINT64_C(1) << hour % 64;
-    if (u->moistures == 0) {
-        const uint8_t *line = m->book->unit_lines + (u - m->unit) * LINE;
-        clear(row, sizeof *m->hours);
-        u->moistures = line[2] == 3 ? 1001 : 1;
-    }
-    const bool was_marked = (row[hour / 64] & bit) != 0;
-    row[hour / 64] |= bit;
+    uint64_t *word = u->row + hour / 64, bit = UINT64_C(1) << hour % 64;
+    if (u->moistures == 0)
+        begin_row(m, u);
+    const bool was_marked = (*word & bit) != 0;
+    *word |= bit;
     return was_marked;
 }
 
