@@ -10,8 +10,8 @@
 #ifndef PLAIN_REPEATS_H
 #define PLAIN_REPEATS_H
 
-#include "plain_before.h"
 #include "plain_many.h"
+#include "plain_some.h"
 
 /* Bits of a hash, while there is a byte for each and at most. With 64 hashes for each record of the
    wake, and while there is room 4 for each line before, hardly a line is marked in vain; the most
@@ -57,12 +57,6 @@ ALWAYS_INLINE bool mark(struct many *m, const uint8_t *l)
     if (l[0] == ANODES)
         return mark_month(u, number);
     return u->rules == rules_of(MONITORED_UNIT) && mark_hour(m, u, number);
-}
-
-/* Below 2^bits. Two records may share one, which costs a look-up. */
-static inline uint64_t hash(const uint8_t *l, unsigned bits)
-{
-    return key_of(l) * UINT64_C(0x9e3779b97f4a7c15) >> (64 - bits);
 }
 
 ALWAYS_INLINE void mark_line(struct many *m, const uint8_t *l)
