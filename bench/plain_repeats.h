@@ -1,11 +1,11 @@
 /*
- * Hours and anodes that stand before, in plain C: whether an earlier record of the book has the
- * kind, the unit and the number of this one, which is its hour or its month. A wake decides how to
- * know it at its first such record that would count, so that one of fuel alone pays nothing.
+ * Hours and anodes that stand before, in plain C, in a wake of many: whether an earlier record has
+ * the kind, the unit and the number of this one, which is its hour or its month. The wake decides
+ * how to know it at its first such record that would count, so that one of fuel alone pays nothing.
  *
- * Up to two records are held against each line before. For more the lines are hashed, and those
- * alone are marked that some record of the wake may repeat. Each way takes time in proportion to
- * the lines before and in the wake, whatever the book: few records, or one pass over all lines.
+ * Where at most two ask, each is held against every line before. For more the lines are hashed, and
+ * those alone are marked that some record of the wake may repeat: one pass over all lines, whatever
+ * the book.
  */
 #ifndef PLAIN_REPEATS_H
 #define PLAIN_REPEATS_H

@@ -32,8 +32,7 @@ enum { MONITORED_AT = UNIT_SUMS * 8 }; /* in bytes */
 struct rule {
     uint64_t scale, offset;
     uint32_t most_heat, most_carbon;
-    uint32_t burned_at; /* among a fuel's sums */
-    uint32_t counted;   /* all ones, 0 where the unit's monitor gives the CO2 */
+    uint64_t counted; /* all ones, 0 where the unit's monitor gives the CO2 */
 };
 
 #define IS_MEASURED(flags) ((flags)&1)
@@ -62,8 +61,7 @@ struct rule {
                                                    : ONE_HEAT,                                     \
         .most_heat = IS_LOW(flags) ? 180000 : IS_MEASURED(flags) ? 200000 : 0,                     \
         .most_carbon = !IS_CARBON(flags) ? 0 : IS_GAS(fuel) ? 4000000 : 1000000,                   \
-        .burned_at = ((unit) == MONITORED_UNIT ? UNIT_SUMS : 0) + (flags) % CARBON_SUM,            \
-        .counted = (unit) == MONITORED_UNIT ? 0 : UINT32_MAX                                       \
+        .counted = (unit) == MONITORED_UNIT ? 0 : UINT64_MAX                                       \
     }
 
 #define BY_FLAGS(unit, fuel)                                                                       \
