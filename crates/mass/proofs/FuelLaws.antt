@@ -1,7 +1,7 @@
 -- No mass of fuel passes 4,000,000 t, so that 64 bits hold it; and a low value makes no heat that a
 -- measured one couldn't be. Assumes nothing.
-use Prim.Native.Nat.{ℕ, _+_, _*_, _/_, _≤_}
-use mathlib.Core.Path.{_≡_}
+use Prim.Native.Nat.{ℕ, _+_, _*_, _/_, _<_, _≤_}
+use mathlib.Core.Path.{_≡_, refl}
 use native.Mathlib.Nat.{mul-le-mul, mul-le-mul-right, le-trans}
 use native.Mathlib.Omega.{arith}
 use lib.Dec.{lit≤}
@@ -13,7 +13,7 @@ use Rattle.mass.specs.declared.fuel.Co2Factor.{Co2Factor}
 use Rattle.mass.specs.declared.fuel.TraceFactor.{TraceFactor}
 use Rattle.mass.specs.Rounding.{halfUp}
 use Rattle.mass.specs.Ledger.{tonne, tonnesEach}
-use Rattle.mass.specs.Fuel.{HeatInReach, CarbonInReach, co2OfHeat, co2OfCarbon, traceOfHeat, highOf}
+use Rattle.mass.specs.Fuel.{HeatInReach, CarbonInReach, perCarbon, co2OfHeat, co2OfCarbon, traceOfHeat, highOf}
 
 -- In µg of CO2; CH4 and N2O come to no more ng.
 abbrev pub mostEach : ℕ
@@ -46,6 +46,19 @@ pub traceOfHeat-le : (a : Amount) (h : Heat) (x : TraceFactor) → HeatInReach (
 unfolding traceOfHeat
 traceOfHeat-le a h x = heat-product-le
 
+-- ---- a mass is its product
+pub co2OfHeat-is : (a : Amount) (h : Heat) (x : Co2Factor) → co2OfHeat a h x .0 ≡ a .0 * h .0 * x .0
+unfolding co2OfHeat
+co2OfHeat-is a h x = refl
+
+pub co2OfCarbon-is : (a : Amount) (c : Carbon) → co2OfCarbon a c .0 ≡ a .0 * c .0 * perCarbon
+unfolding co2OfCarbon
+co2OfCarbon-is a c = refl
+
+pub traceOfHeat-is : (a : Amount) (h : Heat) (x : TraceFactor) → traceOfHeat a h x .0 ≡ a .0 * h .0 * x .0
+unfolding traceOfHeat
+traceOfHeat-is a h x = refl
+
 -- ---- a low value
 -- Half a kJ more, and what is left of one falls away.
 pub highOf-hundredths : (h : LowHeat) (r : Heat) → r .0 ≡ (h .0 * 111 + 50) / 100 → r ≡ highOf h
@@ -58,3 +71,8 @@ highOf-hundredths h r e =
 pub highOf-le : (h : LowHeat) → h .0 ≤ 180000 → highOf h .0 ≤ 200000
 unfolding highOf halfUp
 highOf-le h l = omega arith
+
+-- Where there is a low value there is a heat.
+pub highOf-above : (h : LowHeat) → 0 < h .0 → 0 < highOf h .0
+unfolding highOf halfUp
+highOf-above h l = omega arith

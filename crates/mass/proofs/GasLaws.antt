@@ -1,8 +1,8 @@
 -- The CO2 of gas in reach stays below what one record may give. On the way its product passes 64 bits, and
 -- the parts that are made of it don't. Assumes nothing.
 use Prim.Native.Nat.{ℕ, _*_, _^_, _<_, _≤_}
-use mathlib.Core.Path.{_≡_, sym, ap}
-use native.Mathlib.Nat.{le-trans, le-of-eq, lt-of-le-of-lt, lt-of-lt-of-le, mul-assoc, mul-le-mul, mul-le-mul-left, mul-le-mul-right}
+use mathlib.Core.Path.{_≡_, sym, ap, _∙_}
+use native.Mathlib.Nat.{le-trans, le-of-eq, lt-of-le-of-lt, lt-of-lt-of-le, zero-mul, mul-assoc, mul-le-mul, mul-le-mul-left, mul-le-mul-right}
 use lib.Dec.{lit<, lit≤}
 use Rattle.mass.specs.declared.fuel.Amount.{Amount}
 use Rattle.mass.specs.declared.gas.CarbonShare.{CarbonShare}
@@ -11,7 +11,7 @@ use Rattle.mass.specs.declared.gas.MolarVolume.{MolarVolume}
 use Rattle.mass.specs.Rounding.{nearestTo}
 use Rattle.mass.specs.Fuel.{perCarbon}
 use Rattle.mass.specs.Gas.{GasInReach, co2OfGas}
-use Rattle.mass.proofs.RoundingLaws.{nearestTo-below, nearestTo-mono}
+use Rattle.mass.proofs.RoundingLaws.{nearestTo-below, nearestTo-zero, nearestTo-mono}
 use Rattle.mass.proofs.FuelLaws.{mostEach}
 
 module _ {a c w v : ℕ} (r : GasInReach a c w v) where
@@ -40,6 +40,14 @@ pub co2OfGas-product : (a : Amount) (c : CarbonShare) (w : MolecularWeight) (v :
     → nearestTo (a .0 * c .0 * (w .0 * perCarbon)) (v .0) ≡ co2OfGas a c w v .0
 unfolding co2OfGas
 co2OfGas-product a c w v = ap (λ (n : ℕ). nearestTo n (v .0)) (sym (mul-assoc (a .0 * c .0) (w .0) perCarbon))
+
+-- No gas gives none.
+pub co2OfGas-none : (a : Amount) (c : CarbonShare) (w : MolecularWeight) (v : MolarVolume) → a .0 ≡ 0 → 0 < v .0
+    → co2OfGas a c w v .0 ≡ 0
+unfolding co2OfGas
+co2OfGas-none a c w v none some =
+    let nothing : a .0 * c .0 * w .0 * perCarbon ≡ 0 = simp (none, zero-mul) in
+    ap (λ (n : ℕ). nearestTo n (v .0)) nothing ∙ nearestTo-zero 0 (v .0) some
 
 -- The most is 3,664,000 t.
 pub co2OfGas-le : (a : Amount) (c : CarbonShare) (w : MolecularWeight) (v : MolarVolume)
