@@ -7,7 +7,7 @@ use mathlib.Core.Path.{_≡_, refl, sym, ap, ap₂, _∙_}
 use native.Mathlib.Omega.{arith}
 use lib.Dec.{leb, ltb, eqb, lit≤}
 use lib.ListN.{length, drop, length-take, length-drop}
-use lib.Seq.{ext-getD, getD-take, getD-drop}
+use lib.Seq.{ext-getD}
 use borrow.Author.Tests.{le-leb, le-ltb}
 use Rattle.choice.specs.Tests.{_also_, choose}
 use Rattle.choice.proofs.TestsLaws.{also-t, also-l, also-r, choose-f}
@@ -19,17 +19,13 @@ use Rattle.rules.specs.Fields.{unitStart, fuelStart, year, warmingSetAt,
 use Rattle.rules.specs.Book.{longestBook, lengthOk, startsOk, trailerOk, unitOk, fuelOk, linesSound, trailer, headOf, unitLines, fuelLines, Answer, accepted, opened, SetApart}
 use Rattle.rules.specs.Record.{outcomeAfter, outcomeAt}
 use Rattle.rules.specs.Reader.{shown, missing, sightBy, sightAt}
-use Rattle.rules.proofs.BytesLaws.{word-same, lines-suc}
+use Rattle.rules.proofs.BytesLaws.{word-same, byte-part, lines-suc}
 use Rattle.rules.proofs.NumberLaws.{opened-accepted}
 use Rattle.rules.proofs.BookLaws.{accepted-facts}
 
 -- The same head, but with the set w.
 abbrev pub naming : ℕ → Head → Head
 naming w h = record { n = h .n; units = h .units; fuels = h .fuels; year = h .year; length = h .length; warming = w }
-
--- ---- bytes and lengths of a part
-byte-part : (a e : ℕ) (s : List ℕ) (i : ℕ) → a + i < e → byte (part a e s) i ≡ byte s (a + i)
-byte-part a e s i l = getD-take (e - a) (drop a s) i 0 (omega arith) ∙ getD-drop a s i 0
 
 length-part : (a e : ℕ) (s : List ℕ) → length (part a e s) ≡ min (e - a) (length s - a)
 length-part a e s = length-take (e - a) (drop a s) ∙ ap (min (e - a)) (length-drop a s)

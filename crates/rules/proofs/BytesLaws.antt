@@ -1,5 +1,5 @@
--- Words by their bytes and by their parts, the bytes of a number, and lines one by one. Assumes
--- nothing.
+-- Words by their bytes and by their parts, the bytes of a part and of a number, and lines one by one.
+-- Assumes nothing.
 use Prim.Native.Nat.{ℕ, suc, zero, _+_, _-_, _*_, _/_, _%_, _^_, _<_, _≤_, zero-le}
 use mathlib.Core.Bool.{true, false}
 use mathlib.Core.List.{List, [], _∷_, _++_}
@@ -9,14 +9,14 @@ use native.Mathlib.Numerals.{add-one}
 use native.Mathlib.Omega.{arith}
 use lib.Bits.{bitOr, or-add-and, and-le-l, and-le-r}
 use lib.Dec.{eqb, lit<}
-use lib.ListN.{length, take, drop}
+use lib.ListN.{length, take, drop, length-take, List·getD-eq-default}
 use lib.Pow.{pow-add}
-use lib.Seq.{drop-cons, drop-drop}
+use lib.Seq.{drop-cons, drop-drop, getD-take, getD-drop}
 use borrow.Author.Tests.{eq-eqb, ne-eqb}
 use Rattle.choice.specs.Tests.{_also_}
-use Rattle.choice.proofs.Splitting.{if-eq}
+use Rattle.choice.proofs.Splitting.{if-eq, if-lt}
 use Rattle.choice.proofs.TestsLaws.{also-t, also-f}
-use Rattle.rules.specs.Bytes.{byte, word, zeros, bytesOf, line, lines}
+use Rattle.rules.specs.Bytes.{byte, word, part, zeros, bytesOf, line, lines}
 
 -- ---- reading a word from its last byte down
 module _ (s : List ℕ) (at n : ℕ) where
@@ -71,6 +71,23 @@ word-same l m k (suc n) same =
     let here = same k (omega arith) (omega arith) in
     let rest = word-same l m (k + 1) n (λ i h j. same i (omega arith) (omega arith)) in
     λ i. here i + 256 * rest i
+
+pub word-two-lt : (l : List ℕ) (k : ℕ) → ((i : ℕ) → byte l i < 256) → word l k 2 < 65536
+unfolding word
+word-two-lt l k small = omega (arith, small k, small (k + 1))
+
+-- ---- the bytes of a part
+pub byte-part : (a e : ℕ) (s : List ℕ) (i : ℕ) → a + i < e → byte (part a e s) i ≡ byte s (a + i)
+byte-part a e s i l = getD-take (e - a) (drop a s) i 0 (omega arith) ∙ getD-drop a s i 0
+
+pub byte-part-lt : (a e : ℕ) (s : List ℕ) → ((i : ℕ) → byte s i < 256) → (i : ℕ) → byte (part a e s) i < 256
+byte-part-lt a e s small i =
+    if-lt (a + i) e
+    (λ within. omega (arith, byte-part a e s i within, small (a + i)))
+    (λ past.
+    let short : length (part a e s) ≤ i = omega (arith, length-take (e - a) (drop a s)) in
+    let none : byte (part a e s) i ≡ 0 = List·getD-eq-default (part a e s) 0 short in
+    omega arith)
 
 -- ---- what stands before a word or behind it makes no difference
 pub word-nil : (k n : ℕ) → word [] k n ≡ 0

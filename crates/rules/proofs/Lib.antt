@@ -8,6 +8,7 @@ pub mod ApartLaws
 pub mod RightLaws
 pub mod ListingLaws
 pub mod HintsLaws
+pub mod IndexLaws
 pub mod RepeatLaws
 pub mod KeyLaws
 pub mod BitLaws

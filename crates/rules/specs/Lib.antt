@@ -13,9 +13,10 @@ pub mod Reader
 pub mod Hints
 pub mod Place
 pub mod Table
--- What serves the code alone.
+-- What serves the code alone. Of these the contracts of its functions need the index.
 pub mod Listing
 pub mod Key
 pub mod Marks
+pub mod Index
 pub mod Co2
 pub mod Bounds

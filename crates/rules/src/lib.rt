@@ -5,6 +5,7 @@ pub mod entry;
 mod field;
 mod form;
 pub mod hints;
+pub mod index;
 mod listed;
 mod listing;
 mod method;

@@ -7,7 +7,7 @@ ghost use lib.ListN.{length};
 ghost use Rattle.rules.specs.Method.{methodOf};
 
 // 250.0 MMBtu/h, in tenths.
-const SMALL_RATING: u64 = 2500;
+pub(crate) const SMALL_RATING: u64 = 2500;
 
 // 0 where none is permitted. A measured heat that isn't permitted is no ground to fall back to the
 // default.
