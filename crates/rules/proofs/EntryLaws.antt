@@ -32,7 +32,7 @@ use Rattle.rules.specs.Bounds.{Bounded}
 use Rattle.rules.proofs.MethodLaws.{methodOf-le}
 
 -- ---- ranges
-carbonLimit-le : (f : List ℕ) → carbonLimit f ≤ 4000000
+pub carbonLimit-le : (f : List ℕ) → carbonLimit f ≤ 4000000
 unfolding carbonLimit
 carbonLimit-le f = if-choose (λ (x : ℕ). x ≤ 4000000) (eqb (fuelKind f) 3) (λ gas. lit≤ tt) (λ other. lit≤ tt)
 
@@ -133,7 +133,7 @@ impurities-each a l =
 abbrev Fits : Heat → Type 0
 Fits x = x .0 ≤ 200000
 
-measuredHeat-le : (l : List ℕ) → heat l ≤ heatLimit l → measuredHeat l .0 ≤ 200000
+pub measuredHeat-le : (l : List ℕ) → heat l ≤ heatLimit l → measuredHeat l .0 ≤ 200000
 unfolding measuredHeat
 measuredHeat-le l h =
     if-choose Fits (heatLow l)

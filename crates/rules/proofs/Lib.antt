@@ -9,6 +9,7 @@ pub mod RightLaws
 pub mod ListingLaws
 pub mod HintsLaws
 pub mod IndexLaws
+pub mod StandsLaws
 pub mod RepeatLaws
 pub mod KeyLaws
 pub mod BitLaws
@@ -20,6 +21,10 @@ pub mod MethodLaws
 pub mod EntryLaws
 pub mod RecordLaws
 pub mod OnceLaws
+pub mod MaskLaws
+pub mod SortingLaws
+pub mod SortedFuelLaws
+pub mod SortedGasLaws
 pub mod Co2Laws
 pub mod ListedLaws
 pub mod AloneLaws

@@ -1,10 +1,12 @@
--- The list of methods, one case at a time, and that 4 is the last. Assumes nothing.
+-- The list of methods, one case at a time, and which is the last. Assumes nothing.
 use Prim.Native.Nat.{ℕ, _≤_}
 use mathlib.Core.Bool.{true, false}
 use mathlib.Core.List.{List}
 use mathlib.Core.Path.{_≡_, refl}
+use native.Mathlib.Nat.{le-trans, le-of-eq}
 use lib.Dec.{eqb, ltb, lit≤}
 use Rattle.choice.specs.Tests.{_either_, choose}
+use Rattle.choice.proofs.Splitting.{if-test}
 use Rattle.choice.proofs.TestsLaws.{either-t, choose-t, choose-f, if-choose}
 use Rattle.rules.specs.Fields.{monitored, fuelClass, defaultHeat, analysed, heatMeasured, carbonMeasured}
 use Rattle.rules.specs.Method.{small, methodOf}
@@ -32,16 +34,27 @@ module _ (l u f : List ℕ) where
   unfolding methodOf
   methodOf-default m c h = choose-f _ m (choose-f _ c (choose-f _ h refl))
 
-  pub methodOf-le : methodOf l u f ≤ 4
-  unfolding methodOf
-  methodOf-le =
-      if-choose Few (monitored u) (λ m. lit≤ tt) (λ m.
-      if-choose Few (carbonMeasured l) (λ c. lit≤ tt) (λ c.
-      if-choose Few (heatMeasured l)
-      (λ h. if-choose Few (small u either eqb (fuelClass f) 1 either eqb (fuelClass f) 2) (λ p. lit≤ tt) (λ p. lit≤ tt))
-      (λ h. if-choose Few (ltb 0 (defaultHeat f))
+  -- The methods end with 2 where no carbon was measured, with 3 where there is no monitor, and with 4.
+  pub methodOf-heat-le : monitored u ≡ false → carbonMeasured l ≡ false → methodOf l u f ≤ 2
+  methodOf-heat-le m c =
+      if-test (heatMeasured l)
+      (λ h. le-trans (le-of-eq (methodOf-heat m c h)) (if-choose Few _ (λ p. lit≤ tt) (λ p. lit≤ tt)))
+      (λ h. le-trans (le-of-eq (methodOf-default m c h))
+      (if-choose Few (ltb 0 (defaultHeat f))
       (λ d. if-choose Few (small u) (λ p. lit≤ tt) (λ p. lit≤ tt))
-      (λ d. lit≤ tt))))
+      (λ d. lit≤ tt)))
     where
       Few : ℕ → Type 0
-      Few x = x ≤ 4
+      Few x = x ≤ 2
+
+  pub methodOf-unmonitored-le : monitored u ≡ false → methodOf l u f ≤ 3
+  methodOf-unmonitored-le m =
+      if-test (carbonMeasured l)
+      (λ c. le-of-eq (methodOf-carbon m c))
+      (λ c. le-trans (methodOf-heat-le m c) (lit≤ tt))
+
+  pub methodOf-le : methodOf l u f ≤ 4
+  methodOf-le =
+      if-test (monitored u)
+      (λ m. le-of-eq (methodOf-monitored m))
+      (λ m. le-trans (methodOf-unmonitored-le m) (lit≤ tt))

@@ -13,10 +13,11 @@ pub mod Reader
 pub mod Hints
 pub mod Place
 pub mod Table
--- What serves the code alone. Of these the contracts of its functions need the index.
+-- What serves the code alone. Of these the contracts of its functions need the index and what goes by it.
 pub mod Listing
 pub mod Key
 pub mod Marks
 pub mod Index
+pub mod Sorting
 pub mod Co2
 pub mod Bounds

@@ -79,7 +79,7 @@ pub(crate) fn find_heat(l: &[u8], f: &[u8]) -> Heat
 }
 
 // The heat that the record gives.
-fn find_measured(l: &[u8]) -> Heat
+pub(crate) fn find_measured(l: &[u8]) -> Heat
     requires whole { ⌜ 32 ≤ length (now l) ⌝ }
     requires range { ⌜ heat (now l) ≤ heatLimit (now l) ⌝ }
     ensures heat { λ r. ⌜ r ≡ measuredHeat (now (l .entry)) ⌝ }

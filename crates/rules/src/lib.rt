@@ -13,5 +13,6 @@ mod range;
 pub mod reader;
 pub mod record;
 mod repeat;
+pub mod sorting;
 pub mod table;
 mod trailer;

@@ -1,0 +1,27 @@
+-- The code's test is the definition's. Assumes nothing.
+use Prim.Native.Nat.{_/_, _%_, _^_}
+use lib.Bits.{bitAnd, bitOr}
+use lib.Dec.{eqb}
+use borrow.Author.Needs.{needs}
+use Rattle.rules.specs.Sorting.{allowedBy}
+use Rattle.rules.proofs.sorting.is_allowed.Statement.{statement}
+use Rattle.rules.proofs.sorting.is_allowed.Tie as tie
+
+flags-requires : tie.Need-flags-requires
+flags-requires c κs = search needs
+
+cast-flags : tie.Need-cast-flags
+cast-flags c = search needs
+
+shr-result : tie.Need-shr-result
+shr-result c = search needs
+
+returns : tie.Need-returns
+unfolding allowedBy
+returns c =
+    let a = c .before .before .args in
+    let flags = c .flags .ensures in
+    λ i. eqb (bitAnd (bitOr (a .permits) (a .refined)) (a .allowed) / 2 ^ (flags i % 32) % 2) 1
+
+pub is-allowed-spec : {M : Type 1} → statement M
+is-allowed-spec = tie.close (tie.spec flags-requires cast-flags shr-result returns)

@@ -1,0 +1,37 @@
+-- The code's row of tests is the definition's. Assumes nothing.
+use Prim.Native.Nat.{_*_, _%_}
+use lib.Dec.{leb}
+use borrow.Author.Needs.{needs}
+use Rattle.choice.proofs.TestsLaws.{both, any}
+use Rattle.rules.specs.Sorting.{heatRight}
+use Rattle.rules.proofs.sorting.is_heat_right.Statement.{statement}
+use Rattle.rules.proofs.sorting.is_heat_right.Tie as tie
+
+flags-requires : tie.Need-flags-requires
+flags-requires c κs = search needs
+
+cast-measured : tie.Need-cast-measured
+cast-measured c = search needs
+
+heat-requires : tie.Need-heat-requires
+heat-requires c κs = search needs
+
+flags-requires-2 : tie.Need-flags-requires-2
+flags-requires-2 c κs = search needs
+
+mul-result : tie.Need-mul-result
+mul-result c = search needs
+
+returns : tie.Need-returns
+unfolding heatRight
+returns c =
+    let flags = c .before .before .flags .ensures in
+    let heat = c .before .heat .ensures in
+    let again = c .flags2 .ensures in
+    let within = both (λ i. leb (flags i % 2) (heat i)) (λ i. leb (heat i) (200000 * (flags i % 2))) in
+    both within (any (λ i. leb (again i) 3) (λ i. leb (heat i) 180000))
+
+pub is-heat-right-spec : {M : Type 1} → statement M
+is-heat-right-spec =
+    tie.close
+    (tie.spec flags-requires cast-measured heat-requires flags-requires-2 mul-result returns)

@@ -1,0 +1,298 @@
+-- By the hints and the columns the tests are those of the record, its unit and its fuel. Assumes nothing.
+use Prim.Native.Nat.{ℕ, _+_, _-_, _*_, _%_, _<_, _≤_}
+use mathlib.Core.Path.{refl, _∙_}
+use native.Mathlib.Nat.{le-trans, mul-le-mul}
+use native.Mathlib.Omega.{arith}
+use lib.Dec.{lit≤}
+use lib.ListN.{getD}
+use borrow.Author.Needs.{needs}
+use Rattle.rules.specs.Bytes.{byte}
+use Rattle.rules.proofs.BytesLaws.{byte-part-lt}
+use Rattle.rules.proofs.BookLaws.{accepted-facts}
+use Rattle.rules.proofs.IndexLaws.{column-le, small-hint}
+use Rattle.rules.proofs.EntryLaws.{carbonLimit-le}
+use Rattle.rules.proofs.StandsLaws.{number-entry-le, Found}
+use Rattle.rules.proofs.SortingLaws.{wayOf-le}
+use Rattle.rules.proofs.SortedFuelLaws.{Tested, tested, settled-fuel}
+use Rattle.rules.proofs.sorting.sort_fuel.Statement.{statement}
+use Rattle.rules.proofs.sorting.sort_fuel.Tie as tie
+
+-- ---- the hints are places of lines
+abbrev begun : tie.After-fuel-number → tie.Start
+begun c = c .before .before .before .before
+
+abbrev unit-place : tie.After-fuel-number → ℕ
+unit-place c = getD (begun c .args .by-unit .now) (c .before .unit-number .result % 256) 0
+
+abbrev fuel-place : tie.After-fuel-number → ℕ
+fuel-place c = getD (begun c .args .by-fuel .now) (c .fuel-number .result % 256) 0
+
+unit-few : (c : tie.After-fuel-number) → unit-place c < 64
+unit-few c = small-hint (begun c .pre .1 .1 .0 .1) (c .before .unit-number .result)
+
+fuel-few : (c : tie.After-fuel-number) → fuel-place c < 64
+fuel-few c = small-hint (begun c .pre .1 .1 .1 .1) (c .fuel-number .result)
+
+-- ---- what stands in the columns
+bytes : (c : tie.After-fuel-number) (b : ℕ) → byte (begun c .args .book .now) b < 256
+bytes c b = omega (arith, c .before .before .before .shared-slice-known .given b)
+
+unit-number-le : (c : tie.After-fuel-number) → getD (begun c .args .units .now) (unit-place c) 0 ≤ 65536
+unit-number-le c =
+    let h = begun c .args .h in
+    let numbers = begun c .pre .1 .1 .0 .0 .numbers in
+    number-entry-le numbers (byte-part-lt (h .units) (h .fuels) _ (bytes c)) (unit-few c)
+
+fuel-number-le : (c : tie.After-fuel-number) → getD (begun c .args .fuels .now) (fuel-place c) 0 ≤ 65536
+fuel-number-le c =
+    let h = begun c .args .h in
+    let numbers = begun c .pre .1 .1 .1 .0 .numbers in
+    number-entry-le numbers (byte-part-lt (h .fuels) (h .length - 32) _ (bytes c)) (fuel-few c)
+
+carbon-limit-le : (c : tie.After-fuel-number) → getD (begun c .args .fuels .now) (192 + fuel-place c) 0 ≤ 4000000
+carbon-limit-le c =
+    let limits = begun c .pre .1 .1 .1 .0 .carbon in
+    column-le limits (fuel-few c) 4000000 (lit≤ tt) (λ j. carbonLimit-le _)
+
+way-le : (c : tie.After-fuel-number) → getD (begun c .args .units .now) (128 + unit-place c) 0 ≤ 65536
+way-le c =
+    let ways = begun c .pre .1 .1 .0 .0 .ways in
+    column-le ways (unit-few c) 65536 (lit≤ tt) (λ j. le-trans (wayOf-le _) (lit≤ tt))
+
+-- ---- all tests are passed
+abbrev compared : tie.After-fuel-right → tie.After-fuel-number
+compared c = c .before .before .before .before
+
+abbrev looked : tie.Else1 → tie.After-fuel-number
+looked c = compared (c .before .before .before .before .before .before .before .before .before)
+
+tests : (c : tie.Else1) →
+    let l = looked c in
+    let a = begun l .args in
+    Tested (l .before .before .take-line .result .now) (a .units .now) (a .fuels .now)
+    (l .before .unit-number .result) (l .fuel-number .result) (unit-place l) (fuel-place l)
+tests c =
+    let heat = c .before in
+    let form = heat .before in
+    let allowed = form .before in
+    let carbon = allowed .before .before .before .before in
+    tested _ _ _ _ _ _ _ (form .is-form-right .ensures) (heat .is-heat-right .ensures)
+    (carbon .is-carbon-right .ensures) (allowed .is-allowed .ensures) (c .if1 .left)
+
+found : (c : tie.Else1) →
+    let l = looked c in
+    let a = begun l .args in
+    Found (a .h) (a .book .now) (a .i) (l .before .before .take-line .result .now) (a .units .now) (a .fuels .now)
+    (unit-place l) (fuel-place l)
+found c =
+    let l = looked c in
+    let need = begun l .pre in
+    record {
+      unit = record {
+        book = need .0;
+        bytes = bytes l;
+        line-is = l .before .before .take-line .ensures .0;
+        units = need .1 .1 .0 .0;
+        few = unit-few l;
+        has = tests c .unit-has ∙ l .before .unit-number .ensures;
+      };
+      fuels = need .1 .1 .1 .0;
+      few = fuel-few l;
+      has = tests c .fuel-has ∙ l .fuel-number .ensures;
+    }
+
+-- ---- the needs
+take-line-requires : tie.Need-take-line-requires
+take-line-requires c κs = let k = accepted-facts _ _ (c .before .pre .0) in omega arith
+
+unit-number-requires : tie.Need-unit-number-requires
+unit-number-requires c κs = search needs
+
+fuel-number-requires : tie.Need-fuel-number-requires
+fuel-number-requires c κs = search needs
+
+element-copy-out-j : tie.Need-element-copy-out-j
+element-copy-out-j c = search needs
+
+cast-j : tie.Need-cast-j
+cast-j c = omega (arith, unit-few (c .before))
+
+element-copy-out-k : tie.Need-element-copy-out-k
+element-copy-out-k c = search needs
+
+cast-k : tie.Need-cast-k
+cast-k c = omega (arith, fuel-few (c .before .before))
+
+mul-unit-right : tie.Need-mul-unit-right
+mul-unit-right c = omega (arith, unit-few (c .before .before))
+
+element-copy-out-unit-right : tie.Need-element-copy-out-unit-right
+element-copy-out-unit-right c = omega (arith, unit-few (c .before .before))
+
+cast-unit-right : tie.Need-cast-unit-right
+cast-unit-right c = omega (arith, unit-number-le (c .before .before .before))
+
+mul-fuel-right : tie.Need-mul-fuel-right
+mul-fuel-right c = omega (arith, fuel-few (c .before .before .before))
+
+element-copy-out-fuel-right : tie.Need-element-copy-out-fuel-right
+element-copy-out-fuel-right c = omega (arith, fuel-few (c .before .before .before))
+
+cast-fuel-right : tie.Need-cast-fuel-right
+cast-fuel-right c = omega (arith, fuel-number-le (c .before .before .before .before))
+
+add-is-carbon-right : tie.Need-add-is-carbon-right
+add-is-carbon-right c = omega (arith, fuel-few (compared c))
+
+mul-is-carbon-right : tie.Need-mul-is-carbon-right
+mul-is-carbon-right c = omega (arith, fuel-few (compared c))
+
+element-copy-out-is-carbon-right : tie.Need-element-copy-out-is-carbon-right
+element-copy-out-is-carbon-right c = omega (arith, fuel-few (compared c))
+
+is-carbon-right-requires : tie.Need-is-carbon-right-requires
+is-carbon-right-requires c κs = (search needs, carbon-limit-le (compared (c .before)))
+
+add-is-allowed : tie.Need-add-is-allowed
+add-is-allowed c = omega (arith, unit-few (compared (c .before .before)))
+
+mul-is-allowed : tie.Need-mul-is-allowed
+mul-is-allowed c = omega (arith, unit-few (compared (c .before .before)))
+
+element-copy-out-is-allowed : tie.Need-element-copy-out-is-allowed
+element-copy-out-is-allowed c = omega (arith, unit-few (compared (c .before .before)))
+
+add-is-allowed-2 : tie.Need-add-is-allowed-2
+add-is-allowed-2 c = omega (arith, fuel-few (compared (c .before .before .before)))
+
+mul-is-allowed-2 : tie.Need-mul-is-allowed-2
+mul-is-allowed-2 c = omega (arith, fuel-few (compared (c .before .before .before)))
+
+element-copy-out-is-allowed-2 : tie.Need-element-copy-out-is-allowed-2
+element-copy-out-is-allowed-2 c = omega (arith, fuel-few (compared (c .before .before .before)))
+
+add-is-allowed-3 : tie.Need-add-is-allowed-3
+add-is-allowed-3 c = omega (arith, fuel-few (compared (c .before .before .before .before)))
+
+mul-is-allowed-3 : tie.Need-mul-is-allowed-3
+mul-is-allowed-3 c = omega (arith, fuel-few (compared (c .before .before .before .before)))
+
+element-copy-out-is-allowed-3 : tie.Need-element-copy-out-is-allowed-3
+element-copy-out-is-allowed-3 c = omega (arith, fuel-few (compared (c .before .before .before .before)))
+
+is-allowed-requires : tie.Need-is-allowed-requires
+is-allowed-requires c κs = search needs
+
+is-form-right-requires : tie.Need-is-form-right-requires
+is-form-right-requires c κs = search needs
+
+is-heat-right-requires : tie.Need-is-heat-right-requires
+is-heat-right-requires c κs = search needs
+
+returns : tie.Need-returns
+returns c = search needs
+
+amount-requires : tie.Need-amount-requires
+amount-requires c κs = search needs
+
+cast-carbon : tie.Need-cast-carbon
+cast-carbon c = search needs
+
+carbon-requires : tie.Need-carbon-requires
+carbon-requires c κs = search needs
+
+cast-carbon-2 : tie.Need-cast-carbon-2
+cast-carbon-2 c = search needs
+
+mul-carbon : tie.Need-mul-carbon
+mul-carbon c =
+    let product : c .before .amount .result * c .carbon .result ≤ 4294967295 * 4294967295 =
+    mul-le-mul {n₂ = 4294967295} {m₂ = 4294967295} (omega arith) (omega arith) in
+    omega arith
+
+mul-t19 : tie.Need-mul-t19
+mul-t19 c = omega (arith, fuel-few (looked (c .before .before)))
+
+add-t30 : tie.Need-add-t30
+add-t30 c = omega (arith, unit-few (looked (c .before .before)))
+
+mul-t35 : tie.Need-mul-t35
+mul-t35 c = omega (arith, unit-few (looked (c .before .before)))
+
+element-copy-out-t39 : tie.Need-element-copy-out-t39
+element-copy-out-t39 c = omega (arith, unit-few (looked (c .before .before)))
+
+cast-t36 : tie.Need-cast-t36
+cast-t36 c = omega (arith, way-le (looked (c .before .before .before)))
+
+add-t40 : tie.Need-add-t40
+add-t40 c = let told = looked (c .before .before .before) in omega (arith, fuel-few told, way-le told)
+
+flags-requires : tie.Need-flags-requires
+flags-requires c κs = search needs
+
+cast-t41 : tie.Need-cast-t41
+cast-t41 c = search needs
+
+find-burned-requires : tie.Need-find-burned-requires
+find-burned-requires c κs = (search needs, tests (c .before .before .before .before) .heats)
+
+returns-2 : tie.Need-returns-2
+returns-2 c =
+    let read = c .before .before .before in
+    let done = read .before .before in
+    let flags = c .before .flags .ensures in
+    let amount = read .before .amount .ensures in
+    let carbon = read .carbon .ensures in
+    settled-fuel (found done) (tests done) _ (begun (looked done) .pre .1 .0 .1)
+    refl (λ i. flags i % 4) (c .find-burned .ensures) (λ i. amount i * carbon i) refl
+
+pub sort-fuel-spec : {M : Type 1} → statement M
+sort-fuel-spec =
+    tie.close
+    (tie.spec
+    take-line-requires
+    unit-number-requires
+    fuel-number-requires
+    element-copy-out-j
+    cast-j
+    element-copy-out-k
+    cast-k
+    mul-unit-right
+    element-copy-out-unit-right
+    cast-unit-right
+    mul-fuel-right
+    element-copy-out-fuel-right
+    cast-fuel-right
+    add-is-carbon-right
+    mul-is-carbon-right
+    element-copy-out-is-carbon-right
+    is-carbon-right-requires
+    add-is-allowed
+    mul-is-allowed
+    element-copy-out-is-allowed
+    add-is-allowed-2
+    mul-is-allowed-2
+    element-copy-out-is-allowed-2
+    add-is-allowed-3
+    mul-is-allowed-3
+    element-copy-out-is-allowed-3
+    is-allowed-requires
+    is-form-right-requires
+    is-heat-right-requires
+    returns
+    amount-requires
+    cast-carbon
+    carbon-requires
+    cast-carbon-2
+    mul-carbon
+    mul-t19
+    add-t30
+    mul-t35
+    element-copy-out-t39
+    cast-t36
+    add-t40
+    flags-requires
+    cast-t41
+    find-burned-requires
+    returns-2)
