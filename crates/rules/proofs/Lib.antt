@@ -25,6 +25,7 @@ pub mod MaskLaws
 pub mod SortingLaws
 pub mod SortedFuelLaws
 pub mod SortedGasLaws
+pub mod WeighingLaws
 pub mod Co2Laws
 pub mod ListedLaws
 pub mod AloneLaws

@@ -22,11 +22,11 @@ lastPeriod-other : (k : ℕ) → (k ≡ 2 → ⊥) → (k ≡ 4 → ⊥) → las
 unfolding lastPeriod
 lastPeriod-other k a b = choose-f _ (ne-eqb k 2 a) (choose-f _ (ne-eqb k 4 b) refl)
 
-bitOf-hour : (k w : ℕ) → k ≡ 2 → bitOf k w ≡ w - 1
+pub bitOf-hour : (k w : ℕ) → k ≡ 2 → bitOf k w ≡ w - 1
 unfolding bitOf
 bitOf-hour k w e = choose-f _ (ne-eqb k 4 (λ h. omega arith)) refl
 
-bitOf-month : (k w : ℕ) → k ≡ 4 → bitOf k w ≡ 8784 + w - 1
+pub bitOf-month : (k w : ℕ) → k ≡ 4 → bitOf k w ≡ 8784 + w - 1
 unfolding bitOf
 bitOf-month k w e = choose-t _ (eq-eqb k 4 e) refl
 

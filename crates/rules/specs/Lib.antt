@@ -19,5 +19,6 @@ pub mod Key
 pub mod Marks
 pub mod Index
 pub mod Sorting
+pub mod Weighing
 pub mod Co2
 pub mod Bounds

@@ -16,3 +16,4 @@ mod repeat;
 pub mod sorting;
 pub mod table;
 mod trailer;
+pub mod weighing;

@@ -138,14 +138,14 @@ fn find_bit(kind: u8, period: u64) -> usize
 }
 
 // Whether a bit of row j is set.
-fn is_marked(table: &[u64], j: usize, bit: usize) -> bool
+pub(crate) fn is_marked(table: &[u64], j: usize, bit: usize) -> bool
     requires there { ⌜ 138 * j + bit / 64 < length (now table) ⌝ }
     ensures marked { λ r. ⌜ r ≡ marks.marked (now (table .entry)) j bit ⌝ }
 {
     (table[ROW * j + bit / 64] >> (bit % 64)) & 1 == 1
 }
 
-fn mark(table: &mut [u64], j: usize, bit: usize)
+pub(crate) fn mark(table: &mut [u64], j: usize, bit: usize)
     requires there { ⌜ 138 * j + bit / 64 < length (now table) ⌝ }
     ensures marked { λ _. ⌜ now (table .exit) ≡ spec.withMark (now (table .entry)) j bit ⌝ }
 {
