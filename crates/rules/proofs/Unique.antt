@@ -15,12 +15,15 @@ use Rattle.rules.proofs.book.open.Reads as book-open
 use Rattle.rules.proofs.book.number_fault.Reads as number-fault
 use Rattle.rules.proofs.hints.note_units.Reads as note-units
 use Rattle.rules.proofs.hints.note_fuels.Reads as note-fuels
+use Rattle.rules.proofs.factors.read_factors.Reads as read-factors
 use Rattle.rules.proofs.record.is_repeatable.Reads as is-repeatable
+use Rattle.rules.proofs.record.find_kind.Reads as find-kind
 use Rattle.rules.proofs.record.judge.Reads as judge
 use Rattle.rules.proofs.record.is_fuelled.Reads as is-fuelled
 use Rattle.rules.proofs.record.judge_fuelled.Reads as judge-fuelled
 use Rattle.rules.proofs.record.judge_unfuelled.Reads as judge-unfuelled
 use Rattle.rules.proofs.record.judge_next.Reads as judge-next
+use Rattle.rules.proofs.table.does_serve.Reads as does-serve
 use Rattle.rules.proofs.table.note_records.Reads as note-records
 use Rattle.rules.proofs.reader.look.Reads as look
 use Rattle.rules.proofs.reader.take_step.Reads as take-step
@@ -49,9 +52,17 @@ pub note-fuels-unique : (κs : _) (a : _) (r s : _) (x y : _)
     → note-fuels.Post κs a r x → note-fuels.Post κs a s y → now (x .1 .1 .0) ≡ now (y .1 .1 .0)
 note-fuels-unique κs a r s x y p q = p ∙ sym q
 
+pub read-factors-unique : (κs : _) (a : _) (r s : _) (x y : _)
+    → read-factors.Post κs a r x → read-factors.Post κs a s y → r ≡ s
+read-factors-unique κs a r s x y p q = p ∙ sym q
+
 pub is-repeatable-unique : (κs : _) (a : _) (r s : _) (x y : _)
     → is-repeatable.Post κs a r x → is-repeatable.Post κs a s y → r ≡ s
 is-repeatable-unique κs a r s x y p q = p ∙ sym q
+
+pub find-kind-unique : (κs : _) (a : _) (r s : _) (x y : _)
+    → find-kind.Post κs a r x → find-kind.Post κs a s y → r ≡ s
+find-kind-unique κs a r s x y p q = p ∙ sym q
 
 pub judge-unique : (κs : _) (a : _) (r s : _) (x y : _) → judge.Post κs a r x → judge.Post κs a s y → r ≡ s
 judge-unique κs a r s x y p q = p ∙ sym q
@@ -81,6 +92,10 @@ pub judge-next-table-unique : (κs : _) (a : _) (r s : _) (x y : _)
     → judge-next.Post κs a r x → judge-next.Post κs a s y
     → now (x .1 .1 .1 .1 .1 .0) ≡ now (y .1 .1 .1 .1 .1 .0)
 judge-next-table-unique κs a r s x y p q = p .1 ∙ sym (q .1)
+
+pub does-serve-unique : (κs : _) (a : _) (r s : _) (x y : _)
+    → does-serve.Post κs a r x → does-serve.Post κs a s y → r ≡ s
+does-serve-unique κs a r s x y p q = p ∙ sym q
 
 pub note-records-unique : (κs : _) (a : _) (r s : _) (x y : _)
     → note-records.Post κs a r x → note-records.Post κs a s y

@@ -13,10 +13,12 @@ pub mod Reader
 pub mod Hints
 pub mod Place
 pub mod Table
--- What serves the code alone. Of these the contracts of its functions need the index and what goes by it.
+-- What serves the code alone. Of these the contracts of its functions need a fuel's factors, the index and what
+-- goes by it.
 pub mod Listing
 pub mod Key
 pub mod Marks
+pub mod Factors
 pub mod Index
 pub mod Sorting
 pub mod Weighing

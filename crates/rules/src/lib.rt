@@ -2,6 +2,7 @@
 pub mod book;
 pub mod bytes;
 pub mod entry;
+pub mod factors;
 mod field;
 mod form;
 pub mod hints;

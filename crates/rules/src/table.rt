@@ -31,6 +31,16 @@ pub(crate) fn is_table(units: &[u8], table: &[u64]) -> bool
     (1 <= table.len()) & (ROW * (units.len() / 32) <= table.len())
 }
 
+// Whether a table serves a book that was opened.
+pub fn does_serve(book: &[u8], h: Head, table: &[u64]) -> bool
+    requires opened { ⌜ opened (now book) ≡ accepted h ⌝ }
+    ensures table { λ r. ⌜ r ≡ spec.isTable (unitLines h (now (book .entry))) (now (table .entry)) ⌝ }
+{
+    let from = h.units;
+    let to = h.fuels;
+    is_table(&book[from..to], table)
+}
+
 // Notes the first n records of a book that was opened. Any bytes serve as hints.
 pub fn note_records(book: &[u8], h: Head, n: usize, hints: &[u8], table: &mut [u64])
     requires opened { ⌜ opened (now book) ≡ accepted h ⌝ }
