@@ -22,6 +22,7 @@ pub mod EntryLaws
 pub mod RecordLaws
 pub mod OnceLaws
 pub mod MaskLaws
+pub mod FactorsLaws
 pub mod SortingLaws
 pub mod SortedFuelLaws
 pub mod SortedGasLaws

@@ -16,7 +16,7 @@ use Rattle.choice.proofs.TestsLaws.{also-l, also-r, both, any, choose-true, cho
 use Rattle.rules.specs.Fields.{monitored, fuelClass, defaultHeat, flags, analysed, heatMeasured, heatLow}
 use Rattle.rules.specs.Method.{small, methodOf}
 use Rattle.rules.specs.Index.{permits, refinedFlags, allowedFlags}
-use Rattle.rules.specs.Sorting.{allowedBy}
+use Rattle.rules.specs.AtOnce.{allowedBy}
 
 -- ---- tests that compute
 choose-cond : (b : Bool) (x y : ℕ) → choose b x y ≡ cond b x y

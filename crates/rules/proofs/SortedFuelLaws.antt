@@ -22,12 +22,14 @@ use Rattle.rules.specs.Method.{methodOf}
 use Rattle.rules.specs.Entry.{heatInUse, amountOf, co2ByCarbon, co2By}
 use Rattle.rules.specs.Record.{carbonForm, carbonLimit, carbonRange, outcomeAt}
 use Rattle.rules.specs.Index.{permits, wayOf, refinedFlags, allowedFlags}
-use Rattle.rules.specs.Sorting.{formRight, heatRight, carbonRight, allowedBy, amountBurned, co2Of, carbonOf, Shared}
+use Rattle.rules.specs.Sorting.{co2Of, carbonOf, Shared}
+use Rattle.rules.specs.AtOnce.{formRight, heatRight, carbonRight, allowedBy, amountBurned}
 use Rattle.rules.proofs.MethodLaws.{methodOf-monitored, methodOf-carbon, methodOf-heat-le}
 use Rattle.rules.proofs.EntryLaws.{carbonLimit-le}
 use Rattle.rules.proofs.StandsLaws.{Found, unit-entry, fuel-entry}
 use Rattle.rules.proofs.MaskLaws.{Heated, allowedBy-fuel}
-use Rattle.rules.proofs.SortingLaws.{fuelForm-right, fuelRanges-right, burned-heat, destination-monitored, destination-unmonitored, co2Of-none, co2Of-heat, carbonOf-monitored, carbonOf-unmonitored, times-zero, Co2Told, Monitored, Passes, settled}
+use Rattle.rules.proofs.FactorsLaws.{co2Of-heat, co2Of-other, carbonOf-none, carbonOf-monitor}
+use Rattle.rules.proofs.SortingLaws.{fuelForm-right, fuelRanges-right, burned-heat, destination-monitored, destination-unmonitored, times-zero, Co2Told, Monitored, Passes, settled}
 
 -- The tests of a record l of the fuel f in the unit u.
 pub record Passed (l u f : List ℕ) : Type 0 where
@@ -109,8 +111,8 @@ module _ {l u f : List ℕ} (t : Passed l u f) where
     no-co2 : monitored u ≡ true → Co2Told l u f x 1
     unfolding co2By
     no-co2 m =
-        let by-heat = times-zero (x .burned) (co2Of-none f (4 * 1 + x .way) (omega arith)) in
-        let by-carbon = times-zero (x .carbon) carbonOf-monitored in
+        let by-heat = times-zero (x .burned) (co2Of-other f (4 * 1 + x .way) (omega arith)) in
+        let by-carbon = times-zero (x .carbon) carbonOf-monitor in
         ap (λ (y : Ug). y .0) (choose-t _ (eq-eqb _ _ (methodOf-monitored l u f m)) refl) ∙ omega arith
 
     carbon-co2 : monitored u ≡ false → carbonFlagged l ≡ true → Co2Told l u f x 0
@@ -118,8 +120,8 @@ module _ {l u f : List ℕ} (t : Passed l u f) where
     carbon-co2 m flagged =
         let three = methodOf-carbon l u f m (either-f other flagged) in
         let two = eqb-true (flags l / 2 % 2) 1 flagged in
-        let by-heat = times-zero (x .burned) (co2Of-none f (4 * 0 + x .way) (omega arith)) in
-        let by-carbon : x .carbon * carbonOf 0 ≡ amount l * carbon l * 3664 = ap₂ _*_ carbon-is carbonOf-unmonitored in
+        let by-heat = times-zero (x .burned) (co2Of-other f (4 * 0 + x .way) (omega arith)) in
+        let by-carbon : x .carbon * carbonOf 0 ≡ amount l * carbon l * 3664 = ap₂ _*_ carbon-is carbonOf-none in
         ap (λ (y : Ug). y .0) (choose-f _ (ne-eqb (methodOf l u f) 4 (λ e. omega arith))
         (choose-t _ (eq-eqb _ _ three) (choose-f _ other refl)))
         ∙ co2OfCarbon-is (amountOf l) (record { 0 = carbon l })
@@ -148,6 +150,7 @@ module _ {l u f : List ℕ} (t : Passed l u f) where
       way-is = choose-t _ m refl;
       ledger = destination-monitored l u f m;
       co2-is = no-co2 m;
+      fossil-co2 = λ other. co2-none;
     }
 
     unmonitored-co2 : monitored u ≡ false → Monitored l u f x 0
@@ -157,6 +160,7 @@ module _ {l u f : List ℕ} (t : Passed l u f) where
       way-is = choose-f _ m refl;
       ledger = destination-unmonitored l u f m;
       co2-is = if-test (carbonFlagged l) (carbon-co2 m) (heat-co2 m);
+      fossil-co2 = λ other. co2-none;
     }
 
 -- ---- the tests by an index: of the record m, and of lines j and k in the columns us and fs

@@ -10,28 +10,32 @@ use lib.Dec.{eqb, ltb, lit<, lit≤}
 use lib.ListN.{getD}
 use borrow.Author.Tests.{ltb-true, lt-ltb, leb-true, le-leb, eq-eqb, ne-eqb, eqb-true}
 use Rattle.choice.proofs.Splitting.{if-test}
-use Rattle.choice.proofs.TestsLaws.{also-t, also-l, also-r, either-f, choose-t, choose-f, both, is-so}
+use Rattle.choice.proofs.TestsLaws.{also-t, also-f, also-l, also-r, either-f, choose-t, choose-f, both, is-so}
 use Rattle.mass.specs.declared.Ug.{Ug}
 use Rattle.mass.specs.Gas.{GasInReach, co2OfGas}
 use Rattle.mass.proofs.GasLaws.{co2OfGas-none}
 use Rattle.rules.specs.declared.book.Head.{Head}
+use Rattle.rules.specs.declared.entry.Destination.the-variants.{Fossil}
 use Rattle.rules.specs.declared.sorting.Share.{Share}
 use Rattle.rules.specs.Bytes.{line}
-use Rattle.rules.specs.Fields.{monitored, fuelKind, molarVolume, kind, flags, analysed, carbonFlagged, month, amount, carbon, molecularWeight, gasBlank}
-use Rattle.rules.specs.Book.{unitLines, fuelLines}
+use Rattle.rules.specs.Fields.{monitored, fuelKind, fuelClass, molarVolume, kind, flags, analysed, carbonFlagged, month, amount, carbon, molecularWeight, gasBlank}
+use Rattle.rules.specs.Book.{kindClassOk, fuelHeadOk, fuelOk, unitLines, fuelLines}
 use Rattle.rules.specs.Method.{methodOf}
 use Rattle.rules.specs.Entry.{co2ByCarbon, co2By}
 use Rattle.rules.specs.Record.{carbonForm, gasRange, carbonRange, outcomeAt}
 use Rattle.rules.specs.Index.{wayOf, allowedFlags, volumeOf}
-use Rattle.rules.specs.Sorting.{heatRight, gasRight, allowedBy, amountBurned, carbonOf, Shared}
+use Rattle.rules.specs.Sorting.{carbonOf, ledgerOf, Shared}
+use Rattle.rules.specs.AtOnce.{heatRight, gasRight, allowedBy, amountBurned}
 use Rattle.rules.proofs.MethodLaws.{methodOf-monitored, methodOf-analysed}
 use Rattle.rules.proofs.EntryLaws.{reach}
 use Rattle.rules.proofs.StandsLaws.{Found, unit-entry, fuel-entry, fuel-sound}
 use Rattle.rules.proofs.MaskLaws.{Heated, allowedBy-gas}
-use Rattle.rules.proofs.SortingLaws.{fuelForm-right, fuelRanges-right, destination-monitored, destination-unmonitored, wayOf-le, co2Of-none, times-zero, Monitored, Passes, settled}
+use Rattle.rules.proofs.FactorsLaws.{co2Of-other}
+use Rattle.rules.proofs.SortingLaws.{fuelForm-right, fuelRanges-right, destination-monitored, destination-unmonitored, wayOf-le, times-zero, Monitored, Passes, settled}
 
--- The tests of a record l of the fuel f.
+-- The tests of a record l of the fuel f, whose line breaks no rule.
 pub record Passed (l f : List ℕ) : Type 0 where
+  pub sound : fuelOk f ≡ true
   pub kind-is : kind l ≡ 3
   pub formed : gasRight l ≡ true
   pub heats : heatRight l ≡ true
@@ -91,6 +95,24 @@ module _ {l f : List ℕ} (t : Passed l f) where
   unfolding volumeOf
   volume-is = choose-t _ gaseous refl
 
+  -- Class 3 goes only with kind 1, so that no gas is biomass.
+  not-biomass : eqb (fuelClass f) 3 ≡ false
+  unfolding fuelOk fuelHeadOk kindClassOk
+  not-biomass =
+      let gas-kind = eqb-true (fuelKind f) 3 gaseous in
+      let heats = also-l _ _ (also-l _ _ (also-l _ _ (also-l _ _ (also-l _ _ (also-l _ _ (t .sound)))))) in
+      let agree = also-r _ _ (also-l _ _ heats) in
+      ne-eqb (fuelClass f) 3 (λ three.
+      let not-1 = also-f _ (ne-eqb (fuelClass f) 1 (λ e. omega arith)) in
+      let not-2 = also-f _ (ne-eqb (fuelClass f) 2 (λ e. omega arith)) in
+      let neither = either-f (either-f (ne-eqb (fuelClass f) 0 (λ e. omega arith)) not-1) not-2 in
+      let solid = eqb-true (fuelKind f) 1 (also-r _ _ (sym (either-f neither refl) ∙ agree)) in
+      omega arith)
+
+  fossil : ledgerOf 0 f ≡ Fossil
+  unfolding ledgerOf
+  fossil = choose-t _ (eq-eqb 0 0 refl) (choose-f _ not-biomass refl)
+
   -- ---- it counts
   carbonForm-right : carbonForm l ≡ true
   unfolding carbonForm
@@ -130,7 +152,7 @@ module _ {l f : List ℕ} (t : Passed l f) where
         let four : wayOf u ≡ 4 = choose-t _ m refl in
         let nothing : amount l * (1 - wayOf u / 4) ≡ 0 = times-zero (amount l) (ap (λ (y : ℕ). 1 - y / 4) four) in
         let none : x .co2 .0 ≡ 0 = co2-is ∙ co2OfGas-none _ _ _ _ nothing (t .volumes) in
-        let by-heat = times-zero (x .burned) (co2Of-none f (4 * 1 + x .way) (omega arith)) in
+        let by-heat = times-zero (x .burned) (co2Of-other f (4 * 1 + x .way) (omega arith)) in
         record {
           two = lit< tt;
           way-is = four;
@@ -138,6 +160,7 @@ module _ {l f : List ℕ} (t : Passed l f) where
           co2-is =
               ap (λ (y : Ug). y .0) (choose-t _ (eq-eqb _ _ (methodOf-monitored l u f m)) refl)
               ∙ omega (arith, no-carbon 1);
+          fossil-co2 = λ other. none;
         }
 
     unmonitored-co2 : monitored u ≡ false → Monitored l u f x 0
@@ -147,7 +170,7 @@ module _ {l f : List ℕ} (t : Passed l f) where
         let three = methodOf-analysed l u f m gas in
         let whole : amount l * (1 - wayOf u / 4) ≡ amount l =
         ap (λ (y : ℕ). amount l * (1 - y / 4)) zero ∙ mul-one (amount l) in
-        let by-heat = times-zero (x .burned) (co2Of-none f (4 * 0 + x .way) (omega arith)) in
+        let by-heat = times-zero (x .burned) (co2Of-other f (4 * 0 + x .way) (omega arith)) in
         let told = co2-is ∙ λ i. co2OfGas (record { 0 = whole i }) (record { 0 = carbon l })
         (record { 0 = molecularWeight l }) (record { 0 = volume-is i }) .0 in
         record {
@@ -159,6 +182,7 @@ module _ {l f : List ℕ} (t : Passed l f) where
               (choose-t _ (eq-eqb _ _ three) (choose-t _ gas refl)))
               ∙ sym told
               ∙ omega (arith, no-carbon 0);
+          fossil-co2 = λ other. absurd (other (destination-unmonitored l u f m ∙ fossil));
         }
 
 -- ---- the tests by an index: of the record m, and of lines j and k in the columns us and fs
@@ -194,6 +218,7 @@ module _ {h : Head} {s : List ℕ} {i : ℕ} {m us fs : List ℕ} {unit fuel j k
     (t : Tested m us fs unit fuel j k) (kind-is : kind (line i s) ≡ 3) where
   passed : Passed (line i s) (line k (fuelLines h s))
   passed = record {
+    sound = fuel-sound w;
     kind-is = kind-is;
     formed = sym (ap gasRight (w .unit .line-is)) ∙ t .formed;
     heats = sym (ap heatRight (w .unit .line-is)) ∙ t .heats;

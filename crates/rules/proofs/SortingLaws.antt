@@ -8,24 +8,26 @@ use native.Mathlib.Nat.{le-trans, le-of-eq, mul-zero, mul-one, mul-comm, mul-ass
 use native.Mathlib.Omega.{arith}
 use lib.Dec.{eqb, lit≤}
 use lib.ListN.{length}
-use borrow.Author.Tests.{ltb-true, lt-ltb, le-ltb, leb-true, le-leb, lt-leb, eq-eqb, ne-eqb, eqb-true, eqb-false, not-true}
+use borrow.Author.Tests.{ltb-true, lt-ltb, leb-true, le-leb, lt-leb, eq-eqb, ne-eqb, eqb-true, eqb-false, not-true}
 use Rattle.choice.proofs.Splitting.{if-test}
 use Rattle.choice.proofs.TestsLaws.{also-t, also-l, also-r, either-t, either-f, choose-t, choose-f, if-choose}
 use Rattle.mass.specs.declared.fuel.Heat.{Heat}
 use Rattle.mass.specs.Fuel.{traceOfHeat}
 use Rattle.mass.proofs.FuelLaws.{traceOfHeat-is, highOf-above}
 use Rattle.rules.specs.declared.book.Head.{Head}
+use Rattle.rules.specs.declared.entry.Destination.the-variants.{Fossil}
 use Rattle.rules.specs.declared.record.Outcome.{Outcome}
 use Rattle.rules.specs.declared.record.Outcome.the-variants.{Counted}
 use Rattle.rules.specs.declared.sorting.Share.{Share}
 use Rattle.rules.specs.Bytes.{line}
-use Rattle.rules.specs.Fields.{monitored, defaultHeat, co2Factor, ch4Factor, n2oFactor, flags, fuelled, heatMeasured, heatLow, month, amount, heat}
+use Rattle.rules.specs.Fields.{monitored, defaultHeat, ch4Factor, n2oFactor, flags, fuelled, heatMeasured, heatLow, month, amount, heat}
 use Rattle.rules.specs.Book.{unitLines, fuelLines}
 use Rattle.rules.specs.Method.{methodOf}
 use Rattle.rules.specs.Entry.{measuredHeat, heatInUse, amountOf, co2By, destinationBy, entryBy, fuelEntry}
 use Rattle.rules.specs.Record.{carbonForm, fuelForm, heatLimit, heatRange, carbonRange, fuelRanges, fuelJudged, fuelOutcome, outcomeAt}
 use Rattle.rules.specs.Index.{wayOf}
-use Rattle.rules.specs.Sorting.{heatRight, amountBurned, heatOf, co2Of, carbonOf, ledgerOf, mostBurned, Shared}
+use Rattle.rules.specs.Sorting.{heatOf, co2Of, carbonOf, ledgerOf, mostBurned, Shared}
+use Rattle.rules.specs.AtOnce.{heatRight, amountBurned}
 use Rattle.rules.proofs.MethodLaws.{methodOf-monitored, methodOf-unmonitored-le}
 use Rattle.rules.proofs.EntryLaws.{measuredHeat-le}
 use Rattle.rules.proofs.RecordLaws.{check-t}
@@ -179,24 +181,6 @@ pub wayOf-le : (u : List ℕ) → wayOf u ≤ 4
 unfolding wayOf
 wayOf-le u = if-choose (λ (x : ℕ). x ≤ 4) (monitored u) (λ m. lit≤ tt) (λ m. lit≤ tt)
 
--- Where a monitor gives the CO2, or the carbon was measured, none comes from the heat; and with a monitor none from
--- the carbon.
-pub co2Of-none : (f : List ℕ) (v : ℕ) → 2 ≤ v → co2Of f v ≡ 0
-unfolding co2Of
-co2Of-none f v h = choose-f _ (le-ltb v 2 h) refl
-
-pub co2Of-heat : (f : List ℕ) (v : ℕ) → v < 2 → co2Of f v ≡ co2Factor f * heatOf f v
-unfolding co2Of
-co2Of-heat f v h = choose-t _ (lt-ltb v 2 h) refl
-
-pub carbonOf-monitored : carbonOf 1 ≡ 0
-unfolding carbonOf
-carbonOf-monitored = choose-f _ (ne-eqb 1 0 (λ e. omega arith)) refl
-
-pub carbonOf-unmonitored : carbonOf 0 ≡ 3664
-unfolding carbonOf
-carbonOf-unmonitored = choose-t _ (eq-eqb 0 0 refl) refl
-
 pub times-zero : {y : ℕ} (x : ℕ) → y ≡ 0 → x * y ≡ 0
 times-zero x none = ap (λ (y : ℕ). x * y) none ∙ mul-zero x
 
@@ -220,6 +204,7 @@ pub record Monitored (l u f : List ℕ) (x : Share) (m : ℕ) : Type 0 where
   pub way-is : wayOf u ≡ 4 * m
   pub ledger : destinationBy (methodOf l u f) f ≡ ledgerOf m f
   pub co2-is : Co2Told l u f x m
+  pub fossil-co2 : (destinationBy (methodOf l u f) f ≡ Fossil → ⊥) → x .co2 .0 ≡ 0
 
 shared : {o : Outcome} {l u fs : List ℕ} {k m : ℕ} {x : Share} → heatRight l ≡ true → Heated l (line k fs)
     → k < length fs / 32 → o ≡ Counted (fuelEntry l u (line k fs)) → Told l u k x → Monitored l u (line k fs) x m
@@ -240,6 +225,7 @@ shared {o} {l} {u} {fs} {k} {m} {x} h heated there counts t w = record {
   co2-is = w .co2-is;
   ch4-is = trace (ch4Factor (line k fs));
   n2o-is = trace (n2oFactor (line k fs));
+  fossil-co2 = w .fossil-co2;
 }
   where
     trace : (y : ℕ) → traceOfHeat (amountOf l) (heatInUse l (line k fs)) (record { 0 = y }) .0

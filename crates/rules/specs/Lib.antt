@@ -20,6 +20,7 @@ pub mod Key
 pub mod Marks
 pub mod Factors
 pub mod Index
+pub mod AtOnce
 pub mod Sorting
 pub mod Weighing
 pub mod Co2

@@ -20,7 +20,8 @@ ghost use Rattle.rules.specs.Bytes.{line};
 ghost use Rattle.rules.specs.Fields.{kind};
 ghost use Rattle.rules.specs.Book.{unitLines, fuelLines, opened, accepted};
 ghost use Rattle.rules.specs.Index.{UnitsNoted, FuelsNoted, Small};
-ghost use Rattle.rules.specs.Sorting.{formRight, heatRight, carbonRight, gasRight, allowedBy, amountBurned, Settled};
+ghost use Rattle.rules.specs.Sorting.{Settled, NoGas};
+ghost use Rattle.rules.specs.AtOnce.{formRight, heatRight, carbonRight, gasRight, allowedBy, amountBurned};
 
 // What a fuel record adds, before the factors of its fuel enter.
 pub struct Share {
@@ -58,6 +59,7 @@ pub fn sort_fuel(
     requires units { ⌜ UnitsNoted (unitLines h (now book)) (now units) × Small (now «by_unit») ⌝ }
     requires fuels { ⌜ FuelsNoted (fuelLines h (now book)) (now fuels) × Small (now «by_fuel») ⌝ }
     ensures settled { λ r. ⌜ Settled h (now (book .entry)) i r ⌝ }
+    ensures alone { λ r. ⌜ NoGas r ⌝ }
 {
     let l = bytes::take_line(book, i);
     let unit = field::unit_number(l);

@@ -5,7 +5,7 @@ use native.Mathlib.Nat.{mul-le-mul}
 use native.Mathlib.Omega.{arith}
 use borrow.Author.Needs.{needs}
 use Rattle.rules.specs.Entry.{measuredHeat}
-use Rattle.rules.specs.Sorting.{amountBurned}
+use Rattle.rules.specs.AtOnce.{amountBurned}
 use Rattle.rules.proofs.EntryLaws.{measuredHeat-le}
 use Rattle.rules.proofs.SortingLaws.{heatLimit-right}
 use Rattle.rules.proofs.sorting.find_burned.Statement.{statement}

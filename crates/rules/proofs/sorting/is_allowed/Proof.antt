@@ -3,7 +3,7 @@ use Prim.Native.Nat.{_/_, _%_, _^_}
 use lib.Bits.{bitAnd, bitOr}
 use lib.Dec.{eqb}
 use borrow.Author.Needs.{needs}
-use Rattle.rules.specs.Sorting.{allowedBy}
+use Rattle.rules.specs.AtOnce.{allowedBy}
 use Rattle.rules.proofs.sorting.is_allowed.Statement.{statement}
 use Rattle.rules.proofs.sorting.is_allowed.Tie as tie
 

@@ -4,7 +4,7 @@ use native.Mathlib.Nat.{mul-le-mul}
 use native.Mathlib.Omega.{arith}
 use lib.Dec.{leb}
 use borrow.Author.Needs.{needs}
-use Rattle.rules.specs.Sorting.{carbonRight}
+use Rattle.rules.specs.AtOnce.{carbonRight}
 use Rattle.rules.proofs.sorting.is_carbon_right.Statement.{statement}
 use Rattle.rules.proofs.sorting.is_carbon_right.Tie as tie
 

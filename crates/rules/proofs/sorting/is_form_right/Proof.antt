@@ -2,7 +2,7 @@
 use lib.Dec.{leb}
 use borrow.Author.Needs.{needs}
 use Rattle.choice.proofs.TestsLaws.{both}
-use Rattle.rules.specs.Sorting.{formRight}
+use Rattle.rules.specs.AtOnce.{formRight}
 use Rattle.rules.proofs.sorting.is_form_right.Statement.{statement}
 use Rattle.rules.proofs.sorting.is_form_right.Tie as tie
 

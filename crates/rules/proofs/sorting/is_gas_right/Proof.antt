@@ -3,7 +3,7 @@ use mathlib.Core.Bool.{not}
 use lib.Dec.{leb}
 use borrow.Author.Needs.{needs}
 use Rattle.choice.proofs.TestsLaws.{both}
-use Rattle.rules.specs.Sorting.{gasRight}
+use Rattle.rules.specs.AtOnce.{gasRight}
 use Rattle.rules.proofs.sorting.is_gas_right.Statement.{statement}
 use Rattle.rules.proofs.sorting.is_gas_right.Tie as tie
 

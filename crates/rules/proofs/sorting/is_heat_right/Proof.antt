@@ -3,7 +3,7 @@ use Prim.Native.Nat.{_*_, _%_}
 use lib.Dec.{leb}
 use borrow.Author.Needs.{needs}
 use Rattle.choice.proofs.TestsLaws.{both, any}
-use Rattle.rules.specs.Sorting.{heatRight}
+use Rattle.rules.specs.AtOnce.{heatRight}
 use Rattle.rules.proofs.sorting.is_heat_right.Statement.{statement}
 use Rattle.rules.proofs.sorting.is_heat_right.Tie as tie
 

@@ -244,8 +244,10 @@ returns-2 c =
     let flags = c .before .flags .ensures in
     let amount = read .before .amount .ensures in
     let carbon = read .carbon .ensures in
+    let told =
     settled-fuel (found done) (tests done) _ (begun (looked done) .pre .1 .0 .1)
-    refl (λ i. flags i % 4) (c .find-burned .ensures) (λ i. amount i * carbon i) refl
+    refl (λ i. flags i % 4) (c .find-burned .ensures) (λ i. amount i * carbon i) refl in
+    (told, refl)
 
 pub sort-fuel-spec : {M : Type 1} → statement M
 sort-fuel-spec =
