@@ -8,6 +8,15 @@ pub mod WordsLaws
 pub mod ReplyLaws
 pub mod WakeLaws
 pub mod AdmissionLaws
+pub mod WorthLaws
+pub mod HeldLaws
+pub mod SharesLaws
+pub mod WeighedLaws
+pub mod GatheredLaws
+pub mod GatheringLaws
+pub mod PouredLaws
+pub mod LegLaws
+pub mod TakingLaws
 pub mod RunLaws
 pub mod ReportLaws
 pub mod HistoryLaws

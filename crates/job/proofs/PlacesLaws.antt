@@ -6,12 +6,12 @@ use mathlib.Core.Path.{_≡_, refl, sym, ap, ap₂, _∙_}
 use native.Mathlib.Nat.{add-zero, zero-add, add-assoc, not-suc-le-zero}
 use native.Mathlib.Omega.{arith}
 use lib.ListN.{length, getD, replicate, length-append, length-replicate, getD-replicate, List·getD-append, List·getD-eq-default}
-use lib.Seq.{ext-getD, getD-at}
-use Rattle.choice.specs.Tests.{_also_}
+use lib.Seq.{ext-getD, getD-at, getD-set-same, getD-set-other}
 use Rattle.choice.proofs.Splitting.{if-lt, if-eq}
 use Rattle.choice.proofs.TestsLaws.{also-t, also-l, also-r}
 use Rattle.job.specs.State.{_to_, _plus_, each}
 use Rattle.job.specs.Checkpoint.{every}
+use Rattle.job.specs.Shares.{raised}
 
 -- ---- a number at one place
 pub to-here : (v i : ℕ) → getD (v to i) i 0 ≡ v
@@ -29,8 +29,27 @@ to-other v i j n =
     (λ l. List·getD-append (replicate i 0) (v ∷ []) 0 j (omega (arith, length-replicate {A = ℕ} i 0)) ∙ getD-replicate i j 0 0 l)
     (λ l. List·getD-eq-default (v to i) 0 {n = j} (omega (arith, length-to v i)))
 
+pub to-at : (v i j : ℕ) → j ≡ i → getD (v to i) j 0 ≡ v
+to-at v i j e = ap (λ (n : ℕ). getD (v to i) n 0) e ∙ to-here v i
+
 pub to-le : (v i j : ℕ) → getD (v to i) j 0 ≤ v
-to-le v i j = if-eq j i (λ e. omega (arith, ap (λ (n : ℕ). getD (v to i) n 0) e ∙ to-here v i)) (λ n. omega (arith, to-other v i j n))
+to-le v i j = if-eq j i (λ e. omega (arith, to-at v i j e)) (λ n. omega (arith, to-other v i j n))
+
+pub to-past : (n v i j : ℕ) → getD (v to (n + i)) (n + j) 0 ≡ getD (v to i) j 0
+to-past n v i j =
+    if-eq j i
+    (λ e. to-at v (n + i) (n + j) (omega arith) ∙ sym (to-at v i j e))
+    (λ m. to-other v (n + i) (n + j) (λ e. m (omega arith)) ∙ sym (to-other v i j m))
+
+-- ---- more at one place
+pub getD-raised : (d : List ℕ) (p x j : ℕ) → p < length d → getD (raised d p x) j 0 ≡ getD d j 0 + getD (x to p) j 0
+getD-raised d p x j l =
+    if-eq j p
+    (λ e.
+    let at = ap (λ (q : ℕ). getD (raised d p x) q 0) e ∙ getD-set-same d p _ 0 l in
+    let was = ap (λ (q : ℕ). getD d q 0) e in
+    omega (arith, to-at x p j e))
+    (λ n. omega (arith, getD-set-other d p j (getD d p 0 + x) 0 n, to-other x p j n))
 
 -- ---- lists added
 pub getD-plus : (a b : List ℕ) (i : ℕ) → getD (a plus b) i 0 ≡ getD a i 0 + getD b i 0

@@ -16,7 +16,7 @@ use Rattle.job.specs.State.{_plus_, each, State, ledgers, gives, fresh, 
 use Rattle.job.specs.Bounds.{FitFor}
 use Rattle.job.specs.Checkpoint.{checkpointSize, ledgerPlace, doneIn, decode, countsIn, massIn}
 use Rattle.job.specs.Wake.{admittedFor}
-use Rattle.job.specs.Words.{words, massAt, stateIn, massesOn, stateOn, Kept, Light, Gone}
+use Rattle.job.specs.Words.{words, carriesEach, massAt, stateIn, massesOn, stateOn, Kept, Light, Gone}
 use Rattle.job.proofs.PlacesLaws.{plus-assoc, length-each, getD-each, each-same, each-each}
 use Rattle.job.proofs.PutLaws.{word-blank}
 use Rattle.job.proofs.StateLaws.{after-done, run-done, run-run, fitFor-run}
@@ -56,8 +56,8 @@ gone-of a d u h l = omega arith
 pub gone-none : (a u n : ℕ) → a ≤ u → u ≤ n → a + (u - a) ≤ n
 gone-none a u n h l = omega arith
 
-pub gone-end : (d u n : ℕ) → d < u → u ≤ n → d < n
-gone-end d u n h l = omega arith
+pub reached : {d u : ℕ} → d ≤ u → u ≤ d → d ≡ u
+reached l m = omega arith
 
 -- A turn leads from d records done to e, in a run that ends at u.
 pub record Turn (a d e u : ℕ) : Type 0 where
@@ -155,7 +155,7 @@ gone-none-yet h k f c e =
     record {
       place = omega arith;
       state = ap (λ (t : Counts). stateIn t (replicate words 0)) e ∙ ap (run h k (begun f)) none;
-      kept = kept-blank (3 * c .done);
+      kept = kept-blank (carriesEach * c .done);
     }
 
 -- What the checkpoint said and what the records give are what to write.
@@ -190,7 +190,7 @@ module _ (h : Head) (k f : List ℕ) (o : opened k ≡ accepted h) (a : admitted
 
 -- Two legs of records gone through are one.
 pub gone-on : (h : Head) (k f : List ℕ) (c d : Counts) (w v : List ℕ) → Gone h k f c w → c .done ≤ d .done
-    → stateIn d v ≡ run h k (stateIn c w) (d .done - c .done) → Kept (3 * d .done) v → Gone h k f d v
+    → stateIn d v ≡ run h k (stateIn c w) (d .done - c .done) → Kept (carriesEach * d .done) v → Gone h k f d v
 gone-on h k f c d w v g l e kept = record {
   place = le-trans (g .place) l;
   state = run-legs h k (begun f) (doneIn f) (c .done) (d .done) (g .place) l (g .state) e;

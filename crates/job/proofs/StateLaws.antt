@@ -84,7 +84,7 @@ given-parts e i =
     getD-plus (co2 plus e .ch4 .0 to ch4) (e .n2o .0 to n2o) i
     ∙ ap (λ (v : ℕ). v + mass (e .n2o .0 to n2o) i) (getD-plus co2 (e .ch4 .0 to ch4) i)
 
-co2To-trace : (d : Destination) (v i : ℕ) → ch4 ≤ i → mass (co2To d v) i ≡ 0
+pub co2To-trace : (d : Destination) (v i : ℕ) → ch4 ≤ i → mass (co2To d v) i ≡ 0
 co2To-trace Fossil v i l = to-other v 0 i (λ e. omega arith)
 co2To-trace Biomass v i l = to-other v 1 i (λ e. omega arith)
 co2To-trace Nowhere v i l = refl

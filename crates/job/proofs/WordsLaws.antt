@@ -10,21 +10,18 @@ use lib.Seq.{getD-set-same, getD-set-other}
 use borrow.Author.Tests.{ltb-true, ltb-false, lt-ltb, le-ltb}
 use Rattle.choice.proofs.Splitting.{if-eq}
 use Rattle.choice.proofs.TestsLaws.{choose-t, choose-f, if-choose}
-use Rattle.mass.specs.Ledger.{recordsForeseen}
 use Rattle.mass.proofs.FuelLaws.{mostEach}
 use Rattle.rules.specs.declared.entry.Destination.{Destination}
 use Rattle.rules.specs.declared.entry.Destination.the-variants.{Fossil, Biomass, Nowhere}
 use Rattle.rules.specs.declared.entry.Entry.{Entry}
-use Rattle.rules.specs.declared.record.Outcome.{Outcome}
 use Rattle.rules.specs.declared.record.Outcome.the-variants.{Counted}
 use Rattle.rules.specs.Bounds.{Bounded}
 use Rattle.rules.specs.Entry.{co2Alone}
 use Rattle.rules.proofs.Co2Laws.{co2Alone-fossil, co2Alone-ch4, co2Alone-n2o}
-use Rattle.job.specs.declared.counts.Counts.{Counts}
-use Rattle.job.specs.State.{_to_, mass, ledgers, fossil, ch4, n2o, co2To, gives, counted, after}
-use Rattle.job.specs.Words.{words, carries, full, half, lowAt, highAt, unitAt, massAt, stateIn, added, co2Place, co2Kept, given, Kept}
-use Rattle.job.proofs.PlacesLaws.{to-here, to-other, to-le, each-plus}
-use Rattle.job.proofs.StateLaws.{counted-done, given-parts, length-gives}
+use Rattle.job.specs.State.{_to_, mass, ledgers, fossil, ch4, n2o, co2To, gives}
+use Rattle.job.specs.Words.{words, carries, full, half, lowAt, highAt, unitAt, massAt, added, co2Place, co2Kept, given, Kept}
+use Rattle.job.proofs.PlacesLaws.{to-here, to-other, to-le}
+use Rattle.job.proofs.StateLaws.{given-parts}
 
 -- ---- units
 pub unitAt-co2 : (i : ℕ) → i < ch4 → unitAt i ≡ 1000
@@ -118,7 +115,7 @@ module _ {m : ℕ} (w : List ℕ) (k x : ℕ) (l : k < ledgers) (kept : Kept m w
       ∙ omega (arith, to-other (unitAt k * x) k i n))
 
 -- What is asked of an addition.
-abbrev Room : List ℕ → ℕ → ℕ → Type 0
+abbrev pub Room : List ℕ → ℕ → ℕ → Type 0
 Room w k x = ((length w ≡ words) × (k < ledgers)) × ((lowAt w k < half) × (x < full) × (highAt w k ≤ carries + 2))
 
 pub room : {m : ℕ} (w : List ℕ) (k x : ℕ) → k < ledgers → Kept m w → m ≤ carries + 2 → x < full → Room w k x
@@ -147,7 +144,7 @@ co2Kept-le Biomass x = omega arith
 co2Kept-le Nowhere x = omega arith
 
 module _ {m : ℕ} (w : List ℕ) (kept : Kept m w) where
-  massAt-co2 : (k x : ℕ) → k < ch4 → x < full → (i : ℕ) → i < ledgers → massAt (added w k x) i ≡ massAt w i + mass ((1000 * x) to k) i
+  pub massAt-co2 : (k x : ℕ) → k < ch4 → x < full → (i : ℕ) → i < ledgers → massAt (added w k x) i ≡ massAt w i + mass ((1000 * x) to k) i
   massAt-co2 k x l h i p =
       massAt-added w k x (omega arith) kept h i p
       ∙ ap (λ (u : ℕ). massAt w i + mass ((u * x) to k) i) (unitAt-co2 k l)
@@ -211,26 +208,6 @@ module _ {m : ℕ} (w : List ℕ) (kept : Kept m w) (e : Entry) (b : Bounded (Co
       let ch4-le = to-le (e .ch4 .0) ch4 i in
       let n2o-le = to-le (e .n2o .0) n2o i in
       omega (arith, massAt-co2 w kept fossil (e .co2 .0) (lit< tt) (omega (arith, b .1)) i p, given-parts e i)
-
--- ---- high digits, by how many records there are
-pub carried-le : {d : ℕ} → d < recordsForeseen → 3 * d ≤ carries
-carried-le l = omega arith
-
-pub none-le : (d : ℕ) → 3 * d ≤ 3 * d + 3
-none-le d = omega arith
-
-pub one-le : (d : ℕ) → 3 * d + 1 ≤ 3 * d + 3
-one-le d = omega arith
-
--- ---- one record more: its outcome is o, and the words are then v
-pub taken : {r : Counts} {m : ℕ} (c : Counts) (w v : List ℕ) (o : Outcome) → r ≡ counted c o
-    → ((i : ℕ) → i < ledgers → massAt v i ≡ massAt w i + mass (gives o) i) → Kept m v → m ≤ 3 * c .done + 3
-    → (stateIn r v ≡ after (stateIn c w) o) × Kept (3 * r .done) v
-unfolding stateIn after
-taken {r} c w v o e g kept l =
-    let ms = each-plus (massAt w) (massAt v) ledgers (gives o) (length-gives o) g in
-    let one : r .done ≡ c .done + 1 = ap (λ (t : Counts). t .done) e ∙ counted-done c o in
-    ((λ j. record { counts = e j; masses = ms j }), kept-more v (omega arith) kept)
 
 -- ---- words that are all 0
 blank-word : (i : ℕ) → i < words → getD (replicate {A = ℕ} words 0) i 0 ≡ 0

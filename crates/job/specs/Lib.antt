@@ -8,4 +8,6 @@ pub mod History
 -- What serves the code alone.
 pub mod Bounds
 pub mod Words
+pub mod Shares
+pub mod Leg
 pub mod Admission

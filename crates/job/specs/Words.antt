@@ -2,10 +2,12 @@
 -- of the calls don't need it.
 --
 --     words, carries              how many words there are, and more than a high digit comes to
+--     carriesEach                 more than it grows by with a record, where there are many
 --     full, half                  what a high digit counts, and what a low one stays below
 --     lowAt w i, highAt w i       the digits at place i
 --     unitAt i                    what they count, in ng: µg of CO2, or ng of another gas
 --     massAt w i                  what the records give to the ledger at place i
+--     countsAt p a                the counts at place p, a saying how many records are set aside, and which is the first
 --     stateIn c w                 the state with the counts c and the masses of w
 --     added w i x                 w with x more at place i
 --     given w e                   w with all that the entry e gives
@@ -40,7 +42,10 @@ abbrev pub words : ℕ
 words = 2 * ledgers
 
 abbrev pub carries : ℕ
-carries = 1000000
+carries = 1000000000000
+
+abbrev pub carriesEach : ℕ
+carriesEach = 5000000
 
 abbrev pub full : ℕ
 full = 9000000000000000000
@@ -59,6 +64,9 @@ unitAt i = choose (ltb i ch4) 1000 1
 
 unfoldable pub massAt : List ℕ → ℕ → ℕ
 massAt w i = unitAt i * (full * highAt w i + lowAt w i)
+
+abbrev pub countsAt : ℕ → List ℕ → Counts
+countsAt p a = record { done = p; aside = getD a 0 0; index = getD a 1 0; reason = getD a 2 0 }
 
 unfoldable pub stateIn : Counts → List ℕ → State
 stateIn c w = record { counts = c; masses = each (massAt w) ledgers }
@@ -122,4 +130,4 @@ Light c w = (i : ℕ) → i < ledgers → (restIn c i < tonne) × ((massIn c i +
 pub record Gone (h : Head) (k f : List ℕ) (c : Counts) (w : List ℕ) : Type 0 where
   pub place : doneIn f ≤ c .done
   pub state : stateIn c w ≡ run h k (stateIn (countsIn f) (replicate words 0)) (c .done - doneIn f)
-  pub kept : Kept (3 * c .done) w
+  pub kept : Kept (carriesEach * c .done) w

@@ -8,4 +8,5 @@ mod put;
 pub mod reply;
 pub mod report;
 mod run;
+mod shares;
 pub mod wake;

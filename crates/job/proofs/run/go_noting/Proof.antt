@@ -9,66 +9,81 @@ use Rattle.rules.specs.Bytes.{lines}
 use Rattle.rules.specs.Book.{unitLines}
 use Rattle.rules.specs.Table.{notedAll}
 use Rattle.rules.proofs.TableLaws.{known-notedAll}
+use Rattle.job.specs.declared.counts.Counts.{Counts}
 use Rattle.job.specs.State.{run}
 use Rattle.job.specs.Checkpoint.{doneIn, decode, encode}
-use Rattle.job.specs.Words.{Gone}
+use Rattle.job.specs.Words.{countsAt, stateIn, stateOn, Gone}
 use Rattle.job.proofs.AdmissionLaws.{admittedFor-whole}
 use Rattle.job.proofs.RunLaws.{stateOn-gone, fitFor-gone, light-gone, gone-on}
+use Rattle.job.proofs.LegLaws.{reason-lt}
 use Rattle.job.proofs.run.go_noting.Statement.{statement}
 use Rattle.job.proofs.run.go_noting.Tie as tie
 
 abbrev start : tie.After-note-records → tie.Start
-start c = c .before .before .before .before .before .before .before .before .before .before
+start c = c .before .before .before .before .before .before .before .before .before .before .before
 
 note-records-requires : tie.Need-note-records-requires
 note-records-requires c κs =
-    let p = c .before .before .before .before .before .before .before .before .before .pre in
+    let p = c .before .before .before .before .before .before .before .before .before .before .pre in
     let on = p .1 .1 .0 in
     (p .0, (le-trans (on .0) (on .1), p .1 .1 .1 .1 .0))
 
-go-on-requires : tie.Need-go-on-requires
-go-on-requires c κs =
-    let noted = c .before .before .before .before in
+go-legs-requires : tie.Need-go-legs-requires
+go-legs-requires c κs =
+    let noted = c .before .before .before .before .before in
     let a = start noted .args in
     let p = start noted .pre in
     let on = p .1 .1 .0 in
     let fit = fitFor-gone _ _ _ (p .0) (p .1 .1 .1 .0 .0) _ _ (p .1 .0) (le-trans (on .0) (on .1)) in
-    let before = lines (a .c .done) (a .book .now) in
+    let before = lines (a .place) (a .book .now) in
     let units = unitLines (a .h) (a .book .now) in
     let known = known-notedAll before units (length (a .table .now)) (noted .note-records .ensures ∙ ap (notedAll before units) (p .1 .1 .1 .1 .1)) in
     (p .0, (fit, (p .1 .0 .kept, (on, known))))
 
+-- From where the legs end, the function's entry.
+abbrev entry : tie.After-go-legs → tie.Start
+entry c = start (c .before .before .before .before .before .before)
+
 -- All records up to the place are gone through.
-gone : (c : tie.After-go-on) →
-    let a = start (c .before .before .before .before .before) .args in
-    Gone (a .h) (a .book .now) (a .from .now) (c .go-on .result) (c .go-on .last .1 .1 .1 .1 .1 .1 .1 .1 .0)
+gone : (c : tie.After-go-legs) →
+    let a = entry c .args in
+    Gone (a .h) (a .book .now) (a .from .now) (countsAt (c .go-legs .result) (c .go-legs .last .1 .1 .1 .1 .1 .1 .0)) (c .go-legs .last .1 .1 .1 .1 .1 .1 .1 .0)
 gone c =
-    let p = start (c .before .before .before .before .before) .pre in
-    let there = c .go-on .ensures in
-    gone-on _ _ _ _ _ _ _ (p .1 .0) (there .1 .1 .0) (there .0) (there .1 .0)
+    let there = c .go-legs .ensures in
+    gone-on _ _ _ _ _ _ _ (entry c .pre .1 .0) (there .1 .1 .0) (there .0) (there .1 .0)
+
+find-counts-requires : tie.Need-find-counts-requires
+unfolding stateIn
+find-counts-requires c κs =
+    let on = c .before .before .before .before .before in
+    let p = entry on .pre in
+    let end = le-trans (on .go-legs .ensures .1 .1 .1) (p .1 .1 .0 .1) in
+    reason-lt _ _ (fitFor-gone _ _ _ (p .0) (p .1 .1 .1 .0 .0) _ _ (gone on) end .counts-fit)
 
 write-requires : tie.Need-write-requires
 write-requires c κs =
-    let on = c .before .before .before .before .before .before in
-    let p = start (on .before .before .before .before .before) .pre in
+    let on = c .before .before .before .before .before .before .before .before in
+    let p = entry on .pre in
     let all = gone on in
-    let end = le-trans (on .go-on .ensures .1 .1 .1) (p .1 .1 .0 .1) in
+    let end = le-trans (on .go-legs .ensures .1 .1 .1) (p .1 .1 .0 .1) in
     ((admittedFor-whole _ _ (p .1 .1 .1 .0 .0), all .kept .whole, p .1 .1 .1 .0 .1), light-gone _ _ _ (p .0) (p .1 .1 .1 .0 .0) _ _ all end)
 
 returns : tie.Need-returns
 returns c =
     let write = c .before .before in
-    let on = write .before .before .before .before .before .before .before in
-    let s = start (on .before .before .before .before .before) in
+    let counts = write .before .before .before in
+    let on = counts .before .before .before .before .before .before in
+    let s = entry on in
     let a = s .args in
     let there = stateOn-gone _ _ _ (s .pre .0) (s .pre .1 .1 .1 .0 .0) _ _ (gone on) in
     write .write .ensures
+    ∙ ap (λ (t : Counts). encode (a .h) (stateOn t (a .from .now) (on .go-legs .last .1 .1 .1 .1 .1 .1 .1 .0))) (counts .find-counts .ensures)
     ∙ ap (encode (a .h)) there
-    ∙ ap (λ (d : ℕ). encode (a .h) (run (a .h) (a .book .now) (decode (a .from .now)) (d - doneIn (a .from .now)))) (on .go-on .ensures .1 .1 .2 refl)
+    ∙ ap (λ (d : ℕ). encode (a .h) (run (a .h) (a .book .now) (decode (a .from .now)) (d - doneIn (a .from .now)))) (on .go-legs .ensures .1 .1 .2 refl)
 
 pub go-noting-spec : {M : Type 1} → statement M
 go-noting-spec =
     tie.close
     (tie.spec
-    (λ c. search needs) note-records-requires go-on-requires write-requires (λ c. search needs)
-    (λ c. search needs) (λ c. search needs) returns)
+    (λ c. search needs) (λ c κs. search needs) (λ c. search needs) note-records-requires go-legs-requires
+    find-counts-requires write-requires (λ c. search needs) (λ c. search needs) (λ c. search needs) returns)

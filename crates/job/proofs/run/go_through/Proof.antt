@@ -1,15 +1,18 @@
 -- A wake begins with nothing gone through; and n records more from place p end at place p + n. Assumes nothing.
 use Prim.Native.Nat.{ℕ, _+_, _<_}
-use mathlib.Core.Path.{_≡_, ap, _∙_}
+use mathlib.Core.Path.{_≡_, refl, ap, _∙_}
+use native.Mathlib.Nat.{le-add-right}
 use native.Mathlib.Omega.{arith}
 use lib.ListN.{replicate}
 use borrow.Author.Needs.{needs}
+use Rattle.rules.proofs.TableLaws.{known-none}
 use Rattle.job.specs.declared.counts.Counts.{Counts}
 use Rattle.job.specs.State.{run}
 use Rattle.job.specs.Checkpoint.{doneIn, decode, encode}
-use Rattle.job.specs.Words.{words, Gone}
+use Rattle.job.specs.Words.{words, countsAt, stateIn, stateOn, Gone}
 use Rattle.job.proofs.AdmissionLaws.{admittedFor-whole}
-use Rattle.job.proofs.RunLaws.{place-lt, gone-all, gone-nothing, gone-within, gone-none-yet, stateOn-gone, light-gone}
+use Rattle.job.proofs.RunLaws.{place-lt, gone-all, gone-nothing, gone-within, gone-none-yet, stateOn-gone, fitFor-gone, light-gone, gone-on}
+use Rattle.job.proofs.LegLaws.{reason-lt}
 use Rattle.job.proofs.run.go_through.Statement.{statement}
 use Rattle.job.proofs.run.go_through.Tie as tie
 
@@ -38,37 +41,81 @@ returns c =
     ∙ ap (encode (a .h)) (stateOn-gone _ _ _ (s .pre .0) (s .pre .1 .0 .0) _ _ (begun s))
     ∙ ap (λ (m : ℕ). encode (a .h) (run (a .h) (a .book .now) (decode (a .from .now)) m)) (gone-nothing (place s) (test .if1 .taken))
 
--- From where the hints are written, the test that there is a record, and the start.
-abbrev some : tie.After-struct-known → tie.Else1
-some c = c .before .before .before .before .before .before .before
-
-abbrev start : tie.Else1 → tie.Start
-start c = c .before .before .before .before
+-- From where the end is found, the function's entry.
+abbrev start : tie.After-struct-known2 → tie.Start
+start c = c .before .before .before .before .before .before
 
 add-until : tie.Need-add-until
-add-until c = let p = start (some c) .pre in record { fits = place-lt _ _ _ (p .0) (p .1 .1 .0) }
+add-until c = let p = start c .pre in record { fits = place-lt _ _ _ (p .0) (p .1 .1 .0) }
+
+go-slowly-requires : tie.Need-go-slowly-requires
+go-slowly-requires c κs =
+    let s = start (c .before .before .before .before) in
+    let p = s .pre in
+    let all = begun s in
+    let fit = fitFor-gone _ _ _ (p .0) (p .1 .0 .0) _ _ all (gone-within (s .args .n) (p .1 .1 .0)) in
+    (p .0, (fit, (all .kept, ((le-add-right _ (s .args .n), p .1 .1 .0), known-none _ _ _ refl))))
+
+-- From where few records are gone through, the function's entry, and what they give.
+abbrev entry : tie.After-go-slowly → tie.Start
+entry c = start (c .before .before .before .before .before)
+
+gone : (c : tie.After-go-slowly) →
+    let a = entry c .args in
+    Gone (a .h) (a .book .now) (a .from .now) (countsAt (a .c .done + a .n) (c .go-slowly .last .1 .1 .1 .1 .1 .0)) (c .go-slowly .last .1 .1 .1 .1 .1 .1 .0)
+gone c =
+    let s = entry c in
+    let there = c .go-slowly .ensures in
+    gone-on _ _ _ _ _ _ _ (begun s) (le-add-right _ (s .args .n)) (there .0) (there .1)
+
+find-counts-requires : tie.Need-find-counts-requires
+unfolding stateIn
+find-counts-requires c κs =
+    let slow = c .before .before .before in
+    let p = entry slow .pre in
+    reason-lt _ _ (fitFor-gone _ _ _ (p .0) (p .1 .0 .0) _ _ (gone slow) (p .1 .1 .0) .counts-fit)
+
+write-requires-2 : tie.Need-write-requires-2
+write-requires-2 c κs =
+    let slow = c .before .before .before .before .before .before in
+    let p = entry slow .pre in
+    let a = p .1 .0 .0 in
+    let all = gone slow in
+    ((admittedFor-whole _ _ a, all .kept .whole, p .1 .1 .1), light-gone _ _ _ (p .0) a _ _ all (p .1 .1 .0))
+
+returns-2 : tie.Need-returns-2
+returns-2 c =
+    let write = c .before .before in
+    let counts = write .before .before .before in
+    let slow = counts .before .before .before .before in
+    let s = entry slow in
+    let a = s .args in
+    write .write2 .ensures
+    ∙ ap (λ (t : Counts). encode (a .h) (stateOn t (a .from .now) (slow .go-slowly .last .1 .1 .1 .1 .1 .1 .0))) (counts .find-counts .ensures)
+    ∙ ap (encode (a .h)) (stateOn-gone _ _ _ (s .pre .0) (s .pre .1 .0 .0) _ _ (gone slow))
+    ∙ ap (λ (m : ℕ). encode (a .h) (run (a .h) (a .book .now) (decode (a .from .now)) m)) (gone-all (a .n) (place s))
 
 further : (d n : ℕ) → (n ≡ 0 → ⊥) → d < d + n
 further d n more = omega arith
 
 go-to-requires : tie.Need-go-to-requires
 go-to-requires c κs =
-    let test = some (c .before .before .before .before) in
-    let s = start test in
+    let ended = c .before .before .before .before in
+    let s = start ended in
     let p = s .pre in
-    (p .0, (begun s, ((further _ _ (test .if1 .left), p .1 .1 .0), (p .1 .0 .0, p .1 .1 .1))))
+    (p .0, (begun s, ((further _ _ (ended .before .before .if1 .left), p .1 .1 .0), (p .1 .0 .0, p .1 .1 .1))))
 
-returns-2 : tie.Need-returns-2
-returns-2 c =
-    let gone = c .before .before .before in
-    let s = start (some (gone .before .before .before .before .before)) in
+returns-3 : tie.Need-returns-3
+returns-3 c =
+    let on = c .before .before .before in
+    let s = start (on .before .before .before .before .before) in
     let a = s .args in
-    gone .go-to .ensures ∙ ap (λ (m : ℕ). encode (a .h) (run (a .h) (a .book .now) (decode (a .from .now)) m)) (gone-all (a .n) (place s))
+    on .go-to .ensures ∙ ap (λ (m : ℕ). encode (a .h) (run (a .h) (a .book .now) (decode (a .from .now)) m)) (gone-all (a .n) (place s))
 
 pub go-through-spec : {M : Type 1} → statement M
 go-through-spec =
     tie.close
     (tie.spec
-    (λ c. search needs) write-requires (λ c. search needs) returns (λ c. search needs) (λ c κs. search needs)
-    (λ c. search needs) (λ c κs. search needs) add-until (λ c. search needs) (λ c. search needs)
-    (λ c. search needs) go-to-requires (λ c. search needs) returns-2)
+    (λ c. search needs) write-requires (λ c. search needs) returns (λ c. search needs) add-until (λ c. search needs)
+    (λ c. search needs) (λ c. search needs) go-slowly-requires find-counts-requires (λ c. search needs) write-requires-2
+    (λ c. search needs) returns-2 (λ c. search needs) go-to-requires (λ c. search needs) returns-3)

@@ -1,0 +1,133 @@
+-- Two legs are one, and a leg that doesn't come to its end was to stop. Assumes nothing.
+use Prim.Native.Nat.{ℕ, _-_, _*_, _≤_, _<_}
+use mathlib.Core.Path.{_≡_, refl, sym, ap, _∙_, subst}
+use native.Mathlib.Nat.{le-refl, le-trans}
+use native.Mathlib.Omega.{arith}
+use lib.ListN.{length}
+use Rattle.rules.specs.Bytes.{lines}
+use Rattle.rules.specs.Book.{unitLines}
+use Rattle.rules.specs.Table.{Known}
+use Rattle.job.specs.State.{run}
+use Rattle.job.specs.Bounds.{FitFor}
+use Rattle.job.specs.Words.{carriesEach, countsAt, stateIn, Kept}
+use Rattle.job.proofs.StateLaws.{fitFor-run}
+use Rattle.job.proofs.RunLaws.{gone-first, gone-none, run-legs, reached}
+use Rattle.job.proofs.run.go_legs.Statement.{statement}
+use Rattle.job.proofs.run.go_legs.Tie as tie
+
+abbrev Inv-loop : tie.InvT-loop
+Inv-loop book h place until table₀ stop aside₀ w₀ at₀ table aside w at =
+    (place ≤ at) × (at ≤ until)
+    × (stateIn (countsAt at aside) w ≡ run h book (stateIn (countsAt place aside₀) w₀) (at - place))
+    × Kept (carriesEach * at) w × Known (lines at book) (unitLines h book) table × (length table ≡ length table₀) × (length w ≡ length w₀)
+
+abbrev μ-loop : tie.MeasureT-loop
+μ-loop book h place until table₀ stop aside₀ w₀ at₀ table aside w at = until - at
+
+loop-holds : tie.Need-loop-holds Inv-loop μ-loop
+unfolding run
+loop-holds c =
+    let s = c .before .before .before in
+    let a = s .args in
+    let p = s .pre .1 in
+    let none = gone-first (a .place) in
+    (le-refl _, p .1 .1 .0 .0, ap (run (a .h) (a .book .now) (stateIn (countsAt (a .place) (a .aside .now)) (a .w .now))) none, p .1 .0, p .1 .1 .1, refl, refl)
+
+abbrev start : tie.At-loop Inv-loop μ-loop → tie.Start Inv-loop μ-loop
+start c = c .before .before .before .before
+
+find-end-requires : tie.Need-find-end-requires Inv-loop μ-loop
+find-end-requires c κs = c .before .loop .inv .1
+
+go-on-requires : tie.Need-go-on-requires Inv-loop μ-loop
+unfolding stateIn
+go-on-requires c κs =
+    let ended = c .before .before .before in
+    let test = ended .before in
+    let at = test .before in
+    let s = start at in
+    let a = s .args in
+    let p = s .pre .1 in
+    let inv = at .loop .inv in
+    let end = ended .find-end .ensures in
+    let there = gone-none _ _ _ (inv .0) (le-trans (inv .1) (p .1 .1 .0 .1)) in
+    let fit = fitFor-run (a .h) (a .book .now) (stateIn (countsAt (a .place) (a .aside .now)) (a .w .now)) (at .loop .at - a .place) (s .pre .0) there (p .0) in
+    (s .pre .0, (subst (FitFor (a .h)) (sym (inv .2)) fit, (inv .3, ((end .2 (test .loop-test .taken), le-trans (end .0) (p .1 .1 .0 .1), end .1), inv .4))))
+
+-- From where a leg ends, the head of the turn.
+abbrev turned : tie.After-go-on Inv-loop μ-loop → tie.At-loop Inv-loop μ-loop
+turned c = c .before .before .before .before .before .before
+
+-- With this leg the records are gone through up to its end.
+legs : (c : tie.After-go-on Inv-loop μ-loop) →
+    let at = turned c in
+    let a = start at .args in
+    stateIn (countsAt (c .go-on .result) (c .go-on .last .1 .1 .1 .1 .1 .1 .0)) (c .go-on .last .1 .1 .1 .1 .1 .1 .1 .0)
+    ≡ run (a .h) (a .book .now) (stateIn (countsAt (a .place) (a .aside .now)) (a .w .now)) (c .go-on .result - a .place)
+legs c =
+    let at = turned c in
+    let a = start at .args in
+    let leg = c .go-on .ensures in
+    run-legs (a .h) (a .book .now) _ (a .place) (at .loop .at) (c .go-on .result) (at .loop .inv .0) (leg .1 .1 .0 .0) (at .loop .inv .2) (leg .0)
+
+within : (c : tie.After-go-on Inv-loop μ-loop) →
+    let a = start (turned c) .args in
+    (a .place ≤ c .go-on .result) × (c .go-on .result ≤ a .until)
+within c =
+    let leg = c .go-on .ensures .1 .1 .0 in
+    (le-trans (turned c .loop .inv .0) (leg .0), le-trans (leg .1) (c .before .before .before .before .find-end .ensures .0))
+
+same-length : tie.Need-same-length Inv-loop μ-loop
+same-length c =
+    let on = c .before .before .before .before .before in
+    on .go-on .kept .1 .1 .1 .1 .0 ∙ turned on .loop .inv .5
+
+same-length-2 : tie.Need-same-length-2 Inv-loop μ-loop
+same-length-2 c =
+    let on = c .before .before .before .before .before in
+    on .go-on .kept .1 .1 .1 .1 .1 .1 .1 .0 ∙ turned on .loop .inv .6
+
+short : {d e : ℕ} → d ≡ e → d < e → ⊥
+short q l = omega arith
+
+returns : tie.Need-returns Inv-loop μ-loop
+returns c =
+    let on = c .before .before .before .before .before in
+    let leg = on .go-on .ensures in
+    let there = within on in
+    (legs on, (leg .1 .0, (there .0, there .1, λ e. absurd (short (leg .1 .1 .0 .2 e) (c .if1 .taken)))))
+
+less : {d e r u : ℕ} → d < e → e ≤ r → r ≤ u → u - r < u - d
+less l m n = omega arith
+
+loop-less : tie.Need-loop-less Inv-loop μ-loop
+loop-less c =
+    let on = c .before .before .before .before .before in
+    let ended = on .before .before .before .before in
+    less (ended .find-end .ensures .2 (ended .before .loop-test .taken)) (c .if1 .left) (within on .1)
+
+loop-again : tie.Need-loop-again Inv-loop μ-loop
+loop-again c =
+    let on = c .before .before .before .before .before in
+    let leg = on .go-on .ensures in
+    let there = within on in (
+      there .0,
+      there .1,
+      legs on,
+      leg .1 .0,
+      leg .1 .1 .1,
+      on .go-on .kept .1 .1 .1 .1 .0 ∙ turned on .loop .inv .5,
+      on .go-on .kept .1 .1 .1 .1 .1 .1 .1 .0 ∙ turned on .loop .inv .6,
+    )
+
+returns-2 : tie.Need-returns-2 Inv-loop μ-loop
+returns-2 c =
+    let inv = c .before .loop .inv in
+    (inv .2, (inv .3, (inv .0, inv .1, λ _. reached (inv .1) (c .loop-test .left))))
+
+pub go-legs-spec : {M : Type 1} → statement M
+go-legs-spec =
+    tie.close
+    (tie.spec
+    Inv-loop μ-loop loop-holds find-end-requires go-on-requires same-length same-length-2 returns loop-less loop-again
+    (λ c. c .before .loop .inv .5) (λ c. c .before .loop .inv .6) returns-2)
