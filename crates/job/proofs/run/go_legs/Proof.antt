@@ -4,9 +4,11 @@ use mathlib.Core.Path.{_≡_, refl, sym, ap, _∙_, subst}
 use native.Mathlib.Nat.{le-refl, le-trans}
 use native.Mathlib.Omega.{arith}
 use lib.ListN.{length}
+use borrow.Author.Needs.{needs}
 use Rattle.rules.specs.Bytes.{lines}
 use Rattle.rules.specs.Book.{unitLines}
 use Rattle.rules.specs.Table.{Known}
+use Rattle.rules.proofs.BookLaws.{accepted-facts}
 use Rattle.job.specs.State.{run}
 use Rattle.job.specs.Bounds.{FitFor}
 use Rattle.job.specs.Words.{carriesEach, countsAt, stateIn, Kept}
@@ -24,17 +26,23 @@ Inv-loop book h place until table₀ stop aside₀ w₀ at₀ table aside w at =
 abbrev μ-loop : tie.MeasureT-loop
 μ-loop book h place until table₀ stop aside₀ w₀ at₀ table aside w at = until - at
 
+find-few-requires : tie.Need-find-few-requires Inv-loop μ-loop
+find-few-requires c κs = let k = accepted-facts _ _ (c .before .before .before .pre .0) in (omega arith, omega arith)
+
+go-few-requires : tie.Need-go-few-requires Inv-loop μ-loop
+go-few-requires c κs = c .before .before .before .before .before .before .before .before .pre
+
 loop-holds : tie.Need-loop-holds Inv-loop μ-loop
 unfolding run
 loop-holds c =
-    let s = c .before .before .before in
+    let s = c .before .before .before .before .before in
     let a = s .args in
     let p = s .pre .1 in
     let none = gone-first (a .place) in
     (le-refl _, p .1 .1 .0 .0, ap (run (a .h) (a .book .now) (stateIn (countsAt (a .place) (a .aside .now)) (a .w .now))) none, p .1 .0, p .1 .1 .1, refl, refl)
 
 abbrev start : tie.At-loop Inv-loop μ-loop → tie.Start Inv-loop μ-loop
-start c = c .before .before .before .before
+start c = c .before .before .before .before .before .before
 
 find-end-requires : tie.Need-find-end-requires Inv-loop μ-loop
 find-end-requires c κs = c .before .loop .inv .1
@@ -77,25 +85,25 @@ within c =
     let leg = c .go-on .ensures .1 .1 .0 in
     (le-trans (turned c .loop .inv .0) (leg .0), le-trans (leg .1) (c .before .before .before .before .find-end .ensures .0))
 
-same-length : tie.Need-same-length Inv-loop μ-loop
-same-length c =
+same-length-3 : tie.Need-same-length-3 Inv-loop μ-loop
+same-length-3 c =
     let on = c .before .before .before .before .before in
     on .go-on .kept .1 .1 .1 .1 .0 ∙ turned on .loop .inv .5
 
-same-length-2 : tie.Need-same-length-2 Inv-loop μ-loop
-same-length-2 c =
+same-length-4 : tie.Need-same-length-4 Inv-loop μ-loop
+same-length-4 c =
     let on = c .before .before .before .before .before in
     on .go-on .kept .1 .1 .1 .1 .1 .1 .1 .0 ∙ turned on .loop .inv .6
 
 short : {d e : ℕ} → d ≡ e → d < e → ⊥
 short q l = omega arith
 
-returns : tie.Need-returns Inv-loop μ-loop
-returns c =
+returns-2 : tie.Need-returns-2 Inv-loop μ-loop
+returns-2 c =
     let on = c .before .before .before .before .before in
     let leg = on .go-on .ensures in
     let there = within on in
-    (legs on, (leg .1 .0, (there .0, there .1, λ e. absurd (short (leg .1 .1 .0 .2 e) (c .if1 .taken)))))
+    (legs on, (leg .1 .0, (there .0, there .1, λ e. absurd (short (leg .1 .1 .0 .2 e) (c .if2 .taken)))))
 
 less : {d e r u : ℕ} → d < e → e ≤ r → r ≤ u → u - r < u - d
 less l m n = omega arith
@@ -104,7 +112,7 @@ loop-less : tie.Need-loop-less Inv-loop μ-loop
 loop-less c =
     let on = c .before .before .before .before .before in
     let ended = on .before .before .before .before in
-    less (ended .find-end .ensures .2 (ended .before .loop-test .taken)) (c .if1 .left) (within on .1)
+    less (ended .find-end .ensures .2 (ended .before .loop-test .taken)) (c .if2 .left) (within on .1)
 
 loop-again : tie.Need-loop-again Inv-loop μ-loop
 loop-again c =
@@ -120,8 +128,8 @@ loop-again c =
       on .go-on .kept .1 .1 .1 .1 .1 .1 .1 .0 ∙ turned on .loop .inv .6,
     )
 
-returns-2 : tie.Need-returns-2 Inv-loop μ-loop
-returns-2 c =
+returns-3 : tie.Need-returns-3 Inv-loop μ-loop
+returns-3 c =
     let inv = c .before .loop .inv in
     (inv .2, (inv .3, (inv .0, inv .1, λ _. reached (inv .1) (c .loop-test .left))))
 
@@ -129,5 +137,8 @@ pub go-legs-spec : {M : Type 1} → statement M
 go-legs-spec =
     tie.close
     (tie.spec
-    Inv-loop μ-loop loop-holds find-end-requires go-on-requires same-length same-length-2 returns loop-less loop-again
-    (λ c. c .before .loop .inv .5) (λ c. c .before .loop .inv .6) returns-2)
+    Inv-loop μ-loop (λ c. search needs) find-few-requires go-few-requires
+    (λ c. c .before .before .before .before .go-few .kept .1 .1 .1 .1 .0) (λ c. c .before .before .before .before .go-few .kept .1 .1 .1 .1 .1 .1 .1 .0)
+    (λ c. c .before .before .before .before .go-few .ensures)
+    loop-holds find-end-requires go-on-requires same-length-3 same-length-4 returns-2 loop-less loop-again
+    (λ c. c .before .loop .inv .5) (λ c. c .before .loop .inv .6) returns-3)

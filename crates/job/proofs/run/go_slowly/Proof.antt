@@ -1,6 +1,8 @@
--- A turn takes the record at its place, which is what one record more means, and notes it. Assumes nothing.
-use Prim.Native.Nat.{ℕ, _-_, _*_, _≤_}
-use mathlib.Core.Path.{_≡_, refl, ap, _∙_, subst}
+-- A turn takes the record at its place, which is what one record more means, and notes it; or it was to stop there.
+-- Assumes nothing.
+use Prim.Native.Nat.{_-_, _*_, _≤_}
+use mathlib.Core.Path.{_≡_, refl, sym, ap, _∙_}
+use mathlib.Core.Bool.{false≢true}
 use native.Mathlib.Nat.{le-refl, lt-of-lt-of-le}
 use lib.ListN.{length}
 use Rattle.rules.specs.Bytes.{lines}
@@ -17,30 +19,41 @@ use Rattle.job.proofs.run.go_slowly.Statement.{statement}
 use Rattle.job.proofs.run.go_slowly.Tie as tie
 
 abbrev Inv-loop : tie.InvT-loop
-Inv-loop book h place until table₀ aside₀ w₀ at₀ table aside w at =
+Inv-loop book h place until by-unit by-fuel table₀ stop aside₀ w₀ at₀ table aside w at =
     (place ≤ at) × (at ≤ until)
     × (stateIn (countsAt at aside) w ≡ run h book (stateIn (countsAt place aside₀) w₀) (at - place))
     × Kept (carriesEach * at) w × Known (lines at book) (unitLines h book) table × (length table ≡ length table₀) × (length w ≡ length w₀)
 
 abbrev μ-loop : tie.MeasureT-loop
-μ-loop book h place until table₀ aside₀ w₀ at₀ table aside w at = until - at
+μ-loop book h place until by-unit by-fuel table₀ stop aside₀ w₀ at₀ table aside w at = until - at
 
 loop-holds : tie.Need-loop-holds Inv-loop μ-loop
 unfolding run
 loop-holds c =
-    let s = c .before .before .before in
+    let s = c .before .before .before .before .before in
     let a = s .args in
     let p = s .pre .1 in
     let none = gone-first (a .place) in
     (le-refl _, p .1 .1 .0 .0, ap (run (a .h) (a .book .now) (stateIn (countsAt (a .place) (a .aside .now)) (a .w .now))) none, p .1 .0, p .1 .1 .1, refl, refl)
 
 abbrev start : tie.At-loop Inv-loop μ-loop → tie.Start Inv-loop μ-loop
-start c = c .before .before .before .before
+start c = c .before .before .before .before .before .before
+
+does-stop-requires : tie.Need-does-stop-requires Inv-loop μ-loop
+does-stop-requires c κs =
+    let p = start (c .before) .pre in
+    (p .0, lt-of-lt-of-le (c .loop-test .taken) (p .1 .1 .1 .0 .1))
+
+returns : tie.Need-returns Inv-loop μ-loop
+returns c =
+    let stop = c .before .does-stop in
+    let inv = c .before .before .before .loop .inv in
+    (inv .2, (inv .3, (inv .0, inv .1, λ e. absurd (false≢true (sym (stop .ensures e) ∙ c .if1 .taken)))))
 
 take-slowly-requires : tie.Need-take-slowly-requires Inv-loop μ-loop
 unfolding stateIn
 take-slowly-requires c κs =
-    let test = c .before .before .before in
+    let test = c .before .before .before .before .before in
     let at = test .before in
     let s = start at in
     let a = s .args in
@@ -54,7 +67,7 @@ take-slowly-requires c κs =
 
 -- From where a turn is taken, its test.
 abbrev tested : tie.After-slice-known4 Inv-loop μ-loop → tie.In-loop Inv-loop μ-loop
-tested c = c .before .before .before .before .before .before .before .before
+tested c = c .before .before .before .before .before .before .before .before .before .before
 
 goes-on : (c : tie.After-slice-known4 Inv-loop μ-loop) →
     let at = tested c .before in
@@ -85,22 +98,20 @@ loop-again c =
       more ∙ ap (run (a .h) (a .book .now) _) (next .next),
       kept-more _ (carriesEach-next _) (taken .0 .kept _ (inv .3)),
       known-after (a .book .now) (unitLines (a .h) (a .book .now)) _ (at .loop .at) refl refl (taken .1) (inv .4),
-      took .take-slowly .kept .1 .1 .1 .0 ∙ inv .5,
-      took .take-slowly .kept .1 .1 .1 .1 .1 .0 ∙ inv .6,
+      took .take-slowly .kept .1 .1 .1 .1 .1 .0 ∙ inv .5,
+      took .take-slowly .kept .1 .1 .1 .1 .1 .1 .1 .0 ∙ inv .6,
     )
 
-returns : tie.Need-returns Inv-loop μ-loop
-returns c =
-    let at = c .before in
-    let inv = at .loop .inv in
-    let a = start at .args in
-    let begun = stateIn (countsAt (a .place) (a .aside .now)) (a .w .now) in
-    subst
-    (λ (d : ℕ). (stateIn (countsAt d (at .loop .aside)) (at .loop .w) ≡ run (a .h) (a .book .now) begun (d - a .place)) × Kept (carriesEach * d) (at .loop .w)) (reached (inv .1) (c .loop-test .left)) (inv .2, inv .3)
+returns-2 : tie.Need-returns-2 Inv-loop μ-loop
+returns-2 c =
+    let inv = c .before .loop .inv in
+    (inv .2, (inv .3, (inv .0, inv .1, λ _. reached (inv .1) (c .loop-test .left))))
 
 pub go-slowly-spec : {M : Type 1} → statement M
 go-slowly-spec =
     tie.close
     (tie.spec
-    Inv-loop μ-loop loop-holds take-slowly-requires add-at loop-less loop-again
-    (λ c. c .before .loop .inv .5) (λ c. c .before .loop .inv .6) returns)
+    Inv-loop μ-loop loop-holds does-stop-requires
+    (λ c. c .before .before .before .loop .inv .5) (λ c. c .before .before .before .loop .inv .6) returns
+    take-slowly-requires add-at loop-less loop-again
+    (λ c. c .before .loop .inv .5) (λ c. c .before .loop .inv .6) returns-2)

@@ -1,7 +1,7 @@
 -- A wake begins with nothing gone through; and n records more from place p end at place p + n. Assumes nothing.
-use Prim.Native.Nat.{ℕ, _+_, _<_}
+use Prim.Native.Nat.{ℕ, _+_, _-_, _<_, _≤_}
 use mathlib.Core.Path.{_≡_, refl, ap, _∙_}
-use native.Mathlib.Nat.{le-add-right}
+use native.Mathlib.Nat.{le-add-right, le-trans}
 use native.Mathlib.Omega.{arith}
 use lib.ListN.{replicate}
 use borrow.Author.Needs.{needs}
@@ -62,18 +62,21 @@ entry c = start (c .before .before .before .before .before)
 
 gone : (c : tie.After-go-slowly) →
     let a = entry c .args in
-    Gone (a .h) (a .book .now) (a .from .now) (countsAt (a .c .done + a .n) (c .go-slowly .last .1 .1 .1 .1 .1 .0)) (c .go-slowly .last .1 .1 .1 .1 .1 .1 .0)
+    Gone (a .h) (a .book .now) (a .from .now) (countsAt (c .go-slowly .result) (c .go-slowly .last .1 .1 .1 .1 .1 .1 .1 .1 .0)) (c .go-slowly .last .1 .1 .1 .1 .1 .1 .1 .1 .1 .0)
 gone c =
     let s = entry c in
     let there = c .go-slowly .ensures in
-    gone-on _ _ _ _ _ _ _ (begun s) (le-add-right _ (s .args .n)) (there .0) (there .1)
+    gone-on _ _ _ _ _ _ _ (begun s) (there .1 .1 .0) (there .0) (there .1 .0)
+
+ends : (c : tie.After-go-slowly) → c .go-slowly .result ≤ entry c .args .h .n
+ends c = le-trans (c .go-slowly .ensures .1 .1 .1) (entry c .pre .1 .1 .0)
 
 find-counts-requires : tie.Need-find-counts-requires
 unfolding stateIn
 find-counts-requires c κs =
     let slow = c .before .before .before in
     let p = entry slow .pre in
-    reason-lt _ _ (fitFor-gone _ _ _ (p .0) (p .1 .0 .0) _ _ (gone slow) (p .1 .1 .0) .counts-fit)
+    reason-lt _ _ (fitFor-gone _ _ _ (p .0) (p .1 .0 .0) _ _ (gone slow) (ends slow) .counts-fit)
 
 write-requires-2 : tie.Need-write-requires-2
 write-requires-2 c κs =
@@ -81,7 +84,7 @@ write-requires-2 c κs =
     let p = entry slow .pre in
     let a = p .1 .0 .0 in
     let all = gone slow in
-    ((admittedFor-whole _ _ a, all .kept .whole, p .1 .1 .1), light-gone _ _ _ (p .0) a _ _ all (p .1 .1 .0))
+    ((admittedFor-whole _ _ a, all .kept .whole, p .1 .1 .1), light-gone _ _ _ (p .0) a _ _ all (ends slow))
 
 returns-2 : tie.Need-returns-2
 returns-2 c =
@@ -91,9 +94,9 @@ returns-2 c =
     let s = entry slow in
     let a = s .args in
     write .write2 .ensures
-    ∙ ap (λ (t : Counts). encode (a .h) (stateOn t (a .from .now) (slow .go-slowly .last .1 .1 .1 .1 .1 .1 .0))) (counts .find-counts .ensures)
+    ∙ ap (λ (t : Counts). encode (a .h) (stateOn t (a .from .now) (slow .go-slowly .last .1 .1 .1 .1 .1 .1 .1 .1 .1 .0))) (counts .find-counts .ensures)
     ∙ ap (encode (a .h)) (stateOn-gone _ _ _ (s .pre .0) (s .pre .1 .0 .0) _ _ (gone slow))
-    ∙ ap (λ (m : ℕ). encode (a .h) (run (a .h) (a .book .now) (decode (a .from .now)) m)) (gone-all (a .n) (place s))
+    ∙ ap (λ (m : ℕ). encode (a .h) (run (a .h) (a .book .now) (decode (a .from .now)) m)) (ap (λ (d : ℕ). d - doneIn (a .from .now)) (slow .go-slowly .ensures .1 .1 .2 refl) ∙ gone-all (a .n) (place s))
 
 further : (d n : ℕ) → (n ≡ 0 → ⊥) → d < d + n
 further d n more = omega arith

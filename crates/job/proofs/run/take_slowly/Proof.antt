@@ -14,7 +14,7 @@ use Rattle.job.proofs.run.take_slowly.Statement.{statement}
 use Rattle.job.proofs.run.take_slowly.Tie as tie
 
 abbrev start : tie.After-judge-next → tie.Start
-start c = c .before .before .before .before .before
+start c = c .before .before .before .before .before .before .before
 
 set-aside-requires : tie.Need-set-aside-requires
 set-aside-requires c κs =
