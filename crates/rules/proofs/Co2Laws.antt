@@ -24,6 +24,10 @@ pub co2Alone-fossil : (x : Ug) → co2Alone x .destination ≡ Fossil
 unfolding co2Alone
 co2Alone-fossil x = refl
 
+pub co2Alone-co2 : (x : Ug) → co2Alone x .co2 ≡ x
+unfolding co2Alone
+co2Alone-co2 x = refl
+
 pub co2Alone-ch4 : (x : Ug) → co2Alone x .ch4 .0 ≡ 0
 unfolding co2Alone
 co2Alone-ch4 x = refl
