@@ -19,9 +19,6 @@ use Rattle.rules.proofs.factors.read_factors.Reads as read-factors
 use Rattle.rules.proofs.record.is_repeatable.Reads as is-repeatable
 use Rattle.rules.proofs.record.find_kind.Reads as find-kind
 use Rattle.rules.proofs.record.judge.Reads as judge
-use Rattle.rules.proofs.record.is_fuelled.Reads as is-fuelled
-use Rattle.rules.proofs.record.judge_fuelled.Reads as judge-fuelled
-use Rattle.rules.proofs.record.judge_unfuelled.Reads as judge-unfuelled
 use Rattle.rules.proofs.record.judge_next.Reads as judge-next
 use Rattle.rules.proofs.table.does_serve.Reads as does-serve
 use Rattle.rules.proofs.table.note_records.Reads as note-records
@@ -66,23 +63,6 @@ find-kind-unique κs a r s x y p q = p ∙ sym q
 
 pub judge-unique : (κs : _) (a : _) (r s : _) (x y : _) → judge.Post κs a r x → judge.Post κs a s y → r ≡ s
 judge-unique κs a r s x y p q = p ∙ sym q
-
-pub is-fuelled-unique : (κs : _) (a : _) (r s : _) (x y : _)
-    → is-fuelled.Post κs a r x → is-fuelled.Post κs a s y → r ≡ s
-is-fuelled-unique κs a r s x y p q = p ∙ sym q
-
-pub judge-fuelled-unique : (κs : _) (a : _) (r s : _) (x y : _)
-    → judge-fuelled.Post κs a r x → judge-fuelled.Post κs a s y → r ≡ s
-judge-fuelled-unique κs a r s x y p q = p ∙ sym q
-
-pub judge-unfuelled-unique : (κs : _) (a : _) (r s : _) (x y : _)
-    → judge-unfuelled.Post κs a r x → judge-unfuelled.Post κs a s y → r ≡ s
-judge-unfuelled-unique κs a r s x y p q = p .0 ∙ sym (q .0)
-
-pub judge-unfuelled-table-unique : (κs : _) (a : _) (r s : _) (x y : _)
-    → judge-unfuelled.Post κs a r x → judge-unfuelled.Post κs a s y
-    → now (x .1 .1 .1 .1 .0) ≡ now (y .1 .1 .1 .1 .0)
-judge-unfuelled-table-unique κs a r s x y p q = p .1 ∙ sym (q .1)
 
 pub judge-next-unique : (κs : _) (a : _) (r s : _) (x y : _)
     → judge-next.Post κs a r x → judge-next.Post κs a s y → r ≡ s
