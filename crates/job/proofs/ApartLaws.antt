@@ -1,6 +1,6 @@
 -- Books that differ in the set of warming values alone are worked alike: starts, wakes and counts reply alike and
 -- write the same bytes, whatever the checkpoint, and a history of one is a history of the other. Assumes nothing.
-use Prim.Native.Nat.{ℕ, zero, suc, _+_, _-_, _≤_}
+use Prim.Native.Nat.{ℕ, zero, suc, _+_, _≤_}
 use mathlib.Core.Bool.{true}
 use mathlib.Core.List.{List, []}
 use mathlib.Core.Path.{_≡_, refl, sym, ap, _∙_}

@@ -1,7 +1,7 @@
 -- What is said of one record more, in a leg of a wake. This serves the code; the definitions of the calls don't need it.
 --
---     outcomeIn h k p          what becomes of record p of the book k, with the head h
---     Aside h k p a b          a is what was said of records set aside before record p, and b what is said with it
+--     Aside h k p a b          a is what was said of records set aside before record p of the book k, with the head h,
+--                              and b what is said with it
 --     Took h k p a w b v       so it is with the counts, and the words are then v where they were w
 --     TookShare h k p a w d b v e    the same, where the shares are then e where they were d
 --     Taking h k p s a w d t r b v e u

@@ -1,6 +1,6 @@
 -- A line's entry at the next place makes a column one line longer, and leaves every other column as it was. No
 -- line's number is that of no line, so what stands among the numbers is a line's. Assumes nothing.
-use Prim.Native.Nat.{ℕ, _+_, _-_, _*_, _/_, _%_, _<_, _≤_}
+use Prim.Native.Nat.{ℕ, _+_, _*_, _/_, _%_, _<_, _≤_}
 use mathlib.Core.List.{List, [], _∷_}
 use mathlib.Core.Path.{_≡_, refl, sym, ap, _∙_, subst}
 use native.Mathlib.Nat.{le-trans, le-of-eq, lt-of-le-of-lt, zero-add}

@@ -1,6 +1,6 @@
 -- A number that an index finds is that of one line, which a look-up gives: the numbers rise, and no line has that of
 -- an entry without one. So the other columns have what this line says. Assumes nothing.
-use Prim.Native.Nat.{ℕ, _+_, _*_, _-_, _/_, _<_, _≤_}
+use Prim.Native.Nat.{ℕ, _+_, _*_, _/_, _<_, _≤_}
 use mathlib.Core.Bool.{Bool, true}
 use mathlib.Core.List.{List}
 use mathlib.Core.Path.{_≡_, refl, sym, ap, _∙_}

@@ -13,15 +13,6 @@ use Rattle.rules.specs.Index.{allowedFlags}
 use Rattle.rules.proofs.index.find_allowed.Statement.{statement}
 use Rattle.rules.proofs.index.find_allowed.Tie as tie
 
-default-heat-requires : tie.Need-default-heat-requires
-default-heat-requires c κs = search needs
-
-add-flags : tie.Need-add-flags
-add-flags c = search needs
-
-fuel-class-requires : tie.Need-fuel-class-requires
-fuel-class-requires c κs = search needs
-
 few : (c : tie.Joined1) → c .if1 .flags ≤ 15
 few c = ⊎-elim (λ w. omega arith) (λ w. omega arith) (c .if1 .came)
 
@@ -56,4 +47,4 @@ returns-2 c =
 pub find-allowed-spec : {M : Type 1} → statement M
 find-allowed-spec =
     tie.close
-    (tie.spec default-heat-requires add-flags fuel-class-requires add-flags-2 returns returns-2)
+    (tie.spec (λ c κs. search needs) (λ c. search needs) (λ c κs. search needs) add-flags-2 returns returns-2)

@@ -6,15 +6,9 @@ use Rattle.rules.specs.Index.{moistBelow}
 use Rattle.rules.proofs.index.find_moist.Statement.{statement}
 use Rattle.rules.proofs.index.find_moist.Tie as tie
 
-is-monitored-requires : tie.Need-is-monitored-requires
-is-monitored-requires c κs = search needs
-
 returns : tie.Need-returns
 unfolding moistBelow
 returns c = sym (choose-f _ (is-not (c .before .is-monitored .ensures) (c .if1 .taken)) refl)
-
-is-dry-requires : tie.Need-is-dry-requires
-is-dry-requires c κs = search needs
 
 returns-2 : tie.Need-returns-2
 unfolding moistBelow
@@ -30,4 +24,4 @@ returns-3 c =
 
 pub find-moist-spec : {M : Type 1} → statement M
 find-moist-spec =
-    tie.close (tie.spec is-monitored-requires returns is-dry-requires returns-2 returns-3)
+    tie.close (tie.spec (λ c κs. search needs) returns (λ c κs. search needs) returns-2 returns-3)

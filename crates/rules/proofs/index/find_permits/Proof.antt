@@ -8,15 +8,9 @@ use Rattle.rules.specs.Index.{permits}
 use Rattle.rules.proofs.index.find_permits.Statement.{statement}
 use Rattle.rules.proofs.index.find_permits.Tie as tie
 
-is-monitored-requires : tie.Need-is-monitored-requires
-is-monitored-requires c κs = search needs
-
 returns : tie.Need-returns
 unfolding permits
 returns c = sym (choose-t _ (is (c .before .is-monitored .ensures) (c .if1 .taken)) refl)
-
-rating-requires : tie.Need-rating-requires
-rating-requires c κs = search needs
 
 returns-2 : tie.Need-returns-2
 unfolding permits
@@ -34,4 +28,4 @@ returns-3 c =
 
 pub find-permits-spec : {M : Type 1} → statement M
 find-permits-spec =
-    tie.close (tie.spec is-monitored-requires returns rating-requires returns-2 returns-3)
+    tie.close (tie.spec (λ c κs. search needs) returns (λ c κs. search needs) returns-2 returns-3)

@@ -10,9 +10,6 @@ use Rattle.rules.specs.Index.{refinedFlags}
 use Rattle.rules.proofs.index.find_refined.Statement.{statement}
 use Rattle.rules.proofs.index.find_refined.Tie as tie
 
-fuel-class-requires : tie.Need-fuel-class-requires
-fuel-class-requires c κs = search needs
-
 refined : {r n : ℕ} → r ≡ n → (eqb r 1 || eqb r 2) ≡ (eqb n 1 either eqb n 2)
 refined e = any (λ i. eqb (e i) 1) (λ i. eqb (e i) 2)
 
@@ -25,4 +22,4 @@ unfolding refinedFlags
 returns-2 c = sym (choose-f _ (is (refined (c .before .fuel-class .ensures)) (c .if1 .left)) refl)
 
 pub find-refined-spec : {M : Type 1} → statement M
-find-refined-spec = tie.close (tie.spec fuel-class-requires returns returns-2)
+find-refined-spec = tie.close (tie.spec (λ c κs. search needs) returns returns-2)

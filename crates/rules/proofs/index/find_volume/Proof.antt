@@ -6,12 +6,6 @@ use Rattle.rules.specs.Index.{volumeOf}
 use Rattle.rules.proofs.index.find_volume.Statement.{statement}
 use Rattle.rules.proofs.index.find_volume.Tie as tie
 
-fuel-kind-requires : tie.Need-fuel-kind-requires
-fuel-kind-requires c κs = search needs
-
-molar-volume-requires : tie.Need-molar-volume-requires
-molar-volume-requires c κs = search needs
-
 returns : tie.Need-returns
 unfolding volumeOf
 returns c =
@@ -23,4 +17,4 @@ unfolding volumeOf
 returns-2 c = sym (choose-f _ (ne-of (c .before .fuel-kind .ensures) (c .if1 .left)) refl)
 
 pub find-volume-spec : {M : Type 1} → statement M
-find-volume-spec = tie.close (tie.spec fuel-kind-requires molar-volume-requires returns returns-2)
+find-volume-spec = tie.close (tie.spec (λ c κs. search needs) (λ c κs. search needs) returns returns-2)

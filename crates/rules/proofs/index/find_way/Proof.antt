@@ -6,9 +6,6 @@ use Rattle.rules.specs.Index.{wayOf}
 use Rattle.rules.proofs.index.find_way.Statement.{statement}
 use Rattle.rules.proofs.index.find_way.Tie as tie
 
-is-monitored-requires : tie.Need-is-monitored-requires
-is-monitored-requires c κs = search needs
-
 returns : tie.Need-returns
 unfolding wayOf
 returns c = sym (choose-t _ (is (c .before .is-monitored .ensures) (c .if1 .taken)) refl)
@@ -18,4 +15,4 @@ unfolding wayOf
 returns-2 c = sym (choose-f _ (is (c .before .is-monitored .ensures) (c .if1 .left)) refl)
 
 pub find-way-spec : {M : Type 1} → statement M
-find-way-spec = tie.close (tie.spec is-monitored-requires returns returns-2)
+find-way-spec = tie.close (tie.spec (λ c κs. search needs) returns returns-2)

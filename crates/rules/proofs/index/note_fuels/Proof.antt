@@ -27,10 +27,8 @@ note-fuel-lines-requires c κs =
     let begun = c .before .before .before .before .before in
     (rising-linesSound fuelOk _ (known begun .fuels-sound), begun .pre .1)
 
-returns : tie.Need-returns
-returns c = search needs
-
 pub note-fuels-spec : {M : Type 1} → statement M
 note-fuels-spec =
     tie.close
-    (tie.spec sub-end sub-note-fuel-lines part-note-fuel-lines-start part-note-fuel-lines-end note-fuel-lines-requires returns)
+    (tie.spec sub-end sub-note-fuel-lines part-note-fuel-lines-start part-note-fuel-lines-end
+    note-fuel-lines-requires (λ c. search needs))

@@ -24,10 +24,8 @@ note-unit-lines-requires c κs =
     let begun = c .before .before .before .before in
     (rising-linesSound unitOk _ (known begun .units-sound), begun .pre .1)
 
-returns : tie.Need-returns
-returns c = search needs
-
 pub note-units-spec : {M : Type 1} → statement M
 note-units-spec =
     tie.close
-    (tie.spec sub-note-unit-lines part-note-unit-lines-start part-note-unit-lines-end note-unit-lines-requires returns)
+    (tie.spec sub-note-unit-lines part-note-unit-lines-start part-note-unit-lines-end note-unit-lines-requires
+    (λ c. search needs))

@@ -11,29 +11,8 @@ use Rattle.rules.proofs.SortingLaws.{heatLimit-right}
 use Rattle.rules.proofs.sorting.find_burned.Statement.{statement}
 use Rattle.rules.proofs.sorting.find_burned.Tie as tie
 
-flags-requires : tie.Need-flags-requires
-flags-requires c κs = search needs
-
-cast-measured : tie.Need-cast-measured
-cast-measured c = search needs
-
 find-measured-requires : tie.Need-find-measured-requires
 find-measured-requires c κs = (search needs, heatLimit-right _ (c .before .before .pre .1))
-
-amount-requires : tie.Need-amount-requires
-amount-requires c κs = search needs
-
-cast-result : tie.Need-cast-result
-cast-result c = search needs
-
-cast-result-2 : tie.Need-cast-result-2
-cast-result-2 c = search needs
-
-add-result : tie.Need-add-result
-add-result c = search needs
-
-sub-result : tie.Need-sub-result
-sub-result c = search needs
 
 mul-result : tie.Need-mul-result
 mul-result c =
@@ -58,14 +37,5 @@ returns c =
 pub find-burned-spec : {M : Type 1} → statement M
 find-burned-spec =
     tie.close
-    (tie.spec
-    flags-requires
-    cast-measured
-    find-measured-requires
-    amount-requires
-    cast-result
-    cast-result-2
-    add-result
-    sub-result
-    mul-result
-    returns)
+    (tie.spec (λ c κs. search needs) (λ c. search needs) find-measured-requires (λ c κs. search needs)
+    (λ c. search needs) (λ c. search needs) (λ c. search needs) (λ c. search needs) mul-result returns)

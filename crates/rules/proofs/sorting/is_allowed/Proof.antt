@@ -7,15 +7,6 @@ use Rattle.rules.specs.AtOnce.{allowedBy}
 use Rattle.rules.proofs.sorting.is_allowed.Statement.{statement}
 use Rattle.rules.proofs.sorting.is_allowed.Tie as tie
 
-flags-requires : tie.Need-flags-requires
-flags-requires c κs = search needs
-
-cast-flags : tie.Need-cast-flags
-cast-flags c = search needs
-
-shr-result : tie.Need-shr-result
-shr-result c = search needs
-
 returns : tie.Need-returns
 unfolding allowedBy
 returns c =
@@ -24,4 +15,4 @@ returns c =
     λ i. eqb (bitAnd (bitOr (a .permits) (a .refined)) (a .allowed) / 2 ^ (flags i % 32) % 2) 1
 
 pub is-allowed-spec : {M : Type 1} → statement M
-is-allowed-spec = tie.close (tie.spec flags-requires cast-flags shr-result returns)
+is-allowed-spec = tie.close (tie.spec (λ c κs. search needs) (λ c. search needs) (λ c. search needs) returns)

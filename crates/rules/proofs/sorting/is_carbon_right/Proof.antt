@@ -8,15 +8,6 @@ use Rattle.rules.specs.AtOnce.{carbonRight}
 use Rattle.rules.proofs.sorting.is_carbon_right.Statement.{statement}
 use Rattle.rules.proofs.sorting.is_carbon_right.Tie as tie
 
-flags-requires : tie.Need-flags-requires
-flags-requires c κs = search needs
-
-cast-measured : tie.Need-cast-measured
-cast-measured c = search needs
-
-carbon-requires : tie.Need-carbon-requires
-carbon-requires c κs = search needs
-
 mul-result : tie.Need-mul-result
 mul-result c =
     let limit = c .before .before .before .args .limit in
@@ -34,4 +25,4 @@ returns c =
 
 pub is-carbon-right-spec : {M : Type 1} → statement M
 is-carbon-right-spec =
-    tie.close (tie.spec flags-requires cast-measured carbon-requires mul-result returns)
+    tie.close (tie.spec (λ c κs. search needs) (λ c. search needs) (λ c κs. search needs) mul-result returns)

@@ -6,18 +6,6 @@ use Rattle.rules.specs.AtOnce.{formRight}
 use Rattle.rules.proofs.sorting.is_form_right.Statement.{statement}
 use Rattle.rules.proofs.sorting.is_form_right.Tie as tie
 
-flags-requires : tie.Need-flags-requires
-flags-requires c κs = search needs
-
-period-requires : tie.Need-period-requires
-period-requires c κs = search needs
-
-amount-requires : tie.Need-amount-requires
-amount-requires c κs = search needs
-
-is-fuel-record-blank-requires : tie.Need-is-fuel-record-blank-requires
-is-fuel-record-blank-requires c κs = search needs
-
 returns : tie.Need-returns
 unfolding formRight
 returns c =
@@ -30,4 +18,5 @@ returns c =
 pub is-form-right-spec : {M : Type 1} → statement M
 is-form-right-spec =
     tie.close
-    (tie.spec flags-requires period-requires amount-requires is-fuel-record-blank-requires returns)
+    (tie.spec (λ c κs. search needs) (λ c κs. search needs) (λ c κs. search needs) (λ c κs. search needs)
+    returns)

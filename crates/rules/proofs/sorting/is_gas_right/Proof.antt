@@ -7,27 +7,6 @@ use Rattle.rules.specs.AtOnce.{gasRight}
 use Rattle.rules.proofs.sorting.is_gas_right.Statement.{statement}
 use Rattle.rules.proofs.sorting.is_gas_right.Tie as tie
 
-flags-requires : tie.Need-flags-requires
-flags-requires c κs = search needs
-
-period-requires : tie.Need-period-requires
-period-requires c κs = search needs
-
-amount-requires : tie.Need-amount-requires
-amount-requires c κs = search needs
-
-carbon-requires : tie.Need-carbon-requires
-carbon-requires c κs = search needs
-
-molecular-weight-requires : tie.Need-molecular-weight-requires
-molecular-weight-requires c κs = search needs
-
-is-carbon-flagged-requires : tie.Need-is-carbon-flagged-requires
-is-carbon-flagged-requires c κs = search needs
-
-is-gas-blank-requires : tie.Need-is-gas-blank-requires
-is-gas-blank-requires c κs = search needs
-
 returns : tie.Need-returns
 unfolding gasRight
 returns c =
@@ -47,12 +26,5 @@ returns c =
 pub is-gas-right-spec : {M : Type 1} → statement M
 is-gas-right-spec =
     tie.close
-    (tie.spec
-    flags-requires
-    period-requires
-    amount-requires
-    carbon-requires
-    molecular-weight-requires
-    is-carbon-flagged-requires
-    is-gas-blank-requires
-    returns)
+    (tie.spec (λ c κs. search needs) (λ c κs. search needs) (λ c κs. search needs) (λ c κs. search needs)
+    (λ c κs. search needs) (λ c κs. search needs) (λ c κs. search needs) returns)

@@ -7,21 +7,6 @@ use Rattle.rules.specs.AtOnce.{heatRight}
 use Rattle.rules.proofs.sorting.is_heat_right.Statement.{statement}
 use Rattle.rules.proofs.sorting.is_heat_right.Tie as tie
 
-flags-requires : tie.Need-flags-requires
-flags-requires c κs = search needs
-
-cast-measured : tie.Need-cast-measured
-cast-measured c = search needs
-
-heat-requires : tie.Need-heat-requires
-heat-requires c κs = search needs
-
-flags-requires-2 : tie.Need-flags-requires-2
-flags-requires-2 c κs = search needs
-
-mul-result : tie.Need-mul-result
-mul-result c = search needs
-
 returns : tie.Need-returns
 unfolding heatRight
 returns c =
@@ -34,4 +19,5 @@ returns c =
 pub is-heat-right-spec : {M : Type 1} → statement M
 is-heat-right-spec =
     tie.close
-    (tie.spec flags-requires cast-measured heat-requires flags-requires-2 mul-result returns)
+    (tie.spec (λ c κs. search needs) (λ c. search needs) (λ c κs. search needs) (λ c κs. search needs)
+    (λ c. search needs) returns)

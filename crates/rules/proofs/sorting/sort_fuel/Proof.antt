@@ -105,20 +105,8 @@ found c =
 take-line-requires : tie.Need-take-line-requires
 take-line-requires c κs = let k = accepted-facts _ _ (c .before .pre .0) in omega arith
 
-unit-number-requires : tie.Need-unit-number-requires
-unit-number-requires c κs = search needs
-
-fuel-number-requires : tie.Need-fuel-number-requires
-fuel-number-requires c κs = search needs
-
-element-copy-out-j : tie.Need-element-copy-out-j
-element-copy-out-j c = search needs
-
 cast-j : tie.Need-cast-j
 cast-j c = omega (arith, unit-few (c .before))
-
-element-copy-out-k : tie.Need-element-copy-out-k
-element-copy-out-k c = search needs
 
 cast-k : tie.Need-cast-k
 cast-k c = omega (arith, fuel-few (c .before .before))
@@ -180,30 +168,6 @@ mul-is-allowed-3 c = omega (arith, fuel-few (compared (c .before .before .before
 element-copy-out-is-allowed-3 : tie.Need-element-copy-out-is-allowed-3
 element-copy-out-is-allowed-3 c = omega (arith, fuel-few (compared (c .before .before .before .before)))
 
-is-allowed-requires : tie.Need-is-allowed-requires
-is-allowed-requires c κs = search needs
-
-is-form-right-requires : tie.Need-is-form-right-requires
-is-form-right-requires c κs = search needs
-
-is-heat-right-requires : tie.Need-is-heat-right-requires
-is-heat-right-requires c κs = search needs
-
-returns : tie.Need-returns
-returns c = search needs
-
-amount-requires : tie.Need-amount-requires
-amount-requires c κs = search needs
-
-cast-carbon : tie.Need-cast-carbon
-cast-carbon c = search needs
-
-carbon-requires : tie.Need-carbon-requires
-carbon-requires c κs = search needs
-
-cast-carbon-2 : tie.Need-cast-carbon-2
-cast-carbon-2 c = search needs
-
 mul-carbon : tie.Need-mul-carbon
 mul-carbon c =
     let product : c .before .amount .result * c .carbon .result ≤ 4294967295 * 4294967295 =
@@ -228,12 +192,6 @@ cast-t36 c = omega (arith, way-le (looked (c .before .before .before)))
 add-t40 : tie.Need-add-t40
 add-t40 c = let told = looked (c .before .before .before) in omega (arith, fuel-few told, way-le told)
 
-flags-requires : tie.Need-flags-requires
-flags-requires c κs = search needs
-
-cast-t41 : tie.Need-cast-t41
-cast-t41 c = search needs
-
 find-burned-requires : tie.Need-find-burned-requires
 find-burned-requires c κs = (search needs, tests (c .before .before .before .before) .heats)
 
@@ -252,49 +210,12 @@ returns-2 c =
 pub sort-fuel-spec : {M : Type 1} → statement M
 sort-fuel-spec =
     tie.close
-    (tie.spec
-    take-line-requires
-    unit-number-requires
-    fuel-number-requires
-    element-copy-out-j
-    cast-j
-    element-copy-out-k
-    cast-k
-    mul-unit-right
-    element-copy-out-unit-right
-    cast-unit-right
-    mul-fuel-right
-    element-copy-out-fuel-right
-    cast-fuel-right
-    add-is-carbon-right
-    mul-is-carbon-right
-    element-copy-out-is-carbon-right
-    is-carbon-right-requires
-    add-is-allowed
-    mul-is-allowed
-    element-copy-out-is-allowed
-    add-is-allowed-2
-    mul-is-allowed-2
-    element-copy-out-is-allowed-2
-    add-is-allowed-3
-    mul-is-allowed-3
-    element-copy-out-is-allowed-3
-    is-allowed-requires
-    is-form-right-requires
-    is-heat-right-requires
-    returns
-    amount-requires
-    cast-carbon
-    carbon-requires
-    cast-carbon-2
-    mul-carbon
-    mul-t19
-    add-t30
-    mul-t35
-    element-copy-out-t39
-    cast-t36
-    add-t40
-    flags-requires
-    cast-t41
-    find-burned-requires
-    returns-2)
+    (tie.spec take-line-requires (λ c κs. search needs) (λ c κs. search needs) (λ c. search needs) cast-j
+    (λ c. search needs) cast-k mul-unit-right element-copy-out-unit-right cast-unit-right mul-fuel-right
+    element-copy-out-fuel-right cast-fuel-right add-is-carbon-right mul-is-carbon-right
+    element-copy-out-is-carbon-right is-carbon-right-requires add-is-allowed mul-is-allowed
+    element-copy-out-is-allowed add-is-allowed-2 mul-is-allowed-2 element-copy-out-is-allowed-2 add-is-allowed-3
+    mul-is-allowed-3 element-copy-out-is-allowed-3 (λ c κs. search needs) (λ c κs. search needs)
+    (λ c κs. search needs) (λ c. search needs) (λ c κs. search needs) (λ c. search needs) (λ c κs. search needs)
+    (λ c. search needs) mul-carbon mul-t19 add-t30 mul-t35 element-copy-out-t39 cast-t36 add-t40
+    (λ c κs. search needs) (λ c. search needs) find-burned-requires returns-2)

@@ -105,20 +105,8 @@ way-le c = way-found-le (found c) (tests c) (analysed c)
 take-line-requires : tie.Need-take-line-requires
 take-line-requires c κs = let k = accepted-facts _ _ (c .before .pre .0) in omega arith
 
-unit-number-requires : tie.Need-unit-number-requires
-unit-number-requires c κs = search needs
-
-fuel-number-requires : tie.Need-fuel-number-requires
-fuel-number-requires c κs = search needs
-
-element-copy-out-j : tie.Need-element-copy-out-j
-element-copy-out-j c = search needs
-
 cast-j : tie.Need-cast-j
 cast-j c = omega (arith, unit-few (c .before))
-
-element-copy-out-k : tie.Need-element-copy-out-k
-element-copy-out-k c = search needs
 
 cast-k : tie.Need-cast-k
 cast-k c = omega (arith, fuel-few (c .before .before))
@@ -159,18 +147,6 @@ mul-is-allowed c = omega (arith, fuel-few (compared (c .before)))
 element-copy-out-is-allowed : tie.Need-element-copy-out-is-allowed
 element-copy-out-is-allowed c = omega (arith, fuel-few (compared (c .before)))
 
-is-allowed-requires : tie.Need-is-allowed-requires
-is-allowed-requires c κs = search needs
-
-is-gas-right-requires : tie.Need-is-gas-right-requires
-is-gas-right-requires c κs = search needs
-
-is-heat-right-requires : tie.Need-is-heat-right-requires
-is-heat-right-requires c κs = search needs
-
-returns : tie.Need-returns
-returns c = search needs
-
 add-way : tie.Need-add-way
 add-way c = omega (arith, unit-few (looked c))
 
@@ -180,9 +156,6 @@ mul-way c = omega (arith, unit-few (looked c))
 element-copy-out-way : tie.Need-element-copy-out-way
 element-copy-out-way c = omega (arith, unit-few (looked c))
 
-amount-requires : tie.Need-amount-requires
-amount-requires c κs = search needs
-
 sub-t51 : tie.Need-sub-t51
 sub-t51 c = omega (arith, way-le (c .before .before))
 
@@ -191,12 +164,6 @@ mul-t52 c =
     let product : c .amount .result * (1 - way (c .before .before) / 4) ≤ 4294967295 * 1 =
     mul-le-mul {n₂ = 4294967295} {m₂ = 1} (omega arith) (omega arith) in
     omega arith
-
-carbon-requires : tie.Need-carbon-requires
-carbon-requires c κs = search needs
-
-molecular-weight-requires : tie.Need-molecular-weight-requires
-molecular-weight-requires c κs = search needs
 
 weigh-requires : tie.Need-weigh-requires
 weigh-requires c κs =
@@ -212,15 +179,6 @@ cast-t34 c = omega (arith, way-le (c .before .before .before .before .before))
 
 add-t54 : tie.Need-add-t54
 add-t54 c = let done = c .before .before .before .before .before in omega (arith, fuel-few (looked done), way-le done)
-
-flags-requires : tie.Need-flags-requires
-flags-requires c κs = search needs
-
-cast-t55 : tie.Need-cast-t55
-cast-t55 c = search needs
-
-add-t57 : tie.Need-add-t57
-add-t57 c = search needs
 
 find-burned-requires : tie.Need-find-burned-requires
 find-burned-requires c κs = (search needs, tests (c .before .before .before .before .before .before) .heats)
@@ -243,44 +201,10 @@ returns-2 c =
 pub sort-gas-spec : {M : Type 1} → statement M
 sort-gas-spec =
     tie.close
-    (tie.spec
-    take-line-requires
-    unit-number-requires
-    fuel-number-requires
-    element-copy-out-j
-    cast-j
-    element-copy-out-k
-    cast-k
-    mul-unit-right
-    element-copy-out-unit-right
-    cast-unit-right
-    mul-fuel-right
-    element-copy-out-fuel-right
-    cast-fuel-right
-    add-volume
-    mul-volume
-    element-copy-out-volume
-    add-is-allowed
-    mul-is-allowed
-    element-copy-out-is-allowed
-    is-allowed-requires
-    is-gas-right-requires
-    is-heat-right-requires
-    returns
-    add-way
-    mul-way
-    element-copy-out-way
-    amount-requires
-    sub-t51
-    mul-t52
-    carbon-requires
-    molecular-weight-requires
-    weigh-requires
-    mul-t23
-    cast-t34
-    add-t54
-    flags-requires
-    cast-t55
-    add-t57
-    find-burned-requires
-    returns-2)
+    (tie.spec take-line-requires (λ c κs. search needs) (λ c κs. search needs) (λ c. search needs) cast-j
+    (λ c. search needs) cast-k mul-unit-right element-copy-out-unit-right cast-unit-right mul-fuel-right
+    element-copy-out-fuel-right cast-fuel-right add-volume mul-volume element-copy-out-volume add-is-allowed
+    mul-is-allowed element-copy-out-is-allowed (λ c κs. search needs) (λ c κs. search needs)
+    (λ c κs. search needs) (λ c. search needs) add-way mul-way element-copy-out-way (λ c κs. search needs)
+    sub-t51 mul-t52 (λ c κs. search needs) (λ c κs. search needs) weigh-requires mul-t23 cast-t34 add-t54
+    (λ c κs. search needs) (λ c. search needs) (λ c. search needs) find-burned-requires returns-2)
