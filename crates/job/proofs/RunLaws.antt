@@ -1,5 +1,6 @@
 -- A run, record by record and in legs. Assumes nothing.
 use Prim.Native.Nat.{ℕ, zero, suc, _+_, _-_, _*_, _<_, _≤_}
+use mathlib.Core.Bool.{Bool}
 use mathlib.Core.List.{List}
 use mathlib.Core.Path.{_≡_, refl, sym, ap, _∙_, subst}
 use native.Mathlib.Nat.{le-trans}
@@ -8,15 +9,18 @@ use native.Mathlib.Omega.{arith}
 use lib.ListN.{replicate}
 use Rattle.rules.specs.declared.book.Head.{Head}
 use Rattle.rules.specs.declared.record.Outcome.{Outcome}
-use Rattle.rules.specs.Book.{opened, accepted}
+use Rattle.rules.specs.Bytes.{lines}
+use Rattle.rules.specs.Book.{unitLines, opened, accepted}
 use Rattle.rules.specs.Record.{outcomeAt}
+use Rattle.rules.specs.Table.{Known}
 use Rattle.rules.proofs.BookLaws.{accepted-facts}
 use Rattle.job.specs.declared.counts.Counts.{Counts}
 use Rattle.job.specs.State.{_plus_, each, State, ledgers, gives, fresh, counted, after, run}
 use Rattle.job.specs.Bounds.{FitFor}
 use Rattle.job.specs.Checkpoint.{checkpointSize, ledgerPlace, doneIn, decode, countsIn, massIn}
 use Rattle.job.specs.Wake.{admittedFor}
-use Rattle.job.specs.Words.{words, carriesEach, massAt, stateIn, massesOn, stateOn, Kept, Light, Gone}
+use Rattle.job.specs.Words.{words, carriesEach, massAt, countsAt, stateIn, massesOn, stateOn, Light, Gone}
+use Rattle.job.specs.Leg.{Before, Went}
 use Rattle.job.proofs.PlacesLaws.{plus-assoc, length-each, getD-each, each-same, each-each}
 use Rattle.job.proofs.PutLaws.{word-blank}
 use Rattle.job.proofs.StateLaws.{after-done, run-done, run-run, fitFor-run}
@@ -188,11 +192,22 @@ module _ (h : Head) (k f : List ℕ) (o : opened k ≡ accepted h) (a : admitted
         omega (arith, fit .masses-le i p, getD-each (λ j. massIn f j + massAt w j) ledgers i p),
       )
 
--- Two legs of records gone through are one.
-pub gone-on : (h : Head) (k f : List ℕ) (c d : Counts) (w v : List ℕ) → Gone h k f c w → c .done ≤ d .done
-    → stateIn d v ≡ run h k (stateIn c w) (d .done - c .done) → Kept (carriesEach * d .done) v → Gone h k f d v
-gone-on h k f c d w v g l e kept = record {
-  place = le-trans (g .place) l;
-  state = run-legs h k (begun f) (doneIn f) (c .done) (d .done) (g .place) l (g .state) e;
-  kept = kept;
-}
+-- ---- from records gone through up to place p on to u
+module _ {h : Head} {k f : List ℕ} {p u : ℕ} {a w : List ℕ} (g : Gone h k f (countsAt p a) w) where
+  pub before-gone : {t : List ℕ} → opened k ≡ accepted h → admittedFor h f ≡ accepted h → p ≤ u → u ≤ h .n
+      → Known (lines p k) (unitLines h k) t → Before h k p u a w t
+  before-gone o q l m known = record {
+    fit = fitFor-gone h k f o q (countsAt p a) w g (le-trans l m);
+    kept = g .kept;
+    from-le = l;
+    end-le = m;
+    known = known;
+  }
+
+  -- Two legs of records gone through are one.
+  pub gone-went : {s : Bool} {r : ℕ} {b v : List ℕ} → Went h k p u s a w r b v → Gone h k f (countsAt r b) v
+  gone-went x = record {
+    place = le-trans (g .place) (x .from-le);
+    state = run-legs h k (begun f) (doneIn f) p _ (g .place) (x .from-le) (g .state) (x .state);
+    kept = x .kept;
+  }

@@ -1,7 +1,13 @@
--- What is said of one record more, in a leg of a wake. This serves the code; the definitions of the calls don't need it.
+-- What is said of one record more, in a leg of a wake, and of the records from a place on. This serves the code; the
+-- definitions of the calls don't need it.
 --
---     Aside h k p a b          a is what was said of records set aside before record p of the book k, with the head h,
---                              and b what is said with it
+--     Before h k p u a w t     what holds before the records from place p to u of the book k, with the head h, are gone
+--                              through: a tells of those set aside before, w has what the others gave, a table t is known
+--     Went h k p u s a w r b v
+--                              they are gone through up to place r, which is u unless it was to stop (s); b and v are
+--                              then what a and w were
+--
+--     Aside h k p a b          a is what was said of records set aside before record p, and b what is said with it
 --     Took h k p a w b v       so it is with the counts, and the words are then v where they were w
 --     TookShare h k p a w d b v e    the same, where the shares are then e where they were d
 --     Taking h k p s a w d t r b v e u
@@ -14,9 +20,9 @@
 --     sharedBy s d, addedBy s w    the shares and the words once s is taken
 --     weighedBy x w, AsideBy p x a b    the words once x is taken, and what is then said of records set aside
 --
--- Laws: proofs/LegLaws.antt. Definitions only.
-use Prim.Native.Nat.{ℕ, _+_, _<_}
-use mathlib.Core.Bool.{Bool, true}
+-- Laws: proofs/LegLaws.antt, proofs/RunLaws.antt. Definitions only.
+use Prim.Native.Nat.{ℕ, _+_, _-_, _*_, _<_, _≤_}
+use mathlib.Core.Bool.{Bool, true, false}
 use mathlib.Core.List.{List}
 use mathlib.Core.Path.{_≡_}
 use lib.ListN.{getD}
@@ -26,16 +32,33 @@ use Rattle.rules.specs.declared.sorting.Sorted.{Sorted}
 use Rattle.rules.specs.declared.sorting.Sorted.the-variants as sorted
 use Rattle.rules.specs.declared.weighing.Weighed.{Weighed}
 use Rattle.rules.specs.declared.weighing.Weighed.the-variants as weighed
-use Rattle.rules.specs.Bytes.{line}
+use Rattle.rules.specs.Bytes.{line, lines}
 use Rattle.rules.specs.Book.{unitLines, fuelLines}
 use Rattle.rules.specs.Record.{outcomeAt}
-use Rattle.rules.specs.Table.{noting}
+use Rattle.rules.specs.Table.{noting, Known}
 use Rattle.job.specs.declared.run.Taken.{Taken}
 use Rattle.job.specs.declared.run.Taken.the-variants.{Done, Unsure, Stopped}
-use Rattle.job.specs.State.{mass, ledgers, fossil, gives, counted}
-use Rattle.job.specs.Words.{full, massAt, added, countsAt, Kept}
+use Rattle.job.specs.State.{mass, ledgers, fossil, gives, counted, run}
+use Rattle.job.specs.Bounds.{FitFor}
+use Rattle.job.specs.Words.{carriesEach, full, massAt, countsAt, stateIn, added, Kept}
 use Rattle.job.specs.Shares.{shared, sharesAt, Held}
 
+-- ---- the records from a place on
+pub record Before (h : Head) (k : List ℕ) (p u : ℕ) (a w t : List ℕ) : Type 0 where
+  pub fit : FitFor h (stateIn (countsAt p a) w)
+  pub kept : Kept (carriesEach * p) w
+  pub from-le : p ≤ u
+  pub end-le : u ≤ h .n
+  pub known : Known (lines p k) (unitLines h k) t
+
+pub record Went (h : Head) (k : List ℕ) (p u : ℕ) (s : Bool) (a w : List ℕ) (r : ℕ) (b v : List ℕ) : Type 0 where
+  pub state : stateIn (countsAt r b) v ≡ run h k (stateIn (countsAt p a) w) (r - p)
+  pub kept : Kept (carriesEach * r) v
+  pub from-le : p ≤ r
+  pub end-le : r ≤ u
+  pub whole : s ≡ false → r ≡ u
+
+-- ---- one record more
 abbrev pub Aside : Head → List ℕ → ℕ → List ℕ → List ℕ → Type 0
 Aside h k p a b = countsAt (p + 1) b ≡ counted (countsAt p a) (outcomeAt h k p)
 

@@ -1,7 +1,7 @@
 -- Two legs are one, and a leg that doesn't come to its end was to stop. Assumes nothing.
 use Prim.Native.Nat.{ℕ, _-_, _*_, _≤_, _<_}
 use mathlib.Core.Path.{_≡_, refl, sym, ap, _∙_, subst}
-use native.Mathlib.Nat.{le-refl, le-trans}
+use native.Mathlib.Nat.{le-refl, le-trans, le-of-lt}
 use native.Mathlib.Omega.{arith}
 use lib.ListN.{length}
 use borrow.Author.Needs.{needs}
@@ -39,7 +39,7 @@ loop-holds c =
     let a = s .args in
     let p = s .pre .1 in
     let none = gone-first (a .place) in
-    (le-refl _, p .1 .1 .0 .0, ap (run (a .h) (a .book .now) (stateIn (countsAt (a .place) (a .aside .now)) (a .w .now))) none, p .1 .0, p .1 .1 .1, refl, refl)
+    (le-refl _, p .from-le, ap (run (a .h) (a .book .now) (stateIn (countsAt (a .place) (a .aside .now)) (a .w .now))) none, p .kept, p .known, refl, refl)
 
 abbrev start : tie.At-loop Inv-loop μ-loop → tie.Start Inv-loop μ-loop
 start c = c .before .before .before .before .before .before
@@ -58,9 +58,21 @@ go-on-requires c κs =
     let p = s .pre .1 in
     let inv = at .loop .inv in
     let end = ended .find-end .ensures in
-    let there = gone-none _ _ _ (inv .0) (le-trans (inv .1) (p .1 .1 .0 .1)) in
-    let fit = fitFor-run (a .h) (a .book .now) (stateIn (countsAt (a .place) (a .aside .now)) (a .w .now)) (at .loop .at - a .place) (s .pre .0) there (p .0) in
-    (s .pre .0, (subst (FitFor (a .h)) (sym (inv .2)) fit, (inv .3, ((end .2 (test .loop-test .taken), le-trans (end .0) (p .1 .1 .0 .1), end .1), inv .4))))
+    let on = end .2 (test .loop-test .taken) in
+    let there = gone-none _ _ _ (inv .0) (le-trans (inv .1) (p .end-le)) in
+    let fit = fitFor-run (a .h) (a .book .now) (stateIn (countsAt (a .place) (a .aside .now)) (a .w .now)) (at .loop .at - a .place) (s .pre .0) there (p .fit) in (
+      s .pre .0,
+      (
+        record {
+          fit = subst (FitFor (a .h)) (sym (inv .2)) fit;
+          kept = inv .3;
+          from-le = le-of-lt on;
+          end-le = le-trans (end .0) (p .end-le);
+          known = inv .4;
+        },
+        (on, end .1),
+      ),
+    )
 
 -- From where a leg ends, the head of the turn.
 abbrev turned : tie.After-go-on Inv-loop μ-loop → tie.At-loop Inv-loop μ-loop
@@ -75,15 +87,15 @@ legs : (c : tie.After-go-on Inv-loop μ-loop) →
 legs c =
     let at = turned c in
     let a = start at .args in
-    let leg = c .go-on .ensures in
-    run-legs (a .h) (a .book .now) _ (a .place) (at .loop .at) (c .go-on .result) (at .loop .inv .0) (leg .1 .1 .0 .0) (at .loop .inv .2) (leg .0)
+    let leg = c .go-on .ensures .0 in
+    run-legs (a .h) (a .book .now) _ (a .place) (at .loop .at) (c .go-on .result) (at .loop .inv .0) (leg .from-le) (at .loop .inv .2) (leg .state)
 
 within : (c : tie.After-go-on Inv-loop μ-loop) →
     let a = start (turned c) .args in
     (a .place ≤ c .go-on .result) × (c .go-on .result ≤ a .until)
 within c =
-    let leg = c .go-on .ensures .1 .1 .0 in
-    (le-trans (turned c .loop .inv .0) (leg .0), le-trans (leg .1) (c .before .before .before .before .find-end .ensures .0))
+    let leg = c .go-on .ensures .0 in
+    (le-trans (turned c .loop .inv .0) (leg .from-le), le-trans (leg .end-le) (c .before .before .before .before .find-end .ensures .0))
 
 same-length-3 : tie.Need-same-length-3 Inv-loop μ-loop
 same-length-3 c =
@@ -101,9 +113,15 @@ short q l = omega arith
 returns-2 : tie.Need-returns-2 Inv-loop μ-loop
 returns-2 c =
     let on = c .before .before .before .before .before in
-    let leg = on .go-on .ensures in
+    let leg = on .go-on .ensures .0 in
     let there = within on in
-    (legs on, (leg .1 .0, (there .0, there .1, λ e. absurd (short (leg .1 .1 .0 .2 e) (c .if2 .taken)))))
+    record {
+      state = legs on;
+      kept = leg .kept;
+      from-le = there .0;
+      end-le = there .1;
+      whole = λ e. absurd (short (leg .whole e) (c .if2 .taken));
+    }
 
 less : {d e r u : ℕ} → d < e → e ≤ r → r ≤ u → u - r < u - d
 less l m n = omega arith
@@ -122,8 +140,8 @@ loop-again c =
       there .0,
       there .1,
       legs on,
-      leg .1 .0,
-      leg .1 .1 .1,
+      leg .0 .kept,
+      leg .1,
       on .go-on .kept .1 .1 .1 .1 .0 ∙ turned on .loop .inv .5,
       on .go-on .kept .1 .1 .1 .1 .1 .1 .1 .0 ∙ turned on .loop .inv .6,
     )
@@ -131,7 +149,7 @@ loop-again c =
 returns-3 : tie.Need-returns-3 Inv-loop μ-loop
 returns-3 c =
     let inv = c .before .loop .inv in
-    (inv .2, (inv .3, (inv .0, inv .1, λ _. reached (inv .1) (c .loop-test .left))))
+    record { state = inv .2; kept = inv .3; from-le = inv .0; end-le = inv .1; whole = λ _. reached (inv .1) (c .loop-test .left) }
 
 pub go-legs-spec : {M : Type 1} → statement M
 go-legs-spec =

@@ -14,7 +14,7 @@ use Rattle.job.specs.State.{run}
 use Rattle.job.specs.Checkpoint.{doneIn, decode, encode}
 use Rattle.job.specs.Words.{countsAt, stateIn, stateOn, Gone}
 use Rattle.job.proofs.AdmissionLaws.{admittedFor-whole}
-use Rattle.job.proofs.RunLaws.{stateOn-gone, fitFor-gone, light-gone, gone-on}
+use Rattle.job.proofs.RunLaws.{stateOn-gone, fitFor-gone, light-gone, before-gone, gone-went}
 use Rattle.job.proofs.LegLaws.{reason-lt}
 use Rattle.job.proofs.run.go_noting.Statement.{statement}
 use Rattle.job.proofs.run.go_noting.Tie as tie
@@ -34,11 +34,10 @@ go-legs-requires c κs =
     let a = start noted .args in
     let p = start noted .pre in
     let on = p .1 .1 .0 in
-    let fit = fitFor-gone _ _ _ (p .0) (p .1 .1 .1 .0 .0) _ _ (p .1 .0) (le-trans (on .0) (on .1)) in
     let before = lines (a .place) (a .book .now) in
     let units = unitLines (a .h) (a .book .now) in
     let known = known-notedAll before units (length (a .table .now)) (noted .note-records .ensures ∙ ap (notedAll before units) (p .1 .1 .1 .1 .1)) in
-    (p .0, (fit, (p .1 .0 .kept, (on, known))))
+    (p .0, before-gone (p .1 .0) (p .0) (p .1 .1 .1 .0 .0) (on .0) (on .1) known)
 
 -- From where the legs end, the function's entry.
 abbrev entry : tie.After-go-legs → tie.Start
@@ -48,16 +47,14 @@ entry c = start (c .before .before .before .before .before .before)
 gone : (c : tie.After-go-legs) →
     let a = entry c .args in
     Gone (a .h) (a .book .now) (a .from .now) (countsAt (c .go-legs .result) (c .go-legs .last .1 .1 .1 .1 .1 .1 .0)) (c .go-legs .last .1 .1 .1 .1 .1 .1 .1 .0)
-gone c =
-    let there = c .go-legs .ensures in
-    gone-on _ _ _ _ _ _ _ (entry c .pre .1 .0) (there .1 .1 .0) (there .0) (there .1 .0)
+gone c = gone-went (entry c .pre .1 .0) (c .go-legs .ensures)
 
 find-counts-requires : tie.Need-find-counts-requires
 unfolding stateIn
 find-counts-requires c κs =
     let on = c .before .before .before .before .before in
     let p = entry on .pre in
-    let end = le-trans (on .go-legs .ensures .1 .1 .1) (p .1 .1 .0 .1) in
+    let end = le-trans (on .go-legs .ensures .end-le) (p .1 .1 .0 .1) in
     reason-lt _ _ (fitFor-gone _ _ _ (p .0) (p .1 .1 .1 .0 .0) _ _ (gone on) end .counts-fit)
 
 write-requires : tie.Need-write-requires
@@ -65,7 +62,7 @@ write-requires c κs =
     let on = c .before .before .before .before .before .before .before .before in
     let p = entry on .pre in
     let all = gone on in
-    let end = le-trans (on .go-legs .ensures .1 .1 .1) (p .1 .1 .0 .1) in
+    let end = le-trans (on .go-legs .ensures .end-le) (p .1 .1 .0 .1) in
     ((admittedFor-whole _ _ (p .1 .1 .1 .0 .0), all .kept .whole, p .1 .1 .1 .0 .1), light-gone _ _ _ (p .0) (p .1 .1 .1 .0 .0) _ _ all end)
 
 returns : tie.Need-returns
@@ -79,7 +76,7 @@ returns c =
     write .write .ensures
     ∙ ap (λ (t : Counts). encode (a .h) (stateOn t (a .from .now) (on .go-legs .last .1 .1 .1 .1 .1 .1 .1 .0))) (counts .find-counts .ensures)
     ∙ ap (encode (a .h)) there
-    ∙ ap (λ (d : ℕ). encode (a .h) (run (a .h) (a .book .now) (decode (a .from .now)) (d - doneIn (a .from .now)))) (on .go-legs .ensures .1 .1 .2 refl)
+    ∙ ap (λ (d : ℕ). encode (a .h) (run (a .h) (a .book .now) (decode (a .from .now)) (d - doneIn (a .from .now)))) (on .go-legs .ensures .whole refl)
 
 pub go-noting-spec : {M : Type 1} → statement M
 go-noting-spec =

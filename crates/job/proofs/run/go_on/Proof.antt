@@ -5,8 +5,7 @@ use mathlib.Core.Bool.{false≢true}
 use mathlib.Core.List.{List}
 use mathlib.Core.Logic.{⊎-elim}
 use mathlib.Core.Path.{_≡_, refl, sym, ap, _∙_, subst}
-use native.Mathlib.Nat.{le-refl, le-trans}
-use native.Mathlib.Omega.{arith}
+use native.Mathlib.Nat.{le-refl, le-trans, le-of-lt}
 use lib.ListN.{length}
 use borrow.Author.Needs.{needs}
 use Rattle.rules.specs.Bytes.{line, lines}
@@ -38,24 +37,20 @@ Inv-loop book h place until table₀ stop aside₀ w₀ units by-unit fuels by-f
 abbrev μ-loop : tie.MeasureT-loop
 μ-loop book h place until table₀ stop aside₀ w₀ units by-unit fuels by-fuel shares₀ at₀ table aside w shares at = until - at
 
-le-of-lt : {a b : ℕ} → a < b → a ≤ b
-le-of-lt l = omega arith
-
 loop-holds : tie.Need-loop-holds Inv-loop μ-loop
 unfolding run
 loop-holds c =
     let s = c .before .before .before .before .before .before .before .before .before in
     let a = s .args in
-    let p = s .pre .1 in
-    let on = p .1 .1 .0 in
+    let p = s .pre .1 .0 in
     let begun = stateIn (countsAt (a .place) (a .aside .now)) (a .w .now) in
     let none = gone-first (a .place) in (
       le-refl _,
-      le-of-lt (on .0),
+      p .from-le,
       sym (legState-begun (a .h) (a .book .now) (a .place) (a .aside .now) (a .w .now)) ∙ ap (run (a .h) (a .book .now) begun) none,
-      kept-more (a .w .now) (legCarries-first (a .place)) (p .1 .0),
+      kept-more (a .w .now) (legCarries-first (a .place)) (p .kept),
       held-more _ zero-le held-none,
-      p .1 .1 .1,
+      p .known,
       refl,
       refl,
     )
@@ -80,11 +75,10 @@ fits c =
     let at = c .before in
     let s = start at in
     let a = s .args in
-    let p = s .pre .1 in
-    let on = p .1 .1 .0 in
+    let p = s .pre .1 .0 in
     let gone = gone-of _ _ _ (at .loop .inv .0) (c .loop-test .taken) in
-    let there = next-run (a .h) (a .book .now) (stateIn (countsAt (a .place) (a .aside .now)) (a .w .now)) (a .until - a .place) _ (s .pre .0) (p .0)
-    (gone-none _ _ _ (le-of-lt (on .0)) (on .1)) gone (at .loop .inv .2) in
+    let there = next-run (a .h) (a .book .now) (stateIn (countsAt (a .place) (a .aside .now)) (a .w .now)) (a .until - a .place) _ (s .pre .0) (p .fit)
+    (gone-none _ _ _ (p .from-le) (p .end-le)) gone (at .loop .inv .2) in
     (there .0 .counts-fit, there .1)
 
 roomy : (c : tie.In-loop Inv-loop μ-loop) → Kept carries (c .before .loop .w)
@@ -101,7 +95,7 @@ take-quickly-requires c κs =
     let s = start at in
     let fit = fits test in
     let inv = at .loop .inv in
-    let few = leg-left (inv .0) (test .loop-test .taken) (s .pre .1 .1 .1 .0 .2) in (
+    let few = leg-left (inv .0) (test .loop-test .taken) (s .pre .1 .1 .1) in (
       s .pre .0,
       (
         (fit .1, fit .0),
@@ -178,7 +172,7 @@ add-at : tie.Need-add-at Inv-loop μ-loop
 add-at c =
     let quick = c .before .before .before .before .before in
     let s = start (turn quick) in
-    record { fits = place-lt _ _ _ (s .pre .0) (next-le (tested quick .loop-test .taken) (s .pre .1 .1 .1 .0 .1)) }
+    record { fits = place-lt _ _ _ (s .pre .0) (next-le (tested quick .loop-test .taken) (s .pre .1 .0 .end-le)) }
 
 loop-less : tie.Need-loop-less Inv-loop μ-loop
 loop-less c = goes-on c .less
@@ -202,7 +196,7 @@ loop-again c =
       held-more _ (leg-next (inv .0)) (step .0 .held _ (inv .4)),
       known-after (a .book .now) (unitLines (a .h) (a .book .now)) _ (at .at) refl refl (step .1) (inv .5),
       ap length (step .1) ∙ length-noting _ _ _ ∙ inv .6,
-      kept .whole ∙ sym (s .pre .1 .1 .0 .whole),
+      kept .whole ∙ sym (s .pre .1 .0 .kept .whole),
     )
 
 -- Where the leg stops, nothing has changed.
@@ -215,11 +209,11 @@ end-leg-requires c κs =
     let quick = stopping told in
     let at = turn quick .loop in
     let s = start (turn quick) in
-    let on = s .pre .1 .1 .1 .0 in
+    let p = s .pre .1 in
     let same = said quick Stopped (told .enum-told3 .given .1) in (
       s .pre .0,
       (
-        (at .inv .0, le-trans (at .inv .1) (on .1), le-trans (at .inv .1) (on .2)),
+        (at .inv .0, le-trans (at .inv .1) (p .0 .end-le), le-trans (at .inv .1) (p .1 .1)),
         (subst (Held (at .at - s .args .place)) (sym (same .2)) (at .inv .4), subst (Kept _) (sym (same .1)) (at .inv .3)),
       ),
     )
@@ -234,23 +228,23 @@ returns c =
     let same = said quick Stopped (told .enum-told3 .given .1) in
     let end = ended .end-leg .ensures in
     let there = legState-settled (a .h) (a .book .now) (at .at) _ _ _ _ (end .0) ∙ legState-as (a .h) (a .book .now) (at .at) (same .0) (same .1) (same .2) in (
-      there ∙ at .inv .2,
-      (
-        end .1,
-        (
-          (at .inv .0, at .inv .1, λ e. absurd (false≢true (sym e ∙ same .4))),
-          subst (Known (lines (at .at) (a .book .now)) (unitLines (a .h) (a .book .now))) (sym (same .3)) (at .inv .5),
-        ),
-      ),
+      record {
+        state = there ∙ at .inv .2;
+        kept = end .1;
+        from-le = at .inv .0;
+        end-le = at .inv .1;
+        whole = λ e. absurd (false≢true (sym e ∙ same .4));
+      },
+      subst (Known (lines (at .at) (a .book .now)) (unitLines (a .h) (a .book .now))) (sym (same .3)) (at .inv .5),
     )
 
 end-leg-requires-2 : tie.Need-end-leg-requires-2 Inv-loop μ-loop
 end-leg-requires-2 c κs =
     let at = c .before .before .before in
     let s = start at in
-    let on = s .pre .1 .1 .1 .0 in
+    let p = s .pre .1 in
     let inv = at .loop .inv in
-    (s .pre .0, ((inv .0, le-trans (inv .1) (on .1), le-trans (inv .1) (on .2)), (inv .4, inv .3)))
+    (s .pre .0, ((inv .0, le-trans (inv .1) (p .0 .end-le), le-trans (inv .1) (p .1 .1)), (inv .4, inv .3)))
 
 returns-2 : tie.Need-returns-2 Inv-loop μ-loop
 returns-2 c =
@@ -260,8 +254,14 @@ returns-2 c =
     let a = start at .args in
     let inv = at .loop .inv in
     let end = ended .end-leg2 .ensures in (
-      legState-settled (a .h) (a .book .now) (at .loop .at) _ _ _ _ (end .0) ∙ inv .2,
-      (end .1, ((inv .0, inv .1, λ _. reached (inv .1) (test .loop-test .left)), inv .5)),
+      record {
+        state = legState-settled (a .h) (a .book .now) (at .loop .at) _ _ _ _ (end .0) ∙ inv .2;
+        kept = end .1;
+        from-le = inv .0;
+        end-le = inv .1;
+        whole = λ _. reached (inv .1) (test .loop-test .left);
+      },
+      inv .5,
     )
 
 same-length : tie.Need-same-length Inv-loop μ-loop

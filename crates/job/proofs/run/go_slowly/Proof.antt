@@ -34,7 +34,7 @@ loop-holds c =
     let a = s .args in
     let p = s .pre .1 in
     let none = gone-first (a .place) in
-    (le-refl _, p .1 .1 .0 .0, ap (run (a .h) (a .book .now) (stateIn (countsAt (a .place) (a .aside .now)) (a .w .now))) none, p .1 .0, p .1 .1 .1, refl, refl)
+    (le-refl _, p .from-le, ap (run (a .h) (a .book .now) (stateIn (countsAt (a .place) (a .aside .now)) (a .w .now))) none, p .kept, p .known, refl, refl)
 
 abbrev start : tie.At-loop Inv-loop μ-loop → tie.Start Inv-loop μ-loop
 start c = c .before .before .before .before .before .before
@@ -42,13 +42,19 @@ start c = c .before .before .before .before .before .before
 does-stop-requires : tie.Need-does-stop-requires Inv-loop μ-loop
 does-stop-requires c κs =
     let p = start (c .before) .pre in
-    (p .0, lt-of-lt-of-le (c .loop-test .taken) (p .1 .1 .1 .0 .1))
+    (p .0, lt-of-lt-of-le (c .loop-test .taken) (p .1 .end-le))
 
 returns : tie.Need-returns Inv-loop μ-loop
 returns c =
     let stop = c .before .does-stop in
     let inv = c .before .before .before .loop .inv in
-    (inv .2, (inv .3, (inv .0, inv .1, λ e. absurd (false≢true (sym (stop .ensures e) ∙ c .if1 .taken)))))
+    record {
+      state = inv .2;
+      kept = inv .3;
+      from-le = inv .0;
+      end-le = inv .1;
+      whole = λ e. absurd (false≢true (sym (stop .ensures e) ∙ c .if1 .taken));
+    }
 
 take-slowly-requires : tie.Need-take-slowly-requires Inv-loop μ-loop
 unfolding stateIn
@@ -58,10 +64,9 @@ take-slowly-requires c κs =
     let s = start at in
     let a = s .args in
     let p = s .pre .1 in
-    let on = p .1 .1 .0 in
     let gone = gone-of _ _ _ (at .loop .inv .0) (test .loop-test .taken) in
-    let there = next-run (a .h) (a .book .now) (stateIn (countsAt (a .place) (a .aside .now)) (a .w .now)) (a .until - a .place) _ (s .pre .0) (p .0)
-    (gone-none _ _ _ (on .0) (on .1)) gone (at .loop .inv .2) in
+    let there = next-run (a .h) (a .book .now) (stateIn (countsAt (a .place) (a .aside .now)) (a .w .now)) (a .until - a .place) _ (s .pre .0) (p .fit)
+    (gone-none _ _ _ (p .from-le) (p .end-le)) gone (at .loop .inv .2) in
     let few = lt-of-lt-of-le (there .1) (records-le (a .book .now) (a .h) (s .pre .0)) in
     (s .pre .0, ((there .1, there .0 .counts-fit), (at .loop .inv .4, kept-more (at .loop .w) (carriesEach-le few) (at .loop .inv .3))))
 
@@ -78,7 +83,7 @@ add-at : tie.Need-add-at Inv-loop μ-loop
 add-at c =
     let test = tested c in
     let s = start (test .before) in
-    record { fits = place-lt _ _ _ (s .pre .0) (next-le (test .loop-test .taken) (s .pre .1 .1 .1 .0 .1)) }
+    record { fits = place-lt _ _ _ (s .pre .0) (next-le (test .loop-test .taken) (s .pre .1 .end-le)) }
 
 loop-less : tie.Need-loop-less Inv-loop μ-loop
 loop-less c = goes-on c .less
@@ -105,7 +110,7 @@ loop-again c =
 returns-2 : tie.Need-returns-2 Inv-loop μ-loop
 returns-2 c =
     let inv = c .before .loop .inv in
-    (inv .2, (inv .3, (inv .0, inv .1, λ _. reached (inv .1) (c .loop-test .left))))
+    record { state = inv .2; kept = inv .3; from-le = inv .0; end-le = inv .1; whole = λ _. reached (inv .1) (c .loop-test .left) }
 
 pub go-slowly-spec : {M : Type 1} → statement M
 go-slowly-spec =

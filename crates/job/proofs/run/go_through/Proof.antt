@@ -11,7 +11,7 @@ use Rattle.job.specs.State.{run}
 use Rattle.job.specs.Checkpoint.{doneIn, decode, encode}
 use Rattle.job.specs.Words.{words, countsAt, stateIn, stateOn, Gone}
 use Rattle.job.proofs.AdmissionLaws.{admittedFor-whole}
-use Rattle.job.proofs.RunLaws.{place-lt, gone-all, gone-nothing, gone-within, gone-none-yet, stateOn-gone, fitFor-gone, light-gone, gone-on}
+use Rattle.job.proofs.RunLaws.{place-lt, gone-all, gone-nothing, gone-within, gone-none-yet, stateOn-gone, fitFor-gone, light-gone, before-gone, gone-went}
 use Rattle.job.proofs.LegLaws.{reason-lt}
 use Rattle.job.proofs.run.go_through.Statement.{statement}
 use Rattle.job.proofs.run.go_through.Tie as tie
@@ -52,9 +52,7 @@ go-slowly-requires : tie.Need-go-slowly-requires
 go-slowly-requires c κs =
     let s = start (c .before .before .before .before) in
     let p = s .pre in
-    let all = begun s in
-    let fit = fitFor-gone _ _ _ (p .0) (p .1 .0 .0) _ _ all (gone-within (s .args .n) (p .1 .1 .0)) in
-    (p .0, (fit, (all .kept, ((le-add-right _ (s .args .n), p .1 .1 .0), known-none _ _ _ refl))))
+    (p .0, before-gone (begun s) (p .0) (p .1 .0 .0) (le-add-right _ (s .args .n)) (p .1 .1 .0) (known-none _ _ _ refl))
 
 -- From where few records are gone through, the function's entry, and what they give.
 abbrev entry : tie.After-go-slowly → tie.Start
@@ -63,13 +61,10 @@ entry c = start (c .before .before .before .before .before)
 gone : (c : tie.After-go-slowly) →
     let a = entry c .args in
     Gone (a .h) (a .book .now) (a .from .now) (countsAt (c .go-slowly .result) (c .go-slowly .last .1 .1 .1 .1 .1 .1 .1 .1 .0)) (c .go-slowly .last .1 .1 .1 .1 .1 .1 .1 .1 .1 .0)
-gone c =
-    let s = entry c in
-    let there = c .go-slowly .ensures in
-    gone-on _ _ _ _ _ _ _ (begun s) (there .1 .1 .0) (there .0) (there .1 .0)
+gone c = gone-went (begun (entry c)) (c .go-slowly .ensures)
 
 ends : (c : tie.After-go-slowly) → c .go-slowly .result ≤ entry c .args .h .n
-ends c = le-trans (c .go-slowly .ensures .1 .1 .1) (entry c .pre .1 .1 .0)
+ends c = le-trans (c .go-slowly .ensures .end-le) (entry c .pre .1 .1 .0)
 
 find-counts-requires : tie.Need-find-counts-requires
 unfolding stateIn
@@ -96,7 +91,7 @@ returns-2 c =
     write .write2 .ensures
     ∙ ap (λ (t : Counts). encode (a .h) (stateOn t (a .from .now) (slow .go-slowly .last .1 .1 .1 .1 .1 .1 .1 .1 .1 .0))) (counts .find-counts .ensures)
     ∙ ap (encode (a .h)) (stateOn-gone _ _ _ (s .pre .0) (s .pre .1 .0 .0) _ _ (gone slow))
-    ∙ ap (λ (m : ℕ). encode (a .h) (run (a .h) (a .book .now) (decode (a .from .now)) m)) (ap (λ (d : ℕ). d - doneIn (a .from .now)) (slow .go-slowly .ensures .1 .1 .2 refl) ∙ gone-all (a .n) (place s))
+    ∙ ap (λ (m : ℕ). encode (a .h) (run (a .h) (a .book .now) (decode (a .from .now)) m)) (ap (λ (d : ℕ). d - doneIn (a .from .now)) (slow .go-slowly .ensures .whole refl) ∙ gone-all (a .n) (place s))
 
 further : (d n : ℕ) → (n ≡ 0 → ⊥) → d < d + n
 further d n more = omega arith

@@ -1,9 +1,8 @@
 -- Where the legs stopped at a record that can be a repeat, others go on by a table; and all of them are one way.
 -- Assumes nothing.
-use Prim.Native.Nat.{ℕ, _-_, _≤_, _<_}
+use Prim.Native.Nat.{ℕ, _-_, _≤_}
 use mathlib.Core.Path.{refl, ap, _∙_}
-use native.Mathlib.Nat.{le-trans}
-use native.Mathlib.Omega.{arith}
+use native.Mathlib.Nat.{le-trans, le-of-lt}
 use borrow.Author.Needs.{needs}
 use Rattle.rules.proofs.TableLaws.{known-none}
 use Rattle.job.specs.declared.counts.Counts.{Counts}
@@ -11,13 +10,10 @@ use Rattle.job.specs.State.{run}
 use Rattle.job.specs.Checkpoint.{doneIn, decode, encode}
 use Rattle.job.specs.Words.{countsAt, stateIn, stateOn, Gone}
 use Rattle.job.proofs.AdmissionLaws.{admittedFor-whole}
-use Rattle.job.proofs.RunLaws.{stateOn-gone, fitFor-gone, light-gone, gone-on, reached}
+use Rattle.job.proofs.RunLaws.{stateOn-gone, fitFor-gone, light-gone, before-gone, gone-went, reached}
 use Rattle.job.proofs.LegLaws.{reason-lt}
 use Rattle.job.proofs.run.go_to.Statement.{statement}
 use Rattle.job.proofs.run.go_to.Tie as tie
-
-le-of-lt : {a b : ℕ} → a < b → a ≤ b
-le-of-lt l = omega arith
 
 go-by-table-requires : tie.Need-go-by-table-requires
 go-by-table-requires c κs =
@@ -29,9 +25,7 @@ go-legs-requires : tie.Need-go-legs-requires
 go-legs-requires c κs =
     let p = c .before .before .before .before .before .before .before .before .before .pre in
     let on = p .1 .1 .0 in
-    let l = le-of-lt (on .0) in
-    let fit = fitFor-gone _ _ _ (p .0) (p .1 .1 .1 .0) _ _ (p .1 .0) (le-trans l (on .1)) in
-    (p .0, (fit, (p .1 .0 .kept, ((l, on .1), known-none _ _ _ refl))))
+    (p .0, before-gone (p .1 .0) (p .0) (p .1 .1 .1 .0) (le-of-lt (on .0)) (on .1) (known-none _ _ _ refl))
 
 -- From the end of the legs, the function's entry, and what their records give.
 abbrev start : tie.After-go-legs → tie.Start
@@ -40,18 +34,16 @@ start c = c .before .before .before .before .before .before .before .before .bef
 gone : (c : tie.After-go-legs) →
     let a = start c .args in
     Gone (a .h) (a .book .now) (a .from .now) (countsAt (c .go-legs .result) (c .go-legs .last .1 .1 .1 .1 .1 .1 .0)) (c .go-legs .last .1 .1 .1 .1 .1 .1 .1 .0)
-gone c =
-    let there = c .go-legs .ensures in
-    gone-on _ _ _ _ _ _ _ (start c .pre .1 .0) (there .1 .1 .0) (there .0) (there .1 .0)
+gone c = gone-went (start c .pre .1 .0) (c .go-legs .ensures)
 
 end-le : (c : tie.After-go-legs) → c .go-legs .result ≤ start c .args .h .n
-end-le c = le-trans (c .go-legs .ensures .1 .1 .1) (start c .pre .1 .1 .0 .1)
+end-le c = le-trans (c .go-legs .ensures .end-le) (start c .pre .1 .1 .0 .1)
 
 go-by-table-requires-2 : tie.Need-go-by-table-requires-2
 go-by-table-requires-2 c κs =
     let legs = c .before .before .before .before .before .before .before in
     let p = start legs .pre in
-    (p .0, (gone legs, ((legs .go-legs .ensures .1 .1 .1, p .1 .1 .0 .1), p .1 .1 .1)))
+    (p .0, (gone legs, ((legs .go-legs .ensures .end-le, p .1 .1 .0 .1), p .1 .1 .1)))
 
 find-counts-requires : tie.Need-find-counts-requires
 unfolding stateIn
@@ -77,7 +69,7 @@ returns-3 c =
     let s = start legs in
     let a = s .args in
     let there = stateOn-gone _ _ _ (s .pre .0) (s .pre .1 .1 .1 .0) _ _ (gone legs) in
-    let all = reached (legs .go-legs .ensures .1 .1 .1) (ended .if2 .left) in
+    let all = reached (legs .go-legs .ensures .end-le) (ended .if2 .left) in
     write .write .ensures
     ∙ ap (λ (t : Counts). encode (a .h) (stateOn t (a .from .now) (legs .go-legs .last .1 .1 .1 .1 .1 .1 .1 .0))) (counts .find-counts .ensures)
     ∙ ap (encode (a .h)) there
