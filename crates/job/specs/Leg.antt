@@ -36,8 +36,8 @@ use Rattle.rules.specs.Bytes.{line, lines}
 use Rattle.rules.specs.Book.{unitLines, fuelLines}
 use Rattle.rules.specs.Record.{outcomeAt}
 use Rattle.rules.specs.Table.{noting, Known}
-use Rattle.job.specs.declared.run.Taken.{Taken}
-use Rattle.job.specs.declared.run.Taken.the-variants.{Done, Unsure, Stopped}
+use Rattle.job.specs.declared.leg.Taken.{Taken}
+use Rattle.job.specs.declared.leg.Taken.the-variants.{Done, Unsure, Stopped}
 use Rattle.job.specs.State.{mass, ledgers, fossil, gives, counted, run}
 use Rattle.job.specs.Bounds.{FitFor}
 use Rattle.job.specs.Words.{carriesEach, full, massAt, countsAt, stateIn, added, Kept}

@@ -4,6 +4,7 @@ mod admission;
 pub mod checkpoint;
 mod counts;
 mod ledgers;
+mod leg;
 mod put;
 pub mod reply;
 pub mod report;

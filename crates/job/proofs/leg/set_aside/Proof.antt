@@ -6,8 +6,8 @@ use borrow.Author.Needs.{needs}
 use Rattle.job.specs.State.{counted}
 use Rattle.job.specs.Words.{countsAt}
 use Rattle.job.proofs.StateLaws.{counted-first, counted-later}
-use Rattle.job.proofs.run.set_aside.Statement.{statement}
-use Rattle.job.proofs.run.set_aside.Tie as tie
+use Rattle.job.proofs.leg.set_aside.Statement.{statement}
+use Rattle.job.proofs.leg.set_aside.Tie as tie
 
 returns : tie.Need-returns
 unfolding counted

@@ -5,8 +5,8 @@ use borrow.Author.Tests.{not-false}
 use Rattle.job.proofs.WakeLaws.{records-le}
 use Rattle.job.proofs.LegLaws.{aside-lt}
 use Rattle.job.proofs.TakingLaws.{room-sorted, co2-sorted, taking-fuel, taking-gas, light-weighed, taking-weighed}
-use Rattle.job.proofs.run.take_quickly.Statement.{statement}
-use Rattle.job.proofs.run.take_quickly.Tie as tie
+use Rattle.job.proofs.leg.take_quickly.Statement.{statement}
+use Rattle.job.proofs.leg.take_quickly.Tie as tie
 
 abbrev start : tie.After-find-kind → tie.Start
 start c = c .before .before .before .before

@@ -3,8 +3,8 @@ use mathlib.Core.Path.{refl, subst}
 use borrow.Author.Needs.{needs}
 use Rattle.rules.specs.declared.sorting.Sorted.{Sorted}
 use Rattle.job.specs.Leg.{RoomFor}
-use Rattle.job.proofs.run.take_fuel.Statement.{statement}
-use Rattle.job.proofs.run.take_fuel.Tie as tie
+use Rattle.job.proofs.leg.take_fuel.Statement.{statement}
+use Rattle.job.proofs.leg.take_fuel.Tie as tie
 
 add-requires : tie.Need-add-requires
 add-requires c κs =

@@ -6,8 +6,8 @@ use Rattle.rules.specs.declared.sorting.Sorted.{Sorted}
 use Rattle.job.specs.State.{fossil}
 use Rattle.job.specs.Leg.{RoomFor, Co2For}
 use Rattle.job.proofs.WordsLaws.{room}
-use Rattle.job.proofs.run.take_gas.Statement.{statement}
-use Rattle.job.proofs.run.take_gas.Tie as tie
+use Rattle.job.proofs.leg.take_gas.Statement.{statement}
+use Rattle.job.proofs.leg.take_gas.Tie as tie
 
 add-requires : tie.Need-add-requires
 add-requires c κs =

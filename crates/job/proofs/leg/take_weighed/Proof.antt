@@ -5,8 +5,8 @@ use borrow.Author.Needs.{needs}
 use Rattle.job.specs.State.{fossil}
 use Rattle.job.specs.Leg.{LightFor}
 use Rattle.job.proofs.WordsLaws.{room}
-use Rattle.job.proofs.run.take_weighed.Statement.{statement}
-use Rattle.job.proofs.run.take_weighed.Tie as tie
+use Rattle.job.proofs.leg.take_weighed.Statement.{statement}
+use Rattle.job.proofs.leg.take_weighed.Tie as tie
 
 add-requires : tie.Need-add-requires
 add-requires c κs =

@@ -12,8 +12,8 @@ use Rattle.rules.specs.Bytes.{line, lines}
 use Rattle.rules.specs.Book.{unitLines}
 use Rattle.rules.specs.Table.{noting, Known}
 use Rattle.rules.proofs.TableLaws.{length-noting, known-after}
-use Rattle.job.specs.declared.run.Taken.{Taken}
-use Rattle.job.specs.declared.run.Taken.the-variants.{Done, Unsure, Stopped}
+use Rattle.job.specs.declared.leg.Taken.{Taken}
+use Rattle.job.specs.declared.leg.Taken.the-variants.{Done, Unsure, Stopped}
 use Rattle.job.specs.State.{run}
 use Rattle.job.specs.Bounds.{CountsFit}
 use Rattle.job.specs.Words.{carries, carriesEach, countsAt, stateIn, Kept}
@@ -24,8 +24,8 @@ use Rattle.job.proofs.WordsLaws.{kept-more}
 use Rattle.job.proofs.WakeLaws.{records-le}
 use Rattle.job.proofs.LegLaws.{took-as, tookShare-took, tookShare-as, legState, legState-as, after-tookShare, legState-begun, legState-settled, legCarries-le, legCarries-next, legCarries-first, less-most, leg-left, leg-next, Onward, onward, next-le}
 use Rattle.job.proofs.RunLaws.{next-run, place-lt, gone-none, gone-of, gone-first, run-suc, reached}
-use Rattle.job.proofs.run.go_on.Statement.{statement}
-use Rattle.job.proofs.run.go_on.Tie as tie
+use Rattle.job.proofs.leg.go_on.Statement.{statement}
+use Rattle.job.proofs.leg.go_on.Tie as tie
 
 abbrev Inv-loop : tie.InvT-loop
 Inv-loop book h place until table₀ stop aside₀ w₀ units by-unit fuels by-fuel shares₀ at₀ table aside w shares at =

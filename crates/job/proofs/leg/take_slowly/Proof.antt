@@ -10,8 +10,8 @@ use Rattle.rules.proofs.RecordLaws.{bounded-outcomeAt}
 use Rattle.job.specs.Leg.{Took}
 use Rattle.job.proofs.WakeLaws.{records-le}
 use Rattle.job.proofs.LegLaws.{aside-lt, took-aside, took-given}
-use Rattle.job.proofs.run.take_slowly.Statement.{statement}
-use Rattle.job.proofs.run.take_slowly.Tie as tie
+use Rattle.job.proofs.leg.take_slowly.Statement.{statement}
+use Rattle.job.proofs.leg.take_slowly.Tie as tie
 
 abbrev start : tie.After-judge-next → tie.Start
 start c = c .before .before .before .before .before .before .before

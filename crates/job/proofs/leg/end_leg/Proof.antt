@@ -11,8 +11,8 @@ use Rattle.job.proofs.WordsLaws.{kept-more}
 use Rattle.job.proofs.SharesLaws.{held-more}
 use Rattle.job.proofs.WakeLaws.{records-le}
 use Rattle.job.proofs.LegLaws.{legCarries-le, legCarries-end, legCarries-none, leg-le, leg-none, sharesAt-held}
-use Rattle.job.proofs.run.end_leg.Statement.{statement}
-use Rattle.job.proofs.run.end_leg.Tie as tie
+use Rattle.job.proofs.leg.end_leg.Statement.{statement}
+use Rattle.job.proofs.leg.end_leg.Tie as tie
 
 settle-requires : tie.Need-settle-requires
 settle-requires c κs =
