@@ -18,6 +18,7 @@ pub mod PouredLaws
 pub mod LegLaws
 pub mod TakingLaws
 pub mod RunLaws
+pub mod WentLaws
 pub mod ReportLaws
 pub mod HistoryLaws
 pub mod ApartLaws

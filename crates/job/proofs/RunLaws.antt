@@ -1,33 +1,29 @@
 -- A run, record by record and in legs. Assumes nothing.
 use Prim.Native.Nat.{ℕ, zero, suc, _+_, _-_, _*_, _<_, _≤_}
-use mathlib.Core.Bool.{Bool}
 use mathlib.Core.List.{List}
 use mathlib.Core.Path.{_≡_, refl, sym, ap, _∙_, subst}
-use native.Mathlib.Nat.{le-trans}
 use native.Mathlib.Numerals.{add-one}
 use native.Mathlib.Omega.{arith}
 use lib.ListN.{replicate}
 use Rattle.rules.specs.declared.book.Head.{Head}
 use Rattle.rules.specs.declared.record.Outcome.{Outcome}
-use Rattle.rules.specs.Bytes.{lines}
-use Rattle.rules.specs.Book.{unitLines, opened, accepted}
+use Rattle.rules.specs.Book.{opened, accepted}
 use Rattle.rules.specs.Record.{outcomeAt}
-use Rattle.rules.specs.Table.{Known}
 use Rattle.rules.proofs.BookLaws.{accepted-facts}
 use Rattle.job.specs.declared.counts.Counts.{Counts}
 use Rattle.job.specs.State.{_plus_, each, State, ledgers, gives, fresh, counted, after, run}
 use Rattle.job.specs.Bounds.{FitFor}
-use Rattle.job.specs.Checkpoint.{checkpointSize, ledgerPlace, doneIn, decode, countsIn, massIn}
+use Rattle.job.specs.Checkpoint.{checkpointSize, ledgerPlace, doneIn, decode, encode, countsIn, massIn}
 use Rattle.job.specs.Wake.{admittedFor}
-use Rattle.job.specs.Words.{words, carriesEach, massAt, countsAt, stateIn, massesOn, stateOn, Light, Gone}
-use Rattle.job.specs.Leg.{Before, Went}
+use Rattle.job.specs.Words.{words, carriesEach, massAt, stateIn, massesOn, stateOn, Light, Gone}
 use Rattle.job.proofs.PlacesLaws.{plus-assoc, length-each, getD-each, each-same, each-each}
 use Rattle.job.proofs.PutLaws.{word-blank}
-use Rattle.job.proofs.StateLaws.{after-done, run-done, run-run, fitFor-run}
+use Rattle.job.proofs.StateLaws.{run-done, run-run, fitFor-run}
 use Rattle.job.proofs.CheckpointLaws.{soundFor-sound, fitFor-sound}
 use Rattle.job.proofs.WordsLaws.{massAt-blank, kept-blank}
 use Rattle.job.proofs.WakeLaws.{records-le}
 use Rattle.job.proofs.AdmissionLaws.{admittedFor-so}
+use Rattle.job.proofs.LegLaws.{reason-lt}
 
 -- ---- there is a next record while i of n are done
 pub next-run : {x : State} (h : Head) (k : List ℕ) (s : State) (n i : ℕ) → opened k ≡ accepted h → FitFor h s
@@ -59,24 +55,6 @@ gone-of a d u h l = omega arith
 
 pub gone-none : (a u n : ℕ) → a ≤ u → u ≤ n → a + (u - a) ≤ n
 gone-none a u n h l = omega arith
-
-pub reached : {d u : ℕ} → d ≤ u → u ≤ d → d ≡ u
-reached l m = omega arith
-
--- A turn leads from d records done to e, in a run that ends at u.
-pub record Turn (a d e u : ℕ) : Type 0 where
-  pub from : a ≤ e
-  pub on : e ≤ u
-  pub less : u - e < u - d
-  pub next : d - a + 1 ≡ e - a
-  pub one-more : e ≡ d + 1
-
-pub turn : (a d u : ℕ) {y : State} (x : State) (o : Outcome) → a ≤ d → d < u → d ≡ x .counts .done → y ≡ after x o
-    → Turn a d (y .counts .done) u
-turn a d u {y} x o h l p q =
-    let one : y .counts .done ≡ d + 1 =
-    ap (λ (s : State). s .counts .done) q ∙ after-done x o ∙ ap (λ (n : ℕ). n + 1) (sym p) in
-    record { from = omega arith; on = omega arith; less = omega arith; next = omega arith; one-more = one }
 
 pub run-suc : {x y : State} (h : Head) (k : List ℕ) (s : State) (i : ℕ) → x ≡ run h k s i
     → y ≡ after x (outcomeAt h k (x .counts .done)) → y ≡ run h k s (i + 1)
@@ -165,12 +143,21 @@ gone-none-yet h k f c e =
 -- What the checkpoint said and what the records give are what to write.
 module _ (h : Head) (k f : List ℕ) (o : opened k ≡ accepted h) (a : admittedFor h f ≡ accepted h)
     (c : Counts) (w : List ℕ) (g : Gone h k f c w) where
-  pub stateOn-gone : stateOn c f w ≡ run h k (decode f) (c .done - doneIn f)
+  stateOn-gone : stateOn c f w ≡ run h k (decode f) (c .done - doneIn f)
   stateOn-gone =
       stateOn-onto c f w
       ∙ ap (onto (each (massIn f) ledgers)) (g .state)
       ∙ sym (run-onto h k (each (massIn f) ledgers) (begun f) (c .done - doneIn f))
       ∙ ap (λ (x : State). run h k x (c .done - doneIn f)) (sym (decode-onto f))
+
+  -- So it is with what is written: r, of the counts d, where all records up to place u are gone through.
+  pub encode-gone : {r : List ℕ} {d : Counts} {u : ℕ} → r ≡ encode h (stateOn d f w) → d ≡ c → c .done ≡ u
+      → r ≡ encode h (run h k (decode f) (u - doneIn f))
+  encode-gone written counts all =
+      written
+      ∙ ap (λ (t : Counts). encode h (stateOn t f w)) counts
+      ∙ ap (encode h) stateOn-gone
+      ∙ ap (λ (n : ℕ). encode h (run h k (decode f) (n - doneIn f))) all
 
   fitFor-decode : FitFor h (decode f)
   fitFor-decode = fitFor-sound h f (admittedFor-so h f a)
@@ -180,6 +167,10 @@ module _ (h : Head) (k f : List ℕ) (o : opened k ≡ accepted h) (a : admitted
   fitFor-gone l =
       let place = g .place in
       subst (FitFor h) (sym (g .state)) (fitFor-run h k (begun f) (c .done - doneIn f) o (omega arith) (fitFor-begun h f fitFor-decode))
+
+  pub reason-gone : c .done ≤ h .n → c .reason < 256
+  unfolding stateIn
+  reason-gone l = reason-lt h c (fitFor-gone l .counts-fit)
 
   pub light-gone : c .done ≤ h .n → Light f w
   unfolding decode stateOn massesOn
@@ -191,23 +182,3 @@ module _ (h : Head) (k f : List ℕ) (o : opened k ≡ accepted h) (a : admitted
         soundFor-sound h f (admittedFor-so h f a) .canonical i p,
         omega (arith, fit .masses-le i p, getD-each (λ j. massIn f j + massAt w j) ledgers i p),
       )
-
--- ---- from records gone through up to place p on to u
-module _ {h : Head} {k f : List ℕ} {p u : ℕ} {a w : List ℕ} (g : Gone h k f (countsAt p a) w) where
-  pub before-gone : {t : List ℕ} → opened k ≡ accepted h → admittedFor h f ≡ accepted h → p ≤ u → u ≤ h .n
-      → Known (lines p k) (unitLines h k) t → Before h k p u a w t
-  before-gone o q l m known = record {
-    fit = fitFor-gone h k f o q (countsAt p a) w g (le-trans l m);
-    kept = g .kept;
-    from-le = l;
-    end-le = m;
-    known = known;
-  }
-
-  -- Two legs of records gone through are one.
-  pub gone-went : {s : Bool} {r : ℕ} {b v : List ℕ} → Went h k p u s a w r b v → Gone h k f (countsAt r b) v
-  gone-went x = record {
-    place = le-trans (g .place) (x .from-le);
-    state = run-legs h k (begun f) (doneIn f) p _ (g .place) (x .from-le) (g .state) (x .state);
-    kept = x .kept;
-  }

@@ -20,7 +20,7 @@
 --     sharedBy s d, addedBy s w    the shares and the words once s is taken
 --     weighedBy x w, AsideBy p x a b    the words once x is taken, and what is then said of records set aside
 --
--- Laws: proofs/LegLaws.antt, proofs/RunLaws.antt. Definitions only.
+-- Laws: proofs/LegLaws.antt, proofs/WentLaws.antt. Definitions only.
 use Prim.Native.Nat.{ℕ, _+_, _-_, _*_, _<_, _≤_}
 use mathlib.Core.Bool.{Bool, true, false}
 use mathlib.Core.List.{List}

@@ -5,7 +5,7 @@ use mathlib.Core.Bool.{false≢true}
 use mathlib.Core.List.{List}
 use mathlib.Core.Logic.{⊎-elim}
 use mathlib.Core.Path.{_≡_, refl, sym, ap, _∙_, subst}
-use native.Mathlib.Nat.{le-refl, le-trans, le-of-lt}
+use native.Mathlib.Nat.{le-refl, le-trans, le-antisymm, le-of-lt}
 use lib.ListN.{length}
 use borrow.Author.Needs.{needs}
 use Rattle.rules.specs.Bytes.{line, lines}
@@ -23,7 +23,7 @@ use Rattle.job.proofs.SharesLaws.{held-none, held-more}
 use Rattle.job.proofs.WordsLaws.{kept-more}
 use Rattle.job.proofs.WakeLaws.{records-le}
 use Rattle.job.proofs.LegLaws.{took-as, tookShare-took, tookShare-as, legState, legState-as, after-tookShare, legState-begun, legState-settled, legCarries-le, legCarries-next, legCarries-first, less-most, leg-left, leg-next, Onward, onward, next-le}
-use Rattle.job.proofs.RunLaws.{next-run, place-lt, gone-none, gone-of, gone-first, run-suc, reached}
+use Rattle.job.proofs.RunLaws.{next-run, place-lt, gone-none, gone-of, gone-first, run-suc}
 use Rattle.job.proofs.leg.go_on.Statement.{statement}
 use Rattle.job.proofs.leg.go_on.Tie as tie
 
@@ -259,7 +259,7 @@ returns-2 c =
         kept = end .1;
         from-le = inv .0;
         end-le = inv .1;
-        whole = λ _. reached (inv .1) (test .loop-test .left);
+        whole = λ _. le-antisymm (inv .1) (test .loop-test .left);
       },
       inv .5,
     )

@@ -1,6 +1,5 @@
 -- The records before are noted in a blank table, it is gone on from there, and what is come to is written. Assumes
 -- nothing.
-use Prim.Native.Nat.{ℕ, _-_}
 use mathlib.Core.Path.{refl, ap, _∙_}
 use native.Mathlib.Nat.{le-trans}
 use lib.ListN.{length}
@@ -9,13 +8,10 @@ use Rattle.rules.specs.Bytes.{lines}
 use Rattle.rules.specs.Book.{unitLines}
 use Rattle.rules.specs.Table.{notedAll}
 use Rattle.rules.proofs.TableLaws.{known-notedAll}
-use Rattle.job.specs.declared.counts.Counts.{Counts}
-use Rattle.job.specs.State.{run}
-use Rattle.job.specs.Checkpoint.{doneIn, decode, encode}
-use Rattle.job.specs.Words.{countsAt, stateIn, stateOn, Gone}
+use Rattle.job.specs.Words.{countsAt, Gone}
 use Rattle.job.proofs.AdmissionLaws.{admittedFor-whole}
-use Rattle.job.proofs.RunLaws.{stateOn-gone, fitFor-gone, light-gone, before-gone, gone-went}
-use Rattle.job.proofs.LegLaws.{reason-lt}
+use Rattle.job.proofs.RunLaws.{encode-gone, reason-gone, light-gone}
+use Rattle.job.proofs.WentLaws.{before-gone, gone-went}
 use Rattle.job.proofs.run.go_noting.Statement.{statement}
 use Rattle.job.proofs.run.go_noting.Tie as tie
 
@@ -50,12 +46,11 @@ gone : (c : tie.After-go-legs) →
 gone c = gone-went (entry c .pre .1 .0) (c .go-legs .ensures)
 
 find-counts-requires : tie.Need-find-counts-requires
-unfolding stateIn
 find-counts-requires c κs =
     let on = c .before .before .before .before .before in
     let p = entry on .pre in
     let end = le-trans (on .go-legs .ensures .end-le) (p .1 .1 .0 .1) in
-    reason-lt _ _ (fitFor-gone _ _ _ (p .0) (p .1 .1 .1 .0 .0) _ _ (gone on) end .counts-fit)
+    reason-gone _ _ _ (p .0) (p .1 .1 .1 .0 .0) _ _ (gone on) end
 
 write-requires : tie.Need-write-requires
 write-requires c κs =
@@ -70,13 +65,9 @@ returns c =
     let write = c .before .before in
     let counts = write .before .before .before in
     let on = counts .before .before .before .before .before .before in
-    let s = entry on in
-    let a = s .args in
-    let there = stateOn-gone _ _ _ (s .pre .0) (s .pre .1 .1 .1 .0 .0) _ _ (gone on) in
-    write .write .ensures
-    ∙ ap (λ (t : Counts). encode (a .h) (stateOn t (a .from .now) (on .go-legs .last .1 .1 .1 .1 .1 .1 .1 .0))) (counts .find-counts .ensures)
-    ∙ ap (encode (a .h)) there
-    ∙ ap (λ (d : ℕ). encode (a .h) (run (a .h) (a .book .now) (decode (a .from .now)) (d - doneIn (a .from .now)))) (on .go-legs .ensures .whole refl)
+    let p = entry on .pre in
+    encode-gone _ _ _ (p .0) (p .1 .1 .1 .0 .0) _ _ (gone on)
+    (write .write .ensures) (counts .find-counts .ensures) (on .go-legs .ensures .whole refl)
 
 pub go-noting-spec : {M : Type 1} → statement M
 go-noting-spec =

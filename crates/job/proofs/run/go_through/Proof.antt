@@ -1,5 +1,5 @@
 -- A wake begins with nothing gone through; and n records more from place p end at place p + n. Assumes nothing.
-use Prim.Native.Nat.{ℕ, _+_, _-_, _<_, _≤_}
+use Prim.Native.Nat.{ℕ, _+_, _<_, _≤_}
 use mathlib.Core.Path.{_≡_, refl, ap, _∙_}
 use native.Mathlib.Nat.{le-add-right, le-trans}
 use native.Mathlib.Omega.{arith}
@@ -9,10 +9,10 @@ use Rattle.rules.proofs.TableLaws.{known-none}
 use Rattle.job.specs.declared.counts.Counts.{Counts}
 use Rattle.job.specs.State.{run}
 use Rattle.job.specs.Checkpoint.{doneIn, decode, encode}
-use Rattle.job.specs.Words.{words, countsAt, stateIn, stateOn, Gone}
+use Rattle.job.specs.Words.{words, countsAt, Gone}
 use Rattle.job.proofs.AdmissionLaws.{admittedFor-whole}
-use Rattle.job.proofs.RunLaws.{place-lt, gone-all, gone-nothing, gone-within, gone-none-yet, stateOn-gone, fitFor-gone, light-gone, before-gone, gone-went}
-use Rattle.job.proofs.LegLaws.{reason-lt}
+use Rattle.job.proofs.RunLaws.{place-lt, gone-all, gone-nothing, gone-within, gone-none-yet, encode-gone, reason-gone, light-gone}
+use Rattle.job.proofs.WentLaws.{before-gone, gone-went}
 use Rattle.job.proofs.run.go_through.Statement.{statement}
 use Rattle.job.proofs.run.go_through.Tie as tie
 
@@ -37,8 +37,7 @@ returns c =
     let test = write .before .before .before in
     let s = test .before .before .before .before in
     let a = s .args in
-    write .write .ensures
-    ∙ ap (encode (a .h)) (stateOn-gone _ _ _ (s .pre .0) (s .pre .1 .0 .0) _ _ (begun s))
+    encode-gone _ _ _ (s .pre .0) (s .pre .1 .0 .0) _ _ (begun s) (write .write .ensures) refl refl
     ∙ ap (λ (m : ℕ). encode (a .h) (run (a .h) (a .book .now) (decode (a .from .now)) m)) (gone-nothing (place s) (test .if1 .taken))
 
 -- From where the end is found, the function's entry.
@@ -67,11 +66,10 @@ ends : (c : tie.After-go-slowly) → c .go-slowly .result ≤ entry c .args .h .
 ends c = le-trans (c .go-slowly .ensures .end-le) (entry c .pre .1 .1 .0)
 
 find-counts-requires : tie.Need-find-counts-requires
-unfolding stateIn
 find-counts-requires c κs =
     let slow = c .before .before .before in
     let p = entry slow .pre in
-    reason-lt _ _ (fitFor-gone _ _ _ (p .0) (p .1 .0 .0) _ _ (gone slow) (ends slow) .counts-fit)
+    reason-gone _ _ _ (p .0) (p .1 .0 .0) _ _ (gone slow) (ends slow)
 
 write-requires-2 : tie.Need-write-requires-2
 write-requires-2 c κs =
@@ -88,10 +86,9 @@ returns-2 c =
     let slow = counts .before .before .before .before in
     let s = entry slow in
     let a = s .args in
-    write .write2 .ensures
-    ∙ ap (λ (t : Counts). encode (a .h) (stateOn t (a .from .now) (slow .go-slowly .last .1 .1 .1 .1 .1 .1 .1 .1 .1 .0))) (counts .find-counts .ensures)
-    ∙ ap (encode (a .h)) (stateOn-gone _ _ _ (s .pre .0) (s .pre .1 .0 .0) _ _ (gone slow))
-    ∙ ap (λ (m : ℕ). encode (a .h) (run (a .h) (a .book .now) (decode (a .from .now)) m)) (ap (λ (d : ℕ). d - doneIn (a .from .now)) (slow .go-slowly .ensures .whole refl) ∙ gone-all (a .n) (place s))
+    encode-gone _ _ _ (s .pre .0) (s .pre .1 .0 .0) _ _ (gone slow)
+    (write .write2 .ensures) (counts .find-counts .ensures) (slow .go-slowly .ensures .whole refl)
+    ∙ ap (λ (m : ℕ). encode (a .h) (run (a .h) (a .book .now) (decode (a .from .now)) m)) (gone-all (a .n) (place s))
 
 further : (d n : ℕ) → (n ≡ 0 → ⊥) → d < d + n
 further d n more = omega arith

@@ -1,17 +1,14 @@
 -- Where the legs stopped at a record that can be a repeat, others go on by a table; and all of them are one way.
 -- Assumes nothing.
-use Prim.Native.Nat.{ℕ, _-_, _≤_}
-use mathlib.Core.Path.{refl, ap, _∙_}
-use native.Mathlib.Nat.{le-trans, le-of-lt}
+use Prim.Native.Nat.{_≤_}
+use mathlib.Core.Path.{refl}
+use native.Mathlib.Nat.{le-trans, le-antisymm, le-of-lt}
 use borrow.Author.Needs.{needs}
 use Rattle.rules.proofs.TableLaws.{known-none}
-use Rattle.job.specs.declared.counts.Counts.{Counts}
-use Rattle.job.specs.State.{run}
-use Rattle.job.specs.Checkpoint.{doneIn, decode, encode}
-use Rattle.job.specs.Words.{countsAt, stateIn, stateOn, Gone}
+use Rattle.job.specs.Words.{countsAt, Gone}
 use Rattle.job.proofs.AdmissionLaws.{admittedFor-whole}
-use Rattle.job.proofs.RunLaws.{stateOn-gone, fitFor-gone, light-gone, before-gone, gone-went, reached}
-use Rattle.job.proofs.LegLaws.{reason-lt}
+use Rattle.job.proofs.RunLaws.{encode-gone, reason-gone, light-gone}
+use Rattle.job.proofs.WentLaws.{before-gone, gone-went}
 use Rattle.job.proofs.run.go_to.Statement.{statement}
 use Rattle.job.proofs.run.go_to.Tie as tie
 
@@ -46,11 +43,10 @@ go-by-table-requires-2 c κs =
     (p .0, (gone legs, ((legs .go-legs .ensures .end-le, p .1 .1 .0 .1), p .1 .1 .1)))
 
 find-counts-requires : tie.Need-find-counts-requires
-unfolding stateIn
 find-counts-requires c κs =
     let legs = c .before .before .before .before .before in
     let p = start legs .pre in
-    reason-lt _ _ (fitFor-gone _ _ _ (p .0) (p .1 .1 .1 .0) _ _ (gone legs) (end-le legs) .counts-fit)
+    reason-gone _ _ _ (p .0) (p .1 .1 .1 .0) _ _ (gone legs) (end-le legs)
 
 write-requires : tie.Need-write-requires
 write-requires c κs =
@@ -66,14 +62,9 @@ returns-3 c =
     let counts = write .before .before .before in
     let ended = counts .before .before in
     let legs = ended .before .before .before .before in
-    let s = start legs in
-    let a = s .args in
-    let there = stateOn-gone _ _ _ (s .pre .0) (s .pre .1 .1 .1 .0) _ _ (gone legs) in
-    let all = reached (legs .go-legs .ensures .end-le) (ended .if2 .left) in
-    write .write .ensures
-    ∙ ap (λ (t : Counts). encode (a .h) (stateOn t (a .from .now) (legs .go-legs .last .1 .1 .1 .1 .1 .1 .1 .0))) (counts .find-counts .ensures)
-    ∙ ap (encode (a .h)) there
-    ∙ ap (λ (d : ℕ). encode (a .h) (run (a .h) (a .book .now) (decode (a .from .now)) (d - doneIn (a .from .now)))) all
+    let p = start legs .pre in
+    encode-gone _ _ _ (p .0) (p .1 .1 .1 .0) _ _ (gone legs)
+    (write .write .ensures) (counts .find-counts .ensures) (le-antisymm (legs .go-legs .ensures .end-le) (ended .if2 .left))
 
 pub go-to-spec : {M : Type 1} → statement M
 go-to-spec =
