@@ -31,6 +31,28 @@ also-r false b h = absurd (subst T (sym h) tt)
 pub also-iff : (a b : Bool) → ((a also b) ≡ true) ↔ ((a ≡ true) × (b ≡ true))
 also-iff a b = (λ h. (also-l a b h, also-r a b h), λ h. also-t (h .0) (h .1))
 
+pub also-assoc : (a b c : Bool) → (a also (b also c)) ≡ (a also b also c)
+unfolding _also_
+also-assoc true b c = refl
+also-assoc false b c = refl
+
+-- What comes behind a test counts only where this passes.
+pub also-same : (a : Bool) {b b′ : Bool} → (a ≡ true → b ≡ b′) → (a also b) ≡ (a also b′)
+unfolding _also_
+also-same true h = h refl
+also-same false h = refl
+
+-- A last test that passes leaves a row as it is, and one that fails ends it.
+pub also-pass : (a : Bool) {b : Bool} → b ≡ true → (a also b) ≡ a
+unfolding _also_
+also-pass true p = p
+also-pass false p = refl
+
+pub also-fail : (a : Bool) {b : Bool} → b ≡ false → (a also b) ≡ false
+unfolding _also_
+also-fail true p = p
+also-fail false p = refl
+
 -- The code's `a & b` is a row of what a and b are, and its `a | b` a choice of them.
 pub both : {a b a′ b′ : Bool} → a ≡ a′ → b ≡ b′ → (a && b) ≡ (a′ also b′)
 both {a} {b} p q = and-also a b ∙ λ i. p i also q i
@@ -46,6 +68,11 @@ either-t b p = rw p
 pub either-f : {a b r : Bool} → a ≡ false → b ≡ r → (a either b) ≡ r
 unfolding _either_
 either-f p q = rw p q
+
+pub either-fail : (a : Bool) {b : Bool} → b ≡ false → (a either b) ≡ a
+unfolding _either_
+either-fail true p = refl
+either-fail false p = p
 
 pub any : {a b a′ b′ : Bool} → a ≡ a′ → b ≡ b′ → (a || b) ≡ (a′ either b′)
 any {a} {b} p q = or-either a b ∙ λ i. p i either q i

@@ -1,10 +1,10 @@
 -- Words by their bytes and by their parts, the bytes of a part and of a number, and lines one by one.
 -- Assumes nothing.
 use Prim.Native.Nat.{ℕ, suc, zero, _+_, _-_, _*_, _/_, _%_, _^_, _<_, _≤_, zero-le}
-use mathlib.Core.Bool.{true, false}
+use mathlib.Core.Bool.{Bool, false}
 use mathlib.Core.List.{List, [], _∷_, _++_}
 use mathlib.Core.Path.{_≡_, refl, ap, ap₂, sym, _∙_, subst}
-use native.Mathlib.Nat.{sub-zero, zero-add, one-mul, mul-assoc, mul-zero, mul-le-mul-right, div-one, div-div-eq-div-mul, pow-succ', pow-le-pow-right, lt-of-lt-of-le, le-of-suc-le-suc}
+use native.Mathlib.Nat.{sub-zero, zero-add, one-mul, mul-assoc, mul-zero, mul-le-mul-left, mul-le-mul-right, div-one, div-div-eq-div-mul, pow-succ', pow-le-pow-right, lt-of-lt-of-le, le-of-suc-le-suc}
 use native.Mathlib.Numerals.{add-one}
 use native.Mathlib.Omega.{arith}
 use lib.Bits.{bitOr, or-add-and, and-le-l, and-le-r}
@@ -15,7 +15,7 @@ use lib.Seq.{drop-cons, drop-drop, getD-take, getD-drop}
 use borrow.Author.Tests.{eq-eqb, ne-eqb}
 use Rattle.choice.specs.Tests.{_also_}
 use Rattle.choice.proofs.Splitting.{if-eq, if-lt}
-use Rattle.choice.proofs.TestsLaws.{also-t, also-f}
+use Rattle.choice.proofs.TestsLaws.{also-t, also-f, also-pass, also-fail}
 use Rattle.rules.specs.Bytes.{byte, word, part, zeros, bytesOf, line, lines}
 
 -- ---- reading a word from its last byte down
@@ -63,6 +63,10 @@ word-zero l k = refl
 pub word-suc : (l : List ℕ) (k n : ℕ) → word l k (suc n) ≡ byte l k + 256 * word l (k + 1) n
 unfolding word
 word-suc l k n = refl
+
+pub word-one : (l : List ℕ) (k : ℕ) → word l k 1 ≡ byte l k
+unfolding word
+word-one l k = omega arith
 
 pub word-same : (l m : List ℕ) (k n : ℕ) → ((i : ℕ) → k ≤ i → i < k + n → byte l i ≡ byte m i) → word l k n ≡ word m k n
 unfolding word
@@ -175,6 +179,11 @@ word-add l k (suc m) n =
     one-more : (m : ℕ) → 1 + m ≡ suc m
     one-more m = omega arith
 
+-- The w bytes from k on are m, and n from j on.
+word-parts : (l : List ℕ) (k m j n w : ℕ) → k + m ≡ j → m + n ≡ w → word l k w ≡ word l k m + 256 ^ m * word l j n
+word-parts l k m j n w p q =
+    ap (word l k) (sym q) ∙ word-add l k m n ∙ ap (λ (i : ℕ). word l k m + 256 ^ m * word l i n) p
+
 pub word-four : (l : List ℕ) (k low high : ℕ) → low ≡ word l k 2 → high ≡ word l (k + 2) 2 → low < 256 ^ 2 →
     high < 256 ^ 2 → (low + 65536 * high ≡ word l k 4) × (low + 65536 * high < 256 ^ 4)
 word-four l k low high p q h j =
@@ -215,29 +224,28 @@ zero-or a b =
 pub zeros-split : (l : List ℕ) (k m j n w : ℕ) → k + m ≡ j → m + n ≡ w
     → zeros l k w ≡ (zeros l k m also zeros l j n)
 zeros-split l k m j n w p q =
-    let sum : word l k w ≡ word l k m + 256 ^ m * word l j n =
-    ap (word l k) (sym q) ∙ word-add l k m n ∙ ap (λ (i : ℕ). word l k m + 256 ^ m * word l i n) p in
+    let sum = word-parts l k m j n w p q in
     let above : 1 ≤ 256 ^ m = pow-le-pow-right {n = 256} (lit< tt) {i = 0} {j = m} zero-le in
     let rises = mul-le-mul-right (word l j n) above in
     both-zero (word l k m) (word l j n) (word l k w)
     (λ z y. let none = ap (λ (x : ℕ). 256 ^ m * x) y ∙ mul-zero (256 ^ m) in omega arith)
     (λ v. omega arith)
 
--- ---- a line's last bytes, four at a time
-module _ (l : List ℕ) (e b : ℕ) where
-  fours : b + 4 ≤ e → zeros l b (e - b) ≡ (zeros l b 4 also zeros l (b + 4) (e - (b + 4)))
-  fours h = zeros-split l b 4 (b + 4) (e - (b + 4)) (e - b) refl (omega arith)
-
-  pub blank-bad : {r : ℕ} → b + 4 ≤ e → r ≡ word l b 4 → (r ≡ 0 → ⊥) → zeros l b (e - b) ≡ false
-  blank-bad h p z = fours h ∙ also-f (zeros l (b + 4) (e - (b + 4))) (ne-eqb (word l b 4) 0 (λ q. z (p ∙ q)))
-
-  pub blank-next : {r : ℕ} → b + 4 ≤ e → r ≡ word l b 4 → r ≡ 0
-      → zeros l b (e - b) ≡ zeros l (b + 4) (e - (b + 4))
-  blank-next h p z = fours h ∙ also-t (eq-eqb (word l b 4) 0 (sym p ∙ z)) refl
-
-  pub blank-end : e ≤ b → zeros l b (e - b) ≡ true
-  unfolding word
-  blank-end h = let none : e - b ≡ 0 = omega arith in rw none
+-- A number of m bytes and n bytes behind it that must be 0 are tested as one word, by a test that fails for what m
+-- bytes can't hold.
+pub word-wide : (P : ℕ → Bool) (l : List ℕ) (k m j n w : ℕ) → k + m ≡ j → m + n ≡ w
+    → ((x : ℕ) → 256 ^ m ≤ x → P x ≡ false) → P (word l k w) ≡ (P (word l k m) also zeros l j n)
+word-wide P l k m j n w p q past =
+    let sum = word-parts l k m j n w p q in
+    if-eq (word l j n) 0
+    (λ z.
+    let none = ap (λ (x : ℕ). 256 ^ m * x) z ∙ mul-zero (256 ^ m) in
+    let same : word l k w ≡ word l k m = omega arith in
+    ap P same ∙ sym (also-pass (P (word l k m)) (eq-eqb (word l j n) 0 z)))
+    (λ z.
+    let some : 1 ≤ word l j n = omega arith in
+    let rises = mul-le-mul-left (256 ^ m) some in
+    past (word l k w) (omega arith) ∙ sym (also-fail (P (word l k m)) (ne-eqb (word l j n) 0 z)))
 
 -- ---- lines
 pub line-take : (k : ℕ) (s : List ℕ) → line k s ≡ take 32 (drop (32 * k) s)

@@ -1,6 +1,6 @@
 -- The rules of a line by its named bytes and its blank, where the first line with a number stands, and
 -- what `listed` makes of it. Assumes nothing.
-use Prim.Native.Nat.{ℕ, suc, zero, _+_, _-_, _/_, _%_, _<_, _≤_}
+use Prim.Native.Nat.{ℕ, suc, zero, _+_, _-_, _/_, _<_, _≤_}
 use mathlib.Core.Bool.{true, false}
 use mathlib.Core.List.{List}
 use mathlib.Core.Path.{_≡_, refl, sym, ap, _∙_}
@@ -35,15 +35,13 @@ lineOk-headOk Fuel l = refl
 pub lineOk-bad : (k : Sort) (l : List ℕ) → headOk k l ≡ false → lineOk k l ≡ false
 lineOk-bad k l h = lineOk-headOk k l ∙ also-f _ h
 
--- Once its named bytes are right, a line is as right as its blank b, which is read by fours.
-pub lineOk-blank : (k : Sort) (l : List ℕ) {b : ℕ} → headOk k l ≡ true → b ≡ blankFrom k
-    → (b ≤ 32) × (b % 4 ≡ 0) × (lineOk k l ≡ zeros l b (32 - b))
-lineOk-blank k l {b} h e =
-    rw e (fours k .0, fours k .1, lineOk-headOk k l ∙ also-t h refl)
-  where
-    fours : (k : Sort) → (blankFrom k ≤ 32) × (blankFrom k % 4 ≡ 0)
-    fours Unit = (omega arith, refl)
-    fours Fuel = (omega arith, refl)
+-- Once its named bytes are right, a line is as right as its blank.
+pub lineOk-blank : (k : Sort) (l : List ℕ) {b : ℕ} → headOk k l ≡ true → b ≡ blankFrom k → lineOk k l ≡ zeros l b (32 - b)
+lineOk-blank k l h e = rw e (lineOk-headOk k l ∙ also-t h refl)
+
+pub blankFrom-le : (k : Sort) → blankFrom k ≤ 32
+blankFrom-le Unit = omega arith
+blankFrom-le Fuel = omega arith
 
 -- ---- a search for the number x in the first n lines of s, the first of them being place j
 -- No line has the number.

@@ -100,22 +100,11 @@ fn is_trailer_right(t: &[u8], e: usize) -> bool
     ensures trailer { λ r. ⌜ r ≡ trailerOk (now (t .entry)) e ⌝ }
 {
     let signed = trailer::is_signed(t);
-    let version = trailer::version(t);
-    let gap = trailer::is_gap(t);
-    let starts = are_starts_right(trailer::unit_start(t), trailer::fuel_start(t), e);
-    let year = trailer::year(t);
-    let year_gap = trailer::is_year_gap(t);
-    let set = trailer::warming_set(t);
-    let blank = trailer::is_blank(t);
-    signed
-        & (version == 1)
-        & gap
-        & starts
-        & (2000 <= year)
-        & (year <= 2099)
-        & year_gap
-        & (set <= 1)
-        & blank
+    let version_right = trailer::is_version_right(t);
+    let starts_right = are_starts_right(trailer::unit_start(t), trailer::fuel_start(t), e);
+    let year_right = trailer::is_year_right(t);
+    let set_right = trailer::is_set_right(t);
+    signed & version_right & starts_right & year_right & set_right
 }
 
 fn are_starts_right(u: usize, f: usize, e: usize) -> bool

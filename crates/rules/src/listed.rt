@@ -14,13 +14,6 @@ pub(crate) fn number(l: &[u8]) -> u64
 }
 
 // ---- a unit line
-pub(crate) fn unit_flags(l: &[u8]) -> u8
-    requires whole { ⌜ 32 ≤ length (now l) ⌝ }
-    ensures field { λ r. ⌜ r ≡ fields.unitFlags (now (l .entry)) ⌝ }
-{
-    l[2]
-}
-
 pub(crate) fn is_monitored(l: &[u8]) -> bool
     requires whole { ⌜ 32 ≤ length (now l) ⌝ }
     ensures field { λ r. ⌜ r ≡ fields.monitored (now (l .entry)) ⌝ }
@@ -33,13 +26,6 @@ pub(crate) fn is_dry(l: &[u8]) -> bool
     ensures field { λ r. ⌜ r ≡ fields.dry (now (l .entry)) ⌝ }
 {
     l[2] / 2 % 2 == 1
-}
-
-pub(crate) fn is_unit_gap(l: &[u8]) -> bool
-    requires whole { ⌜ 32 ≤ length (now l) ⌝ }
-    ensures field { λ r. ⌜ r ≡ fields.unitGap (now (l .entry)) ⌝ }
-{
-    bytes::are_zero(l, 3, 4)
 }
 
 pub(crate) fn rating(l: &[u8]) -> u64

@@ -17,7 +17,7 @@ pub enum Sort {
 const MOST_LINES: usize = 64;
 
 // Whether there are at most 64 lines of one sort, their numbers rise strictly, and none breaks a
-// rule. The scan is left at the first line that does.
+// rule. The scan is left at the first line that does, from the test that it fails.
 pub(crate) fn are_sound(s: &[u8], sort: Sort) -> bool
     ensures sound { λ r. ⌜ r ≡ linesSound (lineOk sort) (now (s .entry)) ⌝ }
 {
@@ -39,13 +39,9 @@ pub(crate) fn are_sound(s: &[u8], sort: Sort) -> bool
             ok = false;
             break 'lines;
         }
-        let mut b = blank_from(sort);
-        while b < 32 {
-            if bytes::read_word(l, b, 4) != 0 {
-                ok = false;
-                break 'lines;
-            }
-            b += 4;
+        if !bytes::are_zero(l, blank_from(sort), 32) {
+            ok = false;
+            break 'lines;
         }
         before = number;
         i += 1;
@@ -73,15 +69,14 @@ fn blank_from(sort: Sort) -> usize
     }
 }
 
+// The flags and the byte behind them, which must be 0, are one number: 2 would be dry gas without a monitor.
 fn is_unit_head_right(u: &[u8]) -> bool
     requires whole { ⌜ 32 ≤ length (now u) ⌝ }
     ensures head { λ r. ⌜ r ≡ unitHeadOk (now (u .entry)) ⌝ }
 {
-    let flags = listed::unit_flags(u);
-    let dry_monitored = listed::is_monitored(u) | !listed::is_dry(u);
-    let gap = listed::is_unit_gap(u);
+    let flags = bytes::read_word(u, 2, 2);
     let rating = listed::rating(u);
-    (flags <= 3) & dry_monitored & gap & (1 <= rating) & (rating <= 100000)
+    (flags <= 3) & (flags != 2) & (1 <= rating) & (rating <= 100000)
 }
 
 fn is_fuel_head_right(f: &[u8]) -> bool
@@ -106,16 +101,15 @@ fn is_fuel_head_right(f: &[u8]) -> bool
 fn is_molar_volume_right(volume: u32) -> bool
     ensures right { λ r. ⌜ r ≡ molarVolumeOk volume ⌝ }
 {
-    (volume == 0) | ((20000 <= volume) & (volume <= 27000))
+    ((volume == 0) | (20000 <= volume)) & (volume <= 27000)
 }
 
+// Class 1 goes with kind 3, 2 with 2 and 3 with 1: the two come to 4.
 fn do_agree(kind: u8, class: u8) -> bool
     ensures agree { λ r. ⌜ r ≡ kindClassOk kind class ⌝ }
 {
-    let gas = (class == 1) & (kind == 3);
-    let oil = (class == 2) & (kind == 2);
-    let biomass = (class == 3) & (kind == 1);
-    (1 <= kind) & (kind <= 3) & ((class == 0) | gas | oil | biomass)
+    let known = (1 <= kind) & (kind <= 3);
+    known & ((class == 0) | (kind as u32 + class as u32 == 4))
 }
 
 pub enum Found {

@@ -2,7 +2,9 @@
 use crate::bytes;
 ghost use mathlib.Core.Path.{_≡_};
 ghost use Prim.Native.Nat.{_≤_};
+ghost use lib.Dec.{leb, eqb};
 ghost use lib.ListN.{length};
+ghost use Rattle.choice.specs.Tests.{_also_};
 ghost use Rattle.rules.specs.Fields as fields;
 
 // `STCB`.
@@ -15,18 +17,13 @@ pub(crate) fn is_signed(l: &[u8]) -> bool
     bytes::read_word(l, 0, 4) == SIGNATURE
 }
 
-pub(crate) fn version(l: &[u8]) -> u64
+// A field and the bytes behind it that must be 0 are read as one number: it passes a test that fails for larger
+// numbers than the field can hold only if these bytes are 0.
+pub(crate) fn is_version_right(l: &[u8]) -> bool
     requires whole { ⌜ 32 ≤ length (now l) ⌝ }
-    ensures field { λ r. ⌜ r ≡ fields.version (now (l .entry)) ⌝ }
+    ensures right { λ r. ⌜ r ≡ (eqb (fields.version (now (l .entry))) 1 also fields.trailerGap (now (l .entry))) ⌝ }
 {
-    bytes::read_word(l, 4, 2)
-}
-
-pub(crate) fn is_gap(l: &[u8]) -> bool
-    requires whole { ⌜ 32 ≤ length (now l) ⌝ }
-    ensures field { λ r. ⌜ r ≡ fields.trailerGap (now (l .entry)) ⌝ }
-{
-    bytes::are_zero(l, 6, 8)
+    bytes::read_word(l, 4, 4) == 1
 }
 
 pub(crate) fn unit_start(l: &[u8]) -> usize
@@ -50,11 +47,12 @@ pub(crate) fn year(l: &[u8]) -> u64
     bytes::read_word(l, 16, 2)
 }
 
-pub(crate) fn is_year_gap(l: &[u8]) -> bool
+pub(crate) fn is_year_right(l: &[u8]) -> bool
     requires whole { ⌜ 32 ≤ length (now l) ⌝ }
-    ensures field { λ r. ⌜ r ≡ fields.yearGap (now (l .entry)) ⌝ }
+    ensures right { λ r. ⌜ r ≡ (leb 2000 (fields.year (now (l .entry))) also leb (fields.year (now (l .entry))) 2099 also fields.yearGap (now (l .entry))) ⌝ }
 {
-    bytes::are_zero(l, 18, 20)
+    let year = bytes::read_word(l, 16, 4);
+    (2000 <= year) & (year <= 2099)
 }
 
 pub(crate) fn warming_set(l: &[u8]) -> u8
@@ -64,9 +62,10 @@ pub(crate) fn warming_set(l: &[u8]) -> u8
     l[20]
 }
 
-pub(crate) fn is_blank(l: &[u8]) -> bool
+pub(crate) fn is_set_right(l: &[u8]) -> bool
     requires whole { ⌜ 32 ≤ length (now l) ⌝ }
-    ensures field { λ r. ⌜ r ≡ fields.trailerBlank (now (l .entry)) ⌝ }
+    ensures right { λ r. ⌜ r ≡ (leb (fields.warmingSet (now (l .entry))) 1 also fields.trailerBlank (now (l .entry))) ⌝ }
 {
-    bytes::are_zero(l, 21, 32)
+    let set = bytes::read_word(l, 20, 4);
+    (set <= 1) & bytes::are_zero(l, 24, 32)
 }
