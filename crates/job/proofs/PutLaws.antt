@@ -29,6 +29,20 @@ module _ (d : List ℕ) (at n v : ℕ) where
       ap (λ (l : List ℕ). take at d ++ l ++ drop (at + n) d)
       (take-all n (bytesOf n v) (omega (arith, length-bytesOf n v)))
 
+-- ---- a copy of c over d, byte by byte
+module _ (d c : List ℕ) where
+  pub copy-next : (i : ℕ) {out : List ℕ} → i < length d → i < length c → out ≡ paste d 0 c i
+      → set out i (getD c i 0) ≡ paste d 0 c (i + 1)
+  copy-next i h l o =
+      let here : i ≡ 0 + i = omega arith in
+      rw (o, add-one)
+      (ap (λ (k : ℕ). set (paste d 0 c i) k (getD c i 0)) here ∙ paste-suc d 0 c i 0 (omega arith) l)
+
+  pub copy-all : (n : ℕ) → length d ≤ n → length c ≤ n → paste d 0 c n ≡ c
+  copy-all n h l =
+      let none : length d ≤ 0 + n = omega arith in
+      ap₂ _++_ (take-all n c l) (drop-of-length-le d none) ∙ append-nil c
+
 -- ---- numbers one after the other: o is d with its first bytes, `at` of them, replaced by p
 pub record Wrote (d o p : List ℕ) (at : ℕ) : Type 0 where
   pub whole : o ≡ p ++ drop at d

@@ -44,9 +44,6 @@ gone-first a = omega arith
 pub gone-all : {a b : ℕ} (n : ℕ) → a ≡ b → a + n - b ≡ n
 gone-all n e = omega arith
 
-pub gone-nothing : {a b n : ℕ} → a ≡ b → n ≡ 0 → a - b ≡ n
-gone-nothing e z = omega arith
-
 pub gone-within : {a m : ℕ} (n : ℕ) → a + n ≤ m → a ≤ m
 gone-within n l = omega arith
 

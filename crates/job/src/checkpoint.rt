@@ -13,8 +13,9 @@ ghost use mathlib.Core.List.{_++_};
 ghost use mathlib.Core.Path.{_≡_};
 ghost use Prim.Native.Nat.{_<_};
 ghost use lib.ListN.{length, take, drop};
+ghost use Rattle.choice.specs.Tests.{_also_};
 ghost use Rattle.job.specs.State as state;
-ghost use Rattle.job.specs.Checkpoint.{checkpointSize, ledgerPlace, firstSound, ledgerSound, every, sound, laid, encode, countsIn};
+ghost use Rattle.job.specs.Checkpoint.{checkpointSize, ledgerPlace, gapIn, firstSound, ledgerSound, every, sound, laid, encode, countsIn};
 ghost use Rattle.job.specs.Words.{words, ledgerIn, massesOn, stateOn, Light};
 
 // How many bytes a checkpoint has.
@@ -93,7 +94,6 @@ pub(crate) fn is_sound(h: Head, c: &[u8]) -> bool
     let aside = read_word(c, ASIDE, 4) as usize;
     let first = is_first_sound(c);
     let masses = are_ledgers_sound(c);
-    let gap = are_zero(c, GAP, LEDGERS);
     let blank = are_zero(c, BLANK, SIZE);
     (length == h.length)
         & (year == h.year)
@@ -101,16 +101,16 @@ pub(crate) fn is_sound(h: Head, c: &[u8]) -> bool
         & (aside <= done)
         & first
         & masses
-        & gap
         & blank
 }
 
+// The reason is read with the bytes behind it that must be 0, as one number.
 fn is_first_sound(c: &[u8]) -> bool
     requires whole { ⌜ length (now c) ≡ checkpointSize ⌝ }
-    ensures first { λ r. ⌜ r ≡ firstSound (now (c .entry)) ⌝ }
+    ensures first { λ r. ⌜ r ≡ (firstSound (now (c .entry)) also gapIn (now (c .entry))) ⌝ }
 {
     let index = read_word(c, INDEX, 4);
-    let reason = read_word(c, REASON, 1);
+    let reason = read_word(c, REASON, 4);
     if read_word(c, ASIDE, 4) == 0 {
         return (index == 0) & (reason == 0);
     }
@@ -139,6 +139,18 @@ fn is_ledger_sound(c: &[u8], k: usize) -> bool
     let done = read_word(c, DONE, 4);
     let tonnes = g.tonnes;
     (g.rest.0 < NG_PER_TONNE) & (tonnes <= TONNES_EACH * done)
+}
+
+// Writes the checkpoint `from` once more.
+pub(crate) fn copy(from: &[u8], out: &mut [u8])
+    requires whole { ⌜ (length (now from) ≡ checkpointSize) × (length (now out) ≡ checkpointSize) ⌝ }
+    ensures copied { λ _. ⌜ now (out .exit) ≡ now (from .entry) ⌝ }
+{
+    let mut i = 0;
+    while i < SIZE {
+        out[i] = from[i];
+        i += 1;
+    }
 }
 
 // Writes the checkpoint of a book with the head h that says t and, at each place, what `from` says and w gives.

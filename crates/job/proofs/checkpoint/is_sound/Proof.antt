@@ -1,17 +1,30 @@
 -- The row of tests is that of the definition, each test of what was read. Assumes nothing.
+use mathlib.Core.Bool.{Bool, true, false}
+use mathlib.Core.Path.{_≡_, refl, ap, _∙_}
 use lib.Dec.{eqb, leb}
 use borrow.Author.Needs.{needs}
+use Rattle.choice.specs.Tests.{_also_}
 use Rattle.choice.proofs.TestsLaws.{both}
-use Rattle.job.specs.Checkpoint.{doneIn, asideIn, sound}
+use Rattle.job.specs.Checkpoint.{doneIn, asideIn, gapIn, blankIn, firstSound, ledgerSound, every, sound}
+use Rattle.job.specs.State.{ledgers}
 use Rattle.job.proofs.checkpoint.is_sound.Statement.{statement}
 use Rattle.job.proofs.checkpoint.is_sound.Tie as tie
+
+-- The gap is tested with the first record set aside, and named behind the ledgers.
+gap-last : (place first masses gap : Bool) → (place also (first also gap) also masses) ≡ (place also first also masses also gap)
+unfolding _also_
+gap-last false first masses gap = refl
+gap-last true false masses gap = refl
+gap-last true true false false = refl
+gap-last true true false true = refl
+gap-last true true true false = refl
+gap-last true true true true = refl
 
 returns : tie.Need-returns
 unfolding sound
 returns c =
     let blank = c .before .before .before in
-    let gap = blank .before in
-    let masses = gap .before in
+    let masses = blank .before in
     let first = masses .before in
     let aside = first .before in
     let done = aside .before in
@@ -27,12 +40,12 @@ returns c =
     let head = both (λ i. eqb (length-read i) (h .length)) (λ i. eqb (year-read i) (h .year)) in
     let in-book = both head (λ i. leb (done-read i) (h .n)) in
     let place = both {b′ = leb (asideIn k) (doneIn k)} in-book (λ i. leb (aside-read i) (done-read i)) in
-    let all = both (both place (first .is-first-sound .ensures)) (masses .are-ledgers-sound .ensures) in
-    both (both all (gap .are-zero .ensures)) (blank .are-zero2 .ensures)
+    both (both (both place (first .is-first-sound .ensures)) (masses .are-ledgers-sound .ensures)) (blank .are-zero .ensures)
+    ∙ ap (λ (b : Bool). b also blankIn k) (gap-last _ (firstSound k) (every (ledgerSound k) ledgers) (gapIn k))
 
 pub is-sound-spec : {M : Type 1} → statement M
 is-sound-spec =
     tie.close
     (tie.spec
     (λ c κs. search needs) (λ c κs. search needs) (λ c κs. search needs) (λ c κs. search needs)
-    (λ c κs. search needs) (λ c κs. search needs) (λ c κs. search needs) (λ c κs. search needs) returns)
+    (λ c κs. search needs) (λ c κs. search needs) (λ c κs. search needs) returns)

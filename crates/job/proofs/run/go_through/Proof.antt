@@ -1,17 +1,20 @@
--- A wake begins with nothing gone through; and n records more from place p end at place p + n. Assumes nothing.
+-- Of no record the checkpoint stays. A wake begins with nothing gone through; and n records more from place p end at
+-- place p + n. Assumes nothing.
 use Prim.Native.Nat.{ℕ, _+_, _<_, _≤_}
-use mathlib.Core.Path.{_≡_, refl, ap, _∙_}
+use mathlib.Core.Path.{_≡_, refl, ap, sym, _∙_}
 use native.Mathlib.Nat.{le-add-right, le-trans}
 use native.Mathlib.Omega.{arith}
 use lib.ListN.{replicate}
 use borrow.Author.Needs.{needs}
+use Rattle.rules.specs.Bytes.{byte}
 use Rattle.rules.proofs.TableLaws.{known-none}
 use Rattle.job.specs.declared.counts.Counts.{Counts}
 use Rattle.job.specs.State.{run}
 use Rattle.job.specs.Checkpoint.{doneIn, decode, encode}
 use Rattle.job.specs.Words.{words, countsAt, Gone}
-use Rattle.job.proofs.AdmissionLaws.{admittedFor-whole}
-use Rattle.job.proofs.RunLaws.{place-lt, gone-all, gone-nothing, gone-within, gone-none-yet, encode-gone, reason-gone, light-gone}
+use Rattle.job.proofs.AdmissionLaws.{admittedFor-whole, admittedFor-so}
+use Rattle.job.proofs.CheckpointLaws.{encode-decode}
+use Rattle.job.proofs.RunLaws.{place-lt, gone-all, gone-none-yet, encode-gone, reason-gone, light-gone}
 use Rattle.job.proofs.WentLaws.{before-gone, gone-went}
 use Rattle.job.proofs.run.go_through.Statement.{statement}
 use Rattle.job.proofs.run.go_through.Tie as tie
@@ -23,22 +26,25 @@ begun s = gone-none-yet _ _ _ _ (s .pre .1 .0 .1)
 place : (s : tie.Start) → s .args .c .done ≡ doneIn (s .args .from .now)
 place s = ap (λ (t : Counts). t .done) (s .pre .1 .0 .1)
 
-write-requires : tie.Need-write-requires
-write-requires c κs =
-    let s = c .before .before .before .before .before .before in
-    let p = s .pre in
-    let a = p .1 .0 .0 in
-    let all = begun s in
-    ((admittedFor-whole _ _ a, all .kept .whole, p .1 .1 .1), light-gone _ _ _ (p .0) a _ _ all (gone-within (s .args .n) (p .1 .1 .0)))
+copy-requires : tie.Need-copy-requires
+copy-requires c κs =
+    let p = c .before .before .before .before .before .pre in
+    (admittedFor-whole _ _ (p .1 .0 .0), p .1 .1 .1)
 
+-- A sound checkpoint is the one that says what it says.
 returns : tie.Need-returns
+unfolding run
 returns c =
-    let write = c .before .before in
-    let test = write .before .before .before in
-    let s = test .before .before .before .before in
+    let copied = c .before .before in
+    let test = copied .before .before in
+    let known = test .before .before in
+    let s = known .before .before in
     let a = s .args in
-    encode-gone _ _ _ (s .pre .0) (s .pre .1 .0 .0) _ _ (begun s) (write .write .ensures) refl refl
-    ∙ ap (λ (m : ℕ). encode (a .h) (run (a .h) (a .book .now) (decode (a .from .now)) m)) (gone-nothing (place s) (test .if1 .taken))
+    let admitted = s .pre .1 .0 .0 in
+    let bytes : (i : ℕ) → byte (a .from .now) i < 256 = λ i. omega (arith, known .shared-slice-known2 .given i) in
+    copied .copy .ensures
+    ∙ sym (encode-decode (a .h) (a .from .now) bytes (admittedFor-whole _ _ admitted) (admittedFor-so _ _ admitted))
+    ∙ ap (λ (m : ℕ). encode (a .h) (run (a .h) (a .book .now) (decode (a .from .now)) m)) (sym (test .if1 .taken))
 
 -- From where the end is found, the function's entry.
 abbrev start : tie.After-struct-known2 → tie.Start
@@ -71,8 +77,8 @@ find-counts-requires c κs =
     let p = entry slow .pre in
     reason-gone _ _ _ (p .0) (p .1 .0 .0) _ _ (gone slow) (ends slow)
 
-write-requires-2 : tie.Need-write-requires-2
-write-requires-2 c κs =
+write-requires : tie.Need-write-requires
+write-requires c κs =
     let slow = c .before .before .before .before .before .before in
     let p = entry slow .pre in
     let a = p .1 .0 .0 in
@@ -87,7 +93,7 @@ returns-2 c =
     let s = entry slow in
     let a = s .args in
     encode-gone _ _ _ (s .pre .0) (s .pre .1 .0 .0) _ _ (gone slow)
-    (write .write2 .ensures) (counts .find-counts .ensures) (slow .go-slowly .ensures .whole refl)
+    (write .write .ensures) (counts .find-counts .ensures) (slow .go-slowly .ensures .whole refl)
     ∙ ap (λ (m : ℕ). encode (a .h) (run (a .h) (a .book .now) (decode (a .from .now)) m)) (gone-all (a .n) (place s))
 
 further : (d n : ℕ) → (n ≡ 0 → ⊥) → d < d + n
@@ -111,6 +117,6 @@ pub go-through-spec : {M : Type 1} → statement M
 go-through-spec =
     tie.close
     (tie.spec
-    (λ c. search needs) write-requires (λ c. search needs) returns (λ c. search needs) add-until (λ c. search needs)
-    (λ c. search needs) (λ c. search needs) go-slowly-requires find-counts-requires (λ c. search needs) write-requires-2
+    copy-requires (λ c. search needs) returns (λ c. search needs) add-until (λ c. search needs)
+    (λ c. search needs) (λ c. search needs) go-slowly-requires find-counts-requires (λ c. search needs) write-requires
     (λ c. search needs) returns-2 (λ c. search needs) go-to-requires (λ c. search needs) returns-3)
