@@ -55,10 +55,10 @@ pub(crate) fn go_on(
     ensures known { λ r. ⌜ Known (lines r (now (book .entry))) (unitLines h (now (book .entry))) (now (table .exit)) ⌝ }
 {
     let mut units = [index::BLANK; index::UNITS];
-    let mut by_unit = [0u8; 256];
+    let mut by_unit = [0u8; index::HINTS];
     index::note_units(book, h, &mut units, &mut by_unit);
     let mut fuels = [index::BLANK; index::FUELS];
-    let mut by_fuel = [0u8; 256];
+    let mut by_fuel = [0u8; index::HINTS];
     index::note_fuels(book, h, &mut fuels, &mut by_fuel);
     let mut shares = [0u64; 1024];
     let mut at = place;
@@ -112,9 +112,9 @@ fn take_quickly(
     h: Head,
     place: u32,
     units: &[u32; 256],
-    by_unit: &[u8; 256],
+    by_unit: &[u8; 1024],
     fuels: &[u32; 320],
-    by_fuel: &[u8; 256],
+    by_fuel: &[u8; 1024],
     table: &mut [u64],
     stop: bool,
     shares: &mut [u64; 1024],

@@ -43,13 +43,13 @@ column-found {s} {t} {n} {j} {x} column low is-x small =
     (λ past. absurd (omega (arith, column-past column low past)))
 
 -- The hint of a number.
-pub small-hint : {hints : List ℕ} → Small hints → (x : ℕ) → getD hints (x % 256) 0 < 64
-small-hint small x = small .below (x % 256) (omega arith)
+pub small-hint : {hints : List ℕ} → Small hints → (x : ℕ) → getD hints (x % 1024) 0 < 64
+small-hint small x = small .below (x % 1024) (omega arith)
 
 -- ---- hints
-pub small-blank : {hints : List ℕ} → hints ≡ replicate 256 0 → Small hints
+pub small-blank : {hints : List ℕ} → hints ≡ replicate 1024 0 → Small hints
 small-blank blank =
-    subst Small (sym blank) (record { below = λ x h. omega (arith, getD-replicate {A = ℕ} 256 x 0 0 h) })
+    subst Small (sym blank) (record { below = λ x h. omega (arith, getD-replicate {A = ℕ} 1024 x 0 0 h) })
 
 pub small-set : {hints : List ℕ} {v : ℕ} (p : ℕ) → Small hints → v < 64 → Small (set hints p v)
 small-set {hints} {v} p small low = record {
@@ -59,7 +59,7 @@ small-set {hints} {v} p small low = record {
       (λ other. subst (λ (y : ℕ). y < 64) (sym (getD-set-other hints p x v 0 other)) (small .below x h));
 }
   where
-    written : p < 256 → getD (set hints p v) p 0 < 64
+    written : p < 1024 → getD (set hints p v) p 0 < 64
     written h =
         if-lt p (length hints)
         (λ there. subst (λ (y : ℕ). y < 64) (sym (getD-set-same hints p v 0 there)) low)

@@ -11,7 +11,7 @@
 --     volumeOf f           the molar volume of a gas, 0 of other fuel
 --     Column v s o n t     the 64 entries of t from place o on are v of the first n lines of s, each in its place
 --     UnitsNoted s t, FuelsNoted s t    t is the index of the unit lines, or fuel lines, s
---     Small hints          each of 256 hints is below 64
+--     Small hints          each of 1024 hints is below 64
 --
 -- Laws: proofs/IndexLaws.antt. Definitions only.
 use Prim.Native.Nat.{ℕ, _+_, _/_, _<_}
@@ -63,4 +63,4 @@ pub record FuelsNoted (s t : List ℕ) : Type 0 where
   pub volumes : Column volumeOf s 256 (length s / 32) t
 
 pub record Small (hints : List ℕ) : Type 0 where
-  pub below : (x : ℕ) → x < 256 → getD hints x 0 < 64
+  pub below : (x : ℕ) → x < 1024 → getD hints x 0 < 64

@@ -1,5 +1,5 @@
 // An index of a book's unit lines and fuel lines: what many records ask of these is read once. A column of
-// it has an entry for each line, and a hint says in which line a number may stand, by its last byte. As a
+// it has an entry for each line, and a hint says in which line a number may stand, by its last ten bits. As a
 // look-up holds the number of that line against the one that it wants, a wrong hint costs time alone.
 use crate::book::Head;
 use crate::bytes;
@@ -17,6 +17,9 @@ ghost use Rattle.rules.specs.Listing.{Rising};
 pub const UNITS: usize = 256;
 
 pub const FUELS: usize = 320;
+
+// How many hints there are. By fewer bits than ten, several of 64 lines would often share one.
+pub const HINTS: usize = 1024;
 
 // The number of no line.
 pub const BLANK: u32 = 65536;
@@ -37,9 +40,9 @@ pub(crate) const CARBON: usize = 192;
 pub(crate) const VOLUMES: usize = 256;
 
 // Notes the unit lines of a book that was opened.
-pub fn note_units(book: &[u8], h: Head, units: &mut [u32; 256], hints: &mut [u8; 256])
+pub fn note_units(book: &[u8], h: Head, units: &mut [u32; 256], hints: &mut [u8; 1024])
     requires opened { ⌜ opened (now book) ≡ accepted h ⌝ }
-    requires blank { ⌜ (now units ≡ replicate 256 noNumber) × (now hints ≡ replicate 256 0) ⌝ }
+    requires blank { ⌜ (now units ≡ replicate 256 noNumber) × (now hints ≡ replicate 1024 0) ⌝ }
     ensures noted { λ _. ⌜ UnitsNoted (unitLines h (now (book .entry))) (now (units .exit)) × Small (now (hints .exit)) ⌝ }
 {
     let start = h.units;
@@ -47,9 +50,9 @@ pub fn note_units(book: &[u8], h: Head, units: &mut [u32; 256], hints: &mut [u8;
     note_unit_lines(&book[start..end], units, hints);
 }
 
-fn note_unit_lines(s: &[u8], units: &mut [u32; 256], hints: &mut [u8; 256])
+fn note_unit_lines(s: &[u8], units: &mut [u32; 256], hints: &mut [u8; 1024])
     requires rising { ⌜ Rising (now s) ⌝ }
-    requires blank { ⌜ (now units ≡ replicate 256 noNumber) × (now hints ≡ replicate 256 0) ⌝ }
+    requires blank { ⌜ (now units ≡ replicate 256 noNumber) × (now hints ≡ replicate 1024 0) ⌝ }
     ensures noted { λ _. ⌜ UnitsNoted (now (s .entry)) (now (units .exit)) × Small (now (hints .exit)) ⌝ }
 {
     let n = s.len() / 32;
@@ -57,7 +60,7 @@ fn note_unit_lines(s: &[u8], units: &mut [u32; 256], hints: &mut [u8; 256])
     while j < n {
         let u = bytes::take_line(s, j);
         let number = listed::number(u);
-        hints[(number % 256) as usize] = j as u8;
+        hints[(number % 1024) as usize] = j as u8;
         units[j] = number as u32;
         units[PERMITS + j] = find_permits(u);
         units[WAYS + j] = find_way(u);
@@ -107,9 +110,9 @@ fn find_moist(u: &[u8]) -> u32
 }
 
 // The same for its fuel lines.
-pub fn note_fuels(book: &[u8], h: Head, fuels: &mut [u32; 320], hints: &mut [u8; 256])
+pub fn note_fuels(book: &[u8], h: Head, fuels: &mut [u32; 320], hints: &mut [u8; 1024])
     requires opened { ⌜ opened (now book) ≡ accepted h ⌝ }
-    requires blank { ⌜ (now fuels ≡ replicate 320 noNumber) × (now hints ≡ replicate 256 0) ⌝ }
+    requires blank { ⌜ (now fuels ≡ replicate 320 noNumber) × (now hints ≡ replicate 1024 0) ⌝ }
     ensures noted { λ _. ⌜ FuelsNoted (fuelLines h (now (book .entry))) (now (fuels .exit)) × Small (now (hints .exit)) ⌝ }
 {
     let start = h.fuels;
@@ -117,9 +120,9 @@ pub fn note_fuels(book: &[u8], h: Head, fuels: &mut [u32; 320], hints: &mut [u8;
     note_fuel_lines(&book[start..end], fuels, hints);
 }
 
-fn note_fuel_lines(s: &[u8], fuels: &mut [u32; 320], hints: &mut [u8; 256])
+fn note_fuel_lines(s: &[u8], fuels: &mut [u32; 320], hints: &mut [u8; 1024])
     requires rising { ⌜ Rising (now s) ⌝ }
-    requires blank { ⌜ (now fuels ≡ replicate 320 noNumber) × (now hints ≡ replicate 256 0) ⌝ }
+    requires blank { ⌜ (now fuels ≡ replicate 320 noNumber) × (now hints ≡ replicate 1024 0) ⌝ }
     ensures noted { λ _. ⌜ FuelsNoted (now (s .entry)) (now (fuels .exit)) × Small (now (hints .exit)) ⌝ }
 {
     let n = s.len() / 32;
@@ -127,7 +130,7 @@ fn note_fuel_lines(s: &[u8], fuels: &mut [u32; 320], hints: &mut [u8; 256])
     while j < n {
         let f = bytes::take_line(s, j);
         let number = listed::number(f);
-        hints[(number % 256) as usize] = j as u8;
+        hints[(number % 1024) as usize] = j as u8;
         fuels[j] = number as u32;
         fuels[REFINED + j] = find_refined(f);
         fuels[ALLOWED + j] = find_allowed(f);

@@ -50,9 +50,9 @@ pub fn sort_fuel(
     h: Head,
     i: usize,
     units: &[u32; 256],
-    by_unit: &[u8; 256],
+    by_unit: &[u8; 1024],
     fuels: &[u32; 320],
-    by_fuel: &[u8; 256],
+    by_fuel: &[u8; 1024],
 ) -> Sorted
     requires opened { ⌜ opened (now book) ≡ accepted h ⌝ }
     requires there { ⌜ (i < h .n) × (kind (line i (now book)) ≡ 1) ⌝ }
@@ -64,8 +64,8 @@ pub fn sort_fuel(
     let l = bytes::take_line(book, i);
     let unit = field::unit_number(l);
     let fuel = field::fuel_number(l);
-    let j = by_unit[(unit % 256) as usize] as usize;
-    let k = by_fuel[(fuel % 256) as usize] as usize;
+    let j = by_unit[(unit % 1024) as usize] as usize;
+    let k = by_fuel[(fuel % 1024) as usize] as usize;
     let unit_right = units[j] as u64 == unit;
     let fuel_right = fuels[k] as u64 == fuel;
     let carbon_right = is_carbon_right(l, fuels[index::CARBON + k]);
@@ -148,9 +148,9 @@ pub fn sort_gas(
     h: Head,
     i: usize,
     units: &[u32; 256],
-    by_unit: &[u8; 256],
+    by_unit: &[u8; 1024],
     fuels: &[u32; 320],
-    by_fuel: &[u8; 256],
+    by_fuel: &[u8; 1024],
 ) -> Sorted
     requires opened { ⌜ opened (now book) ≡ accepted h ⌝ }
     requires there { ⌜ (i < h .n) × (kind (line i (now book)) ≡ 3) ⌝ }
@@ -161,8 +161,8 @@ pub fn sort_gas(
     let l = bytes::take_line(book, i);
     let unit = field::unit_number(l);
     let fuel = field::fuel_number(l);
-    let j = by_unit[(unit % 256) as usize] as usize;
-    let k = by_fuel[(fuel % 256) as usize] as usize;
+    let j = by_unit[(unit % 1024) as usize] as usize;
+    let k = by_fuel[(fuel % 1024) as usize] as usize;
     let unit_right = units[j] as u64 == unit;
     let fuel_right = fuels[k] as u64 == fuel;
     let volume = fuels[index::VOLUMES + k];

@@ -22,10 +22,10 @@ abbrev begun : tie.After-fuel-number → tie.Start
 begun c = c .before .before .before .before
 
 abbrev unit-place : tie.After-fuel-number → ℕ
-unit-place c = getD (begun c .args .by-unit .now) (c .before .unit-number .result % 256) 0
+unit-place c = getD (begun c .args .by-unit .now) (c .before .unit-number .result % 1024) 0
 
 abbrev fuel-place : tie.After-fuel-number → ℕ
-fuel-place c = getD (begun c .args .by-fuel .now) (c .fuel-number .result % 256) 0
+fuel-place c = getD (begun c .args .by-fuel .now) (c .fuel-number .result % 1024) 0
 
 unit-few : (c : tie.After-fuel-number) → unit-place c < 64
 unit-few c = small-hint (begun c .pre .1 .1 .0 .1) (c .before .unit-number .result)
