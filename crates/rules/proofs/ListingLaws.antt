@@ -1,10 +1,10 @@
 -- The rules of a line by its named bytes and its blank, where the first line with a number stands, and
 -- what `listed` makes of it. Assumes nothing.
-use Prim.Native.Nat.{ℕ, suc, zero, _+_, _-_, _/_, _<_, _≤_}
+use Prim.Native.Nat.{ℕ, suc, zero, _+_, _-_, _*_, _/_, _<_, _≤_}
 use mathlib.Core.Bool.{true, false}
 use mathlib.Core.List.{List}
 use mathlib.Core.Path.{_≡_, refl, sym, ap, _∙_}
-use native.Mathlib.Nat.{not-suc-le-zero}
+use native.Mathlib.Nat.{not-suc-le-zero, mul-zero, mul-one}
 use native.Mathlib.Omega.{arith}
 use lib.ListN.{length, take, drop}
 use borrow.Author.Tests.{eq-eqb, ne-eqb}
@@ -130,21 +130,29 @@ pub record Between (s : List ℕ) (x low high : ℕ) : Type 0 where
   pub above : (j : ℕ) → high ≤ j → j < length s / 32 → x < numberAt j s
 
 module _ (s : List ℕ) (x : ℕ) where
-  pub between-start : Between s x 0 (length s / 32)
+  pub between-start : Between s x 0 (0 + length s / 32)
   between-start = record {
     below = λ j h. absurd (not-suc-le-zero h);
     above = λ j h l. absurd (omega arith);
   }
 
-  pub place-between : (low high : ℕ) → high ≤ low → Between s x low high → Nothing ≡ place x 0 (linesIn s)
+  -- No line has the number.
+  pub place-none : ((i : ℕ) → i < length s / 32 → numberAt i s ≡ x → ⊥) → Nothing ≡ place x 0 (linesIn s)
   unfolding linesIn
-  place-between low high h b =
+  place-none none =
       if-listed x (length s / 32) 0 s
       (λ a. sym (a .place-is))
-      (λ i f. absurd (
+      (λ i f. absurd (none i (f .within) (f .has)))
+
+  -- The one line that is left doesn't.
+  pub between-none : (low high : ℕ) → high ≤ low + 1 → Between s x low high → (numberAt low s ≡ x → ⊥)
+      → (i : ℕ) → i < length s / 32 → numberAt i s ≡ x → ⊥
+  between-none low high h b other i l e =
       if-lt i low
-      (λ m. omega (arith, f .has, b .below i m))
-      (λ m. omega (arith, f .has, b .above i (omega arith) (f .within)))))
+      (λ m. omega (arith, b .below i m))
+      (λ m. if-eq i low
+      (λ same. other (ap (λ (j : ℕ). numberAt j s) (sym same) ∙ e))
+      (λ n. omega (arith, b .above i (omega arith) l)))
 
 -- The line in the middle has the number y.
 module _ (s : List ℕ) (x mid y : ℕ) (r : Rising s) (l : mid < length s / 32) (e : y ≡ numberAt mid s) where
@@ -157,23 +165,35 @@ module _ (s : List ℕ) (x mid y : ℕ) (r : Rising s) (l : mid < length s / 32)
       (λ i f. let same : 0 + i ≡ mid = omega (arith, rising-inj s i mid r (f .within) l (f .has ∙ sym has)) in
       sym (f .place-is ∙ ap At same))
 
-  pub between-up : (low high : ℕ) → y < x → Between s x low high → Between s x (mid + 1) high
+  pub between-up : (low high : ℕ) → y ≤ x → Between s x low high → Between s x mid high
   between-up low high p b = record {
-    below = λ j h.
-        if-lt j mid
-        (λ m. let less = r .rise j mid m l in omega arith)
-        (λ m. let same : j ≡ mid = omega arith in rw same (omega arith));
+    below = λ j m. let less = r .rise j mid m l in omega arith;
     above = b .above;
   }
 
-  pub between-down : (low high : ℕ) → (y ≡ x → ⊥) → x ≤ y → Between s x low high → Between s x low mid
-  between-down low high n p b = record {
+  pub between-down : (low high to : ℕ) → x < y → mid ≤ to → Between s x low high → Between s x low to
+  between-down low high to p h b = record {
     below = b .below;
-    above = λ j h k.
+    above = λ j k m.
         if-lt mid j
-        (λ m. let more = r .rise mid j m k in omega arith)
-        (λ m. let same : j ≡ mid = omega arith in rw same (omega arith));
+        (λ n. let more = r .rise mid j n m in omega arith)
+        (λ n. let same : j ≡ mid = omega arith in rw same (omega arith));
   }
+
+-- Of the lines from `low` on, `width` of them, half are left: the upper ones, u being 1, or the lower ones, u being 0.
+pub between-half : (s : List ℕ) (x low half width y u : ℕ) → Rising s → low + half < length s / 32
+    → y ≡ numberAt (low + half) s → half + half ≤ width → (x < y → u ≡ 0) → (y ≤ x → u ≡ 1)
+    → Between s x low (low + width)
+    → (low + half * u + (width - half) ≤ low + width) × Between s x (low + half * u) (low + half * u + (width - half))
+between-half s x low half width y u r l e h lower upper b =
+    if-lt x y
+    (λ past.
+    let at : low + half * u ≡ low = omega (arith, ap (λ (n : ℕ). half * n) (lower past) ∙ mul-zero half) in
+    rw at (omega arith, between-down s x (low + half) y r l e low (low + width) (low + (width - half)) past (omega arith) b))
+    (λ reached.
+    let at : low + half * u ≡ low + half = omega (arith, ap (λ (n : ℕ). half * n) (upper reached) ∙ mul-one half) in
+    let end : low + half + (width - half) ≡ low + width = omega arith in
+    rw (at, end) (omega arith, between-up s x (low + half) y r l e low (low + width) reached b))
 
 -- ---- what `listed` makes of r, which a search for y gave
 module _ (x k : ℕ) (rest : List ℕ → Outcome) where

@@ -135,25 +135,28 @@ pub(crate) fn find(s: &[u8], hints: &[u8], x: u64) -> Found
     halve(s, x)
 }
 
-// The place of the line with this number. Of 64 lines at most seven are looked at, since each turn
-// leaves at most half of those between `low` and `high`.
+// The place of the line with this number. Of 64 lines seven are looked at: each turn leaves half of those from `low` on,
+// and the line that is left is held against the number.
 fn halve(s: &[u8], x: u64) -> Found
     requires rising { ⌜ Rising (now s) ⌝ }
     ensures place { λ r. ⌜ r ≡ place x 0 (linesIn (now (s .entry))) ⌝ }
 {
+    let mut width = s.len() / 32;
+    if width == 0 {
+        return Found::Nothing;
+    }
+    let above = 65536 + x % 65536;
     let mut low = 0;
-    let mut high = s.len() / 32;
-    while low < high {
-        let mid = low + (high - low) / 2;
-        let number = listed::number(bytes::take_line(s, mid));
-        if number == x {
-            return Found::At(mid);
-        }
-        if number < x {
-            low = mid + 1;
-        } else {
-            high = mid;
-        }
+    while 1 < width {
+        let half = width / 2;
+        let number = listed::number(bytes::take_line(s, low + half));
+        // 1 where the number isn't past x, else 0: no jump hangs on it, of which a processor foresees half.
+        let upper = (above - number) / 65536;
+        low = low + half * upper as usize;
+        width = width - half;
+    }
+    if listed::number(bytes::take_line(s, low)) == x {
+        return Found::At(low);
     }
     Found::Nothing
 }
