@@ -17,6 +17,7 @@ ghost use lib.ListN.{getD};
 ghost use Rattle.rules.specs.Bytes.{line, lines};
 ghost use Rattle.rules.specs.Book.{unitLines, fuelLines, opened, accepted};
 ghost use Rattle.rules.specs.Index.{UnitsNoted, FuelsNoted, Small};
+ghost use Rattle.rules.specs.AtOnce.{heatLimits};
 ghost use Rattle.rules.specs.Table.{noting, Known};
 ghost use Rattle.rules.specs.declared.record.Outcome.the-variants as outcome;
 ghost use Rattle.job.specs.State.{counted};
@@ -60,6 +61,7 @@ pub(crate) fn go_on(
     let mut fuels = [index::BLANK; index::FUELS];
     let mut by_fuel = [0u8; index::HINTS];
     index::note_fuels(book, h, &mut fuels, &mut by_fuel);
+    let limits = sorting::HEAT_LIMITS;
     let mut shares = [0u64; 1024];
     let mut at = place;
     while at < until {
@@ -76,6 +78,7 @@ pub(crate) fn go_on(
             &mut shares,
             aside,
             w,
+            &limits,
         );
         match taken {
             Taken::Done => {}
@@ -120,11 +123,12 @@ fn take_quickly(
     shares: &mut [u64; 1024],
     aside: &mut [u32; 3],
     w: &mut [u64],
+    limits: &[u32; 8],
 ) -> Taken
     requires opened { ⌜ opened (now book) ≡ accepted h ⌝ }
     requires there { ⌜ (place < h .n) × CountsFit h (countsAt place (now aside)) ⌝ }
     requires units { ⌜ UnitsNoted (unitLines h (now book)) (now units) × Small (now «by_unit») ⌝ }
-    requires fuels { ⌜ FuelsNoted (fuelLines h (now book)) (now fuels) × Small (now «by_fuel») ⌝ }
+    requires fuels { ⌜ FuelsNoted (fuelLines h (now book)) (now fuels) × Small (now «by_fuel») × (now limits ≡ heatLimits) ⌝ }
     requires known { ⌜ Known (lines place (now book)) (unitLines h (now book)) (now table) ⌝ }
     requires room { ⌜ Held (legRecords - 1) (now shares) × Kept carries (now w) ⌝ }
     ensures taking { λ r. ⌜ Taking h (now (book .entry)) place stop (now (aside .entry)) (now (w .entry)) (now (shares .entry)) (now (table .entry)) r (now (aside .exit)) (now (w .exit)) (now (shares .exit)) (now (table .exit)) ⌝ }
@@ -132,11 +136,11 @@ fn take_quickly(
     let i = place as usize;
     let kind = record::find_kind(book, h, i);
     if kind == 1 {
-        let sorted = sorting::sort_fuel(book, h, i, units, by_unit, fuels, by_fuel);
+        let sorted = sorting::sort_fuel(book, h, i, units, by_unit, fuels, by_fuel, limits);
         return take_fuel(sorted, shares);
     }
     if kind == 3 {
-        let sorted = sorting::sort_gas(book, h, i, units, by_unit, fuels, by_fuel);
+        let sorted = sorting::sort_gas(book, h, i, units, by_unit, fuels, by_fuel, limits);
         return take_gas(sorted, shares, w);
     }
     if stop {

@@ -15,7 +15,7 @@ use Rattle.choice.proofs.TestsLaws.{choose-t, choose-f, if-choose}
 use Rattle.rules.specs.Bytes.{byte, line}
 use Rattle.rules.specs.Fields.{number}
 use Rattle.rules.specs.Record.{carbonLimit}
-use Rattle.rules.specs.Index.{noNumber, permits, wayOf, moistBelow, refinedFlags, allowedFlags, volumeOf, Column, UnitsNoted, FuelsNoted, Small}
+use Rattle.rules.specs.Index.{noNumber, columnOf, wayOf, moistBelow, largeFlags, allowedFlags, volumeOf, Column, UnitsNoted, FuelsNoted, Small}
 use Rattle.rules.proofs.BytesLaws.{word-two-lt, byte-part-lt}
 
 -- ---- what an index answers
@@ -156,32 +156,32 @@ columns-blank {t} vs s o m room blank = subst (λ (x : List ℕ). Columns s 0 x 
 
 -- ---- those of the units and those of the fuels
 abbrev pub unitColumns : List (List ℕ → ℕ)
-unitColumns = number ∷ permits ∷ wayOf ∷ moistBelow ∷ []
+unitColumns = number ∷ columnOf ∷ wayOf ∷ moistBelow ∷ []
 
 abbrev pub fuelColumns : List (List ℕ → ℕ)
-fuelColumns = number ∷ refinedFlags ∷ allowedFlags ∷ carbonLimit ∷ volumeOf ∷ []
+fuelColumns = number ∷ largeFlags ∷ allowedFlags ∷ carbonLimit ∷ volumeOf ∷ []
 
 -- The entries of the line l, one column after the other as the code writes them.
 pub unitColumns-next : {s t l : List ℕ} {n x p w m : ℕ} → n < 64 → Columns s n t unitColumns 0 → l ≡ line n s
-    → x ≡ number l → p ≡ permits l → w ≡ wayOf l → m ≡ moistBelow l
+    → x ≡ number l → p ≡ columnOf l → w ≡ wayOf l → m ≡ moistBelow l
     → Columns s (n + 1) (set (set (set (set t n x) (64 + n) p) (128 + n) w) (192 + n) m) unitColumns 0
 unitColumns-next {s} {t} {n = n} few columns line-is x-is p-is w-is m-is =
     subst (λ (x : List ℕ). Columns s (n + 1) x unitColumns 0)
     (sym (λ i.
     set (set (set (set t (sym (zero-add n) i) ((x-is ∙ ap number line-is) i))
-    (64 + n) ((p-is ∙ ap permits line-is) i))
+    (64 + n) ((p-is ∙ ap columnOf line-is) i))
     (128 + n) ((w-is ∙ ap wayOf line-is) i))
     (192 + n) ((m-is ∙ ap moistBelow line-is) i)))
     (columns-next unitColumns few columns)
 
 pub fuelColumns-next : {s t l : List ℕ} {n x r a k m : ℕ} → n < 64 → Columns s n t fuelColumns 0 → l ≡ line n s
-    → x ≡ number l → r ≡ refinedFlags l → a ≡ allowedFlags l → k ≡ carbonLimit l → m ≡ volumeOf l
+    → x ≡ number l → r ≡ largeFlags l → a ≡ allowedFlags l → k ≡ carbonLimit l → m ≡ volumeOf l
     → Columns s (n + 1) (set (set (set (set (set t n x) (64 + n) r) (128 + n) a) (192 + n) k) (256 + n) m) fuelColumns 0
 fuelColumns-next {s} {t} {n = n} few columns line-is x-is r-is a-is k-is m-is =
     subst (λ (x : List ℕ). Columns s (n + 1) x fuelColumns 0)
     (sym (λ i.
     set (set (set (set (set t (sym (zero-add n) i) ((x-is ∙ ap number line-is) i))
-    (64 + n) ((r-is ∙ ap refinedFlags line-is) i))
+    (64 + n) ((r-is ∙ ap largeFlags line-is) i))
     (128 + n) ((a-is ∙ ap allowedFlags line-is) i))
     (192 + n) ((k-is ∙ ap carbonLimit line-is) i))
     (256 + n) ((m-is ∙ ap volumeOf line-is) i)))
@@ -192,7 +192,7 @@ unitsNoted-all {s} {t} all columns = noted (subst (λ (m : ℕ). Columns s m t u
   where
     noted : Columns s (length s / 32) t unitColumns 0 → UnitsNoted s t
     noted (more a (more b (more c (more d none)))) =
-        record { numbers = a .column; permitted = b .column; ways = c .column; moist = d .column }
+        record { numbers = a .column; columns = b .column; ways = c .column; moist = d .column }
 
 pub fuelsNoted-all : {s t : List ℕ} {n : ℕ} → n ≡ length s / 32 → Columns s n t fuelColumns 0 → FuelsNoted s t
 fuelsNoted-all {s} {t} all columns = noted (subst (λ (m : ℕ). Columns s m t fuelColumns 0) all columns)
@@ -200,7 +200,7 @@ fuelsNoted-all {s} {t} all columns = noted (subst (λ (m : ℕ). Columns s m t f
     noted : Columns s (length s / 32) t fuelColumns 0 → FuelsNoted s t
     noted (more a (more b (more c (more d (more e none))))) = record {
       numbers = a .column;
-      refined = b .column;
+      large = b .column;
       allowed = c .column;
       carbon = d .column;
       volumes = e .column;

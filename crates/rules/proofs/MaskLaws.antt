@@ -1,22 +1,23 @@
 -- The masks of an index say of each of eight flags what the rules say: that there is a heat in use, that a low
 -- value is a measured one of natural gas, and that there is a method. These are 256 cases, and each is worked out.
 -- Assumes nothing.
-use Prim.Native.Nat.{ℕ, suc, zero, _+_, _/_, _%_, _^_, _<_, _≤_}
+use Prim.Native.Nat.{ℕ, suc, zero, _+_, _*_, _/_, _%_, _^_, _<_, _≤_}
 use mathlib.Core.Bool.{Bool, true, false, false≢true, not, cond, _&&_, _||_, and-eq-true-iff}
 use mathlib.Core.List.{List}
-use mathlib.Core.Path.{_≡_, refl, sym, ap, _∙_, subst}
+use mathlib.Core.Path.{_≡_, refl, sym, _∙_, subst}
 use native.Mathlib.Nat.{not-suc-le-zero, le-trans, le-of-eq}
 use native.Mathlib.Omega.{arith}
-use lib.Bits.{bitAnd, bitOr}
-use lib.Dec.{eqb, ltb}
-use borrow.Author.Tests.{ltb-true}
+use lib.Bits.{bitAnd}
+use lib.Dec.{eqb, leb, ltb}
+use lib.ListN.{getD}
+use borrow.Author.Tests.{eq-eqb, ltb-true, leb-true}
 use Rattle.choice.specs.Tests.{_either_, choose}
 use Rattle.choice.proofs.Splitting.{if-eq}
 use Rattle.choice.proofs.TestsLaws.{also-l, also-r, both, any, choose-true, choose-false}
 use Rattle.rules.specs.Fields.{monitored, fuelClass, defaultHeat, flags, analysed, heatMeasured, heatLow}
 use Rattle.rules.specs.Method.{small, methodOf}
-use Rattle.rules.specs.Index.{permits, refinedFlags, allowedFlags}
-use Rattle.rules.specs.AtOnce.{allowedBy}
+use Rattle.rules.specs.Index.{columnOf, allowedFlags, largeFlags}
+use Rattle.rules.specs.AtOnce.{heatLimits, allowedBy}
 
 -- ---- tests that compute
 choose-cond : (b : Bool) (x y : ℕ) → choose b x y ≡ cond b x y
@@ -56,8 +57,8 @@ implied false b h p = absurd (false≢true p)
 -- a default d, and the flags x
 byMasks : Bool → Bool → Bool → Bool → Bool → ℕ → Bool
 byMasks m s g o d x =
-    eqb (bitAnd (bitOr (cond m 255 (cond s 255 204)) (cond (g || o) 170 0)) (10 + cond d 5 0 + cond g 160 0)
-    / 2 ^ (x % 32) % 2) 1
+    let heats = 10 + cond d 5 0 + cond g 160 0 in
+    eqb (cond m heats (cond s heats (bitAnd heats (cond (g || o) 238 204))) / 2 ^ (x % 32) % 2) 1
 
 method : Bool → Bool → Bool → Bool → Bool → ℕ → ℕ
 method m s g o d x =
@@ -86,6 +87,20 @@ byMasks-byRules m s g o d x l =
     implied _ _ (every-at _ (every-at _ (every-at _ (every-at _ (every-at _ all m) s) g) o) d)
 
 -- ---- what the masks of a record say
+-- The flags of the fuel f that count in the unit u, and where they stand in an index.
+abbrev pub flagsIn : List ℕ → List ℕ → ℕ
+flagsIn u f = choose (monitored u) (allowedFlags f) (choose (small u) (allowedFlags f) (largeFlags f))
+
+pub flagsIn-at : (u f t : List ℕ) (k : ℕ) → getD t (64 + k) 0 ≡ largeFlags f → getD t (128 + k) 0 ≡ allowedFlags f
+    → getD t (columnOf u % 256 + k) 0 ≡ flagsIn u f
+unfolding columnOf choose
+flagsIn-at u f t k large allowed = at (monitored u) (small u)
+  where
+    at : (m s : Bool) → getD t (choose m 128 (choose s 128 64) % 256 + k) 0 ≡ choose m (allowedFlags f) (choose s (allowedFlags f) (largeFlags f))
+    at true s = allowed
+    at false true = allowed
+    at false false = large
+
 pub record Heated (l f : List ℕ) : Type 0 where
   pub in-use : (heatMeasured l either ltb 0 (defaultHeat f)) ≡ true
   pub low-measured : (heatMeasured l either not (heatLow l)) ≡ true
@@ -113,22 +128,15 @@ module _ (l f : List ℕ) (few : flags l ≤ 7) where
       )
 
   -- Any unit permits it.
-  gas-masks : byMasksOf true true ≡ allowedBy l 255 0 (allowedFlags f)
+  gas-masks : byMasksOf true true ≡ allowedBy l (allowedFlags f)
   unfolding allowedBy allowedFlags byMasks
-  gas-masks =
-      let heats = 10 + choose (ltb 0 (defaultHeat f)) 5 0 + choose (eqb (fuelClass f) 1) 160 0 in
-      let by-mask : ℕ → Bool = λ p. eqb (bitAnd p heats / 2 ^ (flags l % 32) % 2) 1 in
-      sym (simp choose-cond) ∙ ap by-mask (full (eqb (fuelClass f) 1 || eqb (fuelClass f) 2))
-    where
-      full : (r : Bool) → bitOr 255 (cond r 170 0) ≡ 255
-      full true = refl
-      full false = refl
+  gas-masks = sym (simp choose-cond)
 
-  pub allowedBy-gas : allowedBy l 255 0 (allowedFlags f) ≡ true → Heated l f
+  pub allowedBy-gas : allowedBy l (allowedFlags f) ≡ true → Heated l f
   allowedBy-gas h = told true true (gas-masks ∙ h) .0
 
-  masks : (u : List ℕ) → allowedBy l (permits u) (refinedFlags f) (allowedFlags f) ≡ byMasksOf (monitored u) (small u)
-  unfolding allowedBy permits refinedFlags allowedFlags byMasks
+  masks : (u : List ℕ) → allowedBy l (flagsIn u f) ≡ byMasksOf (monitored u) (small u)
+  unfolding allowedBy largeFlags allowedFlags byMasks
   masks u = simp (choose-cond, either-or)
 
   methods : (u : List ℕ) → analysed l ≡ false → methodOf l u f ≡ methodBy (monitored u) (small u)
@@ -136,7 +144,23 @@ module _ (l f : List ℕ) (few : flags l ≤ 7) where
   methods u other = simp (choose-cond, either-or, other)
 
   pub allowedBy-fuel : (u : List ℕ) → analysed l ≡ false
-      → allowedBy l (permits u) (refinedFlags f) (allowedFlags f) ≡ true → Heated l f × (0 < methodOf l u f)
+      → allowedBy l (flagsIn u f) ≡ true → Heated l f × (0 < methodOf l u f)
   allowedBy-fuel u other h =
       let all = told (monitored u) (small u) (sym (masks u) ∙ h) in
       (all .0, le-trans (ltb-true 0 _ (all .1)) (le-of-eq (sym (methods u other))))
+
+-- ---- the most heat by the flags
+limited : ℕ → Bool
+limited x =
+    leb (getD heatLimits x 0) (200000 * (x % 2)) && (not (eqb (x / 4 % 2) 1) || leb (getD heatLimits x 0) 180000)
+
+all-limited : upTo 8 limited ≡ true
+unfolding upTo limited
+all-limited = refl
+
+pub heatLimits-at : (x : ℕ) → x < 8
+    → (getD heatLimits x 0 ≤ 200000 * (x % 2)) × (x / 4 % 2 ≡ 1 → getD heatLimits x 0 ≤ 180000)
+unfolding limited
+heatLimits-at x l =
+    let both-ways = and-eq-true-iff _ _ .0 (upTo-at 8 limited all-limited x l) in
+    (leb-true _ _ (both-ways .0), λ low. leb-true _ _ (implied _ _ (both-ways .1) (eq-eqb _ _ low)))

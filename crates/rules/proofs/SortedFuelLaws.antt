@@ -21,13 +21,13 @@ use Rattle.rules.specs.Book.{unitLines, fuelLines}
 use Rattle.rules.specs.Method.{methodOf}
 use Rattle.rules.specs.Entry.{heatInUse, amountOf, co2ByCarbon, co2By}
 use Rattle.rules.specs.Record.{carbonForm, carbonLimit, carbonRange, outcomeAt}
-use Rattle.rules.specs.Index.{permits, wayOf, refinedFlags, allowedFlags}
+use Rattle.rules.specs.Index.{wayOf}
 use Rattle.rules.specs.Sorting.{co2Of, carbonOf, Shared}
 use Rattle.rules.specs.AtOnce.{formRight, heatRight, carbonRight, allowedBy, amountBurned}
 use Rattle.rules.proofs.MethodLaws.{methodOf-monitored, methodOf-carbon, methodOf-heat-le}
 use Rattle.rules.proofs.EntryLaws.{carbonLimit-le}
 use Rattle.rules.proofs.StandsLaws.{Found, unit-entry, fuel-entry}
-use Rattle.rules.proofs.MaskLaws.{Heated, allowedBy-fuel}
+use Rattle.rules.proofs.MaskLaws.{Heated, flagsIn, flagsIn-at, allowedBy-fuel}
 use Rattle.rules.proofs.FactorsLaws.{co2Of-heat, co2Of-other, carbonOf-none, carbonOf-monitor}
 use Rattle.rules.proofs.SortingLaws.{fuelForm-right, fuelRanges-right, burned-heat, destination-monitored, destination-unmonitored, times-zero, Co2Told, Monitored, Passes, settled}
 
@@ -37,7 +37,7 @@ pub record Passed (l u f : List ℕ) : Type 0 where
   pub formed : formRight l ≡ true
   pub heats : heatRight l ≡ true
   pub carbons : carbonRight (carbonLimit f) l ≡ true
-  pub allowed : allowedBy l (permits u) (refinedFlags f) (allowedFlags f) ≡ true
+  pub allowed : allowedBy l (flagsIn u f) ≡ true
 
 module _ {l u f : List ℕ} (t : Passed l u f) where
   other : analysed l ≡ false
@@ -170,11 +170,11 @@ pub record Tested (m us fs : List ℕ) (unit fuel j k : ℕ) : Type 0 where
   pub formed : formRight m ≡ true
   pub heats : heatRight m ≡ true
   pub carbons : carbonRight (getD fs (192 + k) 0) m ≡ true
-  pub allowed : allowedBy m (getD us (64 + j) 0) (getD fs (64 + k) 0) (getD fs (128 + k) 0) ≡ true
+  pub allowed : allowedBy m (getD fs (getD us (64 + j) 0 % 256 + k) 0) ≡ true
 
 pub tested : {form heat carbon allowed : Bool} (m us fs : List ℕ) (unit fuel j k : ℕ)
     → form ≡ formRight m → heat ≡ heatRight m → carbon ≡ carbonRight (getD fs (192 + k) 0) m
-    → allowed ≡ allowedBy m (getD us (64 + j) 0) (getD fs (64 + k) 0) (getD fs (128 + k) 0)
+    → allowed ≡ allowedBy m (getD fs (getD us (64 + j) 0 % 256 + k) 0)
     → not (eqb (getD us j 0) unit && eqb (getD fs k 0) fuel && form && heat && carbon && allowed) ≡ false
     → Tested m us fs unit fuel j k
 tested m us fs unit fuel j k form heat carbon allowed all =
@@ -196,15 +196,16 @@ module _ {h : Head} {s : List ℕ} {i : ℕ} {m us fs : List ℕ} {unit fuel j k
     (t : Tested m us fs unit fuel j k) where
   passed : kind (line i s) ≡ 1 → Passed (line i s) (line j (unitLines h s)) (line k (fuelLines h s))
   passed kind-is =
-      let permits-is = unit-entry (w .unit) (w .unit .units .permitted) in
-      let refined-is = fuel-entry w (w .fuels .refined) in
-      let allowed-is = fuel-entry w (w .fuels .allowed) in
+      let column-is = unit-entry (w .unit) (w .unit .units .columns) in
+      let flags-are =
+      ap (λ (x : ℕ). getD fs (x % 256 + k) 0) column-is
+      ∙ flagsIn-at _ _ fs k (fuel-entry w (w .fuels .large)) (fuel-entry w (w .fuels .allowed)) in
       record {
         kind-is = kind-is;
         formed = sym (ap formRight (w .unit .line-is)) ∙ t .formed;
         heats = sym (ap heatRight (w .unit .line-is)) ∙ t .heats;
         carbons = sym (ap₂ carbonRight (fuel-entry w (w .fuels .carbon)) (w .unit .line-is)) ∙ t .carbons;
-        allowed = sym (λ a. allowedBy (w .unit .line-is a) (permits-is a) (refined-is a) (allowed-is a)) ∙ t .allowed;
+        allowed = sym (ap₂ allowedBy (w .unit .line-is) flags-are) ∙ t .allowed;
       }
 
   pub settled-fuel : (x : Share) → kind (line i s) ≡ 1 → x .at ≡ 16 * k + getD us (128 + j) 0 → x .way ≡ flags m % 4

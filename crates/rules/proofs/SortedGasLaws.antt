@@ -40,7 +40,7 @@ pub record Passed (l f : List ℕ) : Type 0 where
   pub formed : gasRight l ≡ true
   pub heats : heatRight l ≡ true
   pub volumes : 0 < volumeOf f
-  pub allowed : allowedBy l 255 0 (allowedFlags f) ≡ true
+  pub allowed : allowedBy l (allowedFlags f) ≡ true
 
 module _ {l f : List ℕ} (t : Passed l f) where
   gas : analysed l ≡ true
@@ -192,10 +192,10 @@ pub record Tested (m us fs : List ℕ) (unit fuel j k : ℕ) : Type 0 where
   pub formed : gasRight m ≡ true
   pub heats : heatRight m ≡ true
   pub volumes : 0 < getD fs (256 + k) 0
-  pub allowed : allowedBy m 255 0 (getD fs (128 + k) 0) ≡ true
+  pub allowed : allowedBy m (getD fs (128 + k) 0) ≡ true
 
 pub tested : {form heat allowed : Bool} (m us fs : List ℕ) (unit fuel j k : ℕ)
-    → form ≡ gasRight m → heat ≡ heatRight m → allowed ≡ allowedBy m 255 0 (getD fs (128 + k) 0)
+    → form ≡ gasRight m → heat ≡ heatRight m → allowed ≡ allowedBy m (getD fs (128 + k) 0)
     → not (eqb (getD us j 0) unit && eqb (getD fs k 0) fuel && form && heat && ltb 0 (getD fs (256 + k) 0) && allowed)
     ≡ false
     → Tested m us fs unit fuel j k
@@ -224,7 +224,7 @@ module _ {h : Head} {s : List ℕ} {i : ℕ} {m us fs : List ℕ} {unit fuel j k
     heats = sym (ap heatRight (w .unit .line-is)) ∙ t .heats;
     volumes = le-trans (t .volumes) (le-of-eq (fuel-entry w (w .fuels .volumes)));
     allowed =
-        sym (ap₂ (λ (l : List ℕ) (v : ℕ). allowedBy l 255 0 v) (w .unit .line-is) (fuel-entry w (w .fuels .allowed)))
+        sym (ap₂ allowedBy (w .unit .line-is) (fuel-entry w (w .fuels .allowed)))
         ∙ t .allowed;
   }
 

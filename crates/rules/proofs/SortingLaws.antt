@@ -7,8 +7,8 @@ use mathlib.Core.Path.{_≡_, refl, sym, ap, ap₂, _∙_}
 use native.Mathlib.Nat.{le-trans, le-of-eq, mul-zero, mul-one, mul-comm, mul-assoc, mul-le-mul}
 use native.Mathlib.Omega.{arith}
 use lib.Dec.{eqb, lit≤}
-use lib.ListN.{length}
-use borrow.Author.Tests.{ltb-true, lt-ltb, leb-true, le-leb, lt-leb, eq-eqb, ne-eqb, eqb-true, eqb-false, not-true}
+use lib.ListN.{length, getD}
+use borrow.Author.Tests.{ltb-true, lt-ltb, leb-true, le-leb, eq-eqb, ne-eqb, eqb-true, eqb-false, not-true}
 use Rattle.choice.proofs.Splitting.{if-test}
 use Rattle.choice.proofs.TestsLaws.{also-t, also-l, also-r, either-t, either-f, choose-t, choose-f, if-choose}
 use Rattle.mass.specs.declared.fuel.Heat.{Heat}
@@ -22,18 +22,18 @@ use Rattle.rules.specs.declared.sorting.Share.{Share}
 use Rattle.rules.specs.Bytes.{line}
 use Rattle.rules.specs.Fields.{monitored, defaultHeat, ch4Factor, n2oFactor, flags, fuelled, heatMeasured, heatLow, month, amount, heat}
 use Rattle.rules.specs.Book.{unitLines, fuelLines}
-use Rattle.rules.specs.Method.{methodOf}
+use Rattle.rules.specs.Method.{small, methodOf}
 use Rattle.rules.specs.Entry.{measuredHeat, heatInUse, amountOf, co2By, destinationBy, entryBy, fuelEntry}
 use Rattle.rules.specs.Record.{carbonForm, fuelForm, heatLimit, heatRange, carbonRange, fuelRanges, fuelJudged, fuelOutcome, outcomeAt}
-use Rattle.rules.specs.Index.{wayOf}
+use Rattle.rules.specs.Index.{columnOf, wayOf}
 use Rattle.rules.specs.Sorting.{heatOf, co2Of, carbonOf, ledgerOf, mostBurned, Shared}
-use Rattle.rules.specs.AtOnce.{heatRight, amountBurned}
+use Rattle.rules.specs.AtOnce.{heatLimits, heatRight, amountBurned}
 use Rattle.rules.proofs.MethodLaws.{methodOf-monitored, methodOf-unmonitored-le}
 use Rattle.rules.proofs.EntryLaws.{measuredHeat-le}
 use Rattle.rules.proofs.RecordLaws.{check-t}
 use Rattle.rules.proofs.OnceLaws.{outcomeAfter-fuel}
 use Rattle.rules.proofs.StandsLaws.{listed-stands, Found, unit-stands, fuel-stands}
-use Rattle.rules.proofs.MaskLaws.{Heated}
+use Rattle.rules.proofs.MaskLaws.{Heated, heatLimits-at}
 
 -- ---- flags
 measured-odd : (l : List ℕ) → heatMeasured l ≡ true → flags l % 2 ≡ 1
@@ -44,14 +44,20 @@ unmeasured-even l none = let other = eqb-false (flags l % 2) 1 none in omega ari
 
 -- ---- the heat
 module _ (l : List ℕ) (h : heatRight l ≡ true) where
-  heat-le : heat l ≤ 200000 * (flags l % 2)
+  limits : (getD heatLimits (flags l % 8) 0 ≤ 200000 * (flags l % 8 % 2)) × (flags l % 8 / 4 % 2 ≡ 1 → getD heatLimits (flags l % 8) 0 ≤ 180000)
+  limits = heatLimits-at (flags l % 8) (omega arith)
+
+  limit-le : heat l ≤ getD heatLimits (flags l % 8) 0
   unfolding heatRight
-  heat-le = leb-true _ _ (also-r _ _ (also-l _ _ h))
+  limit-le = leb-true _ _ (also-r _ _ h)
+
+  heat-le : heat l ≤ 200000 * (flags l % 2)
+  heat-le = omega (arith, limit-le, limits .0)
 
   heat-above : heatMeasured l ≡ true → 0 < heat l
   unfolding heatRight
   heat-above measured =
-      let least = leb-true (flags l % 2) (heat l) (also-l _ _ (also-l _ _ h)) in
+      let least = leb-true (flags l % 2) (heat l) (also-l _ _ h) in
       omega (arith, measured-odd l measured)
 
   heat-none : heatMeasured l ≡ false → heat l ≡ 0
@@ -59,11 +65,11 @@ module _ (l : List ℕ) (h : heatRight l ≡ true) where
 
   -- A low value is flagged by 4.
   pub heatLimit-right : heat l ≤ heatLimit l
-  unfolding heatRight heatLimit
+  unfolding heatLimit
   heatLimit-right =
       if-choose (λ (x : ℕ). heat l ≤ x) (heatLow l)
       (λ low. let four = eqb-true (flags l / 4 % 2) 1 low in
-      leb-true _ _ (sym (either-f (lt-leb (flags l) 3 (omega arith)) refl) ∙ also-r _ _ h))
+      le-trans limit-le (limits .1 (omega arith)))
       (λ high. omega (arith, heat-le))
 
   measuredHeat-above : heatMeasured l ≡ true → 0 < measuredHeat l .0
@@ -180,6 +186,12 @@ module _ (l u f : List ℕ) where
 pub wayOf-le : (u : List ℕ) → wayOf u ≤ 4
 unfolding wayOf
 wayOf-le u = if-choose (λ (x : ℕ). x ≤ 4) (monitored u) (λ m. lit≤ tt) (λ m. lit≤ tt)
+
+pub columnOf-le : (u : List ℕ) → columnOf u ≤ 128
+unfolding columnOf
+columnOf-le u =
+    if-choose (λ (x : ℕ). x ≤ 128) (monitored u) (λ m. lit≤ tt)
+    (λ m. if-choose (λ (x : ℕ). x ≤ 128) (small u) (λ s. lit≤ tt) (λ s. lit≤ tt))
 
 pub times-zero : {y : ℕ} (x : ℕ) → y ≡ 0 → x * y ≡ 0
 times-zero x none = ap (λ (y : ℕ). x * y) none ∙ mul-zero x

@@ -2,12 +2,11 @@
 -- and the definitions of a record don't need it.
 --
 --     noNumber             what a column has where there is no line; it is no line's number
---     permits u            a bit for each of the flags 0 to 7 of a record: such a one is permitted in the unit u
---                          whatever its fuel
+--     columnOf u           which column of a fuel's flags counts in the unit u: that of allowedFlags or of largeFlags
 --     wayOf u              4 if the unit has a monitor, else 0
 --     moistBelow u         what the moisture of its hours stays below; 0 without a monitor
---     refinedFlags f       the flags that the fuel f permits in any unit
---     allowedFlags f       the flags with which a record of f has a heat in use
+--     allowedFlags f       a bit for each of the flags 0 to 7 of a record: one of the fuel f has a heat in use with them
+--     largeFlags f         and has a method too, in a large unit without a monitor
 --     volumeOf f           the molar volume of a gas, 0 of other fuel
 --     Column v s o n t     the 64 entries of t from place o on are v of the first n lines of s, each in its place
 --     UnitsNoted s t, FuelsNoted s t    t is the index of the unit lines, or fuel lines, s
@@ -17,6 +16,7 @@
 use Prim.Native.Nat.{ℕ, _+_, _/_, _<_}
 use mathlib.Core.List.{List}
 use mathlib.Core.Path.{_≡_}
+use lib.Bits.{bitAnd}
 use lib.Dec.{eqb, ltb}
 use lib.ListN.{length, getD}
 use Rattle.choice.specs.Tests.{_either_, choose}
@@ -28,8 +28,8 @@ use Rattle.rules.specs.Record.{carbonLimit}
 abbrev pub noNumber : ℕ
 noNumber = 65536
 
-unfoldable pub permits : List ℕ → ℕ
-permits u = choose (monitored u) 255 (choose (small u) 255 204)
+unfoldable pub columnOf : List ℕ → ℕ
+columnOf u = choose (monitored u) 128 (choose (small u) 128 64)
 
 unfoldable pub wayOf : List ℕ → ℕ
 wayOf u = choose (monitored u) 4 0
@@ -37,11 +37,11 @@ wayOf u = choose (monitored u) 4 0
 unfoldable pub moistBelow : List ℕ → ℕ
 moistBelow u = choose (monitored u) (choose (dry u) 1001 1) 0
 
-unfoldable pub refinedFlags : List ℕ → ℕ
-refinedFlags f = choose (eqb (fuelClass f) 1 either eqb (fuelClass f) 2) 170 0
-
 unfoldable pub allowedFlags : List ℕ → ℕ
 allowedFlags f = 10 + choose (ltb 0 (defaultHeat f)) 5 0 + choose (eqb (fuelClass f) 1) 160 0
+
+unfoldable pub largeFlags : List ℕ → ℕ
+largeFlags f = bitAnd (allowedFlags f) (choose (eqb (fuelClass f) 1 either eqb (fuelClass f) 2) 238 204)
 
 unfoldable pub volumeOf : List ℕ → ℕ
 volumeOf f = choose (eqb (fuelKind f) 3) (molarVolume f) 0
@@ -51,13 +51,13 @@ pub record Column (v : List ℕ → ℕ) (s : List ℕ) (o n : ℕ) (t : List �
 
 pub record UnitsNoted (s t : List ℕ) : Type 0 where
   pub numbers : Column number s 0 (length s / 32) t
-  pub permitted : Column permits s 64 (length s / 32) t
+  pub columns : Column columnOf s 64 (length s / 32) t
   pub ways : Column wayOf s 128 (length s / 32) t
   pub moist : Column moistBelow s 192 (length s / 32) t
 
 pub record FuelsNoted (s t : List ℕ) : Type 0 where
   pub numbers : Column number s 0 (length s / 32) t
-  pub refined : Column refinedFlags s 64 (length s / 32) t
+  pub large : Column largeFlags s 64 (length s / 32) t
   pub allowed : Column allowedFlags s 128 (length s / 32) t
   pub carbon : Column carbonLimit s 192 (length s / 32) t
   pub volumes : Column volumeOf s 256 (length s / 32) t

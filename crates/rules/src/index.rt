@@ -10,7 +10,7 @@ ghost use mathlib.Core.Path.{_≡_};
 ghost use Prim.Native.Nat.{_≤_};
 ghost use lib.ListN.{length, replicate};
 ghost use Rattle.rules.specs.Book.{unitLines, fuelLines, opened, accepted};
-ghost use Rattle.rules.specs.Index.{noNumber, permits, wayOf, moistBelow, refinedFlags, allowedFlags, volumeOf, UnitsNoted, FuelsNoted, Small};
+ghost use Rattle.rules.specs.Index.{noNumber, columnOf, wayOf, moistBelow, largeFlags, allowedFlags, volumeOf, UnitsNoted, FuelsNoted, Small};
 ghost use Rattle.rules.specs.Listing.{Rising};
 
 // How many entries the columns of units have together, and those of fuels.
@@ -25,13 +25,13 @@ pub const HINTS: usize = 1024;
 pub const BLANK: u32 = 65536;
 
 // Where the columns start, that of the numbers aside, which is the first.
-pub(crate) const PERMITS: usize = 64;
+pub(crate) const COLUMNS: usize = 64;
 
 pub(crate) const WAYS: usize = 128;
 
 pub(crate) const MOIST: usize = 192;
 
-pub(crate) const REFINED: usize = 64;
+pub(crate) const LARGE: usize = 64;
 
 pub(crate) const ALLOWED: usize = 128;
 
@@ -62,26 +62,26 @@ fn note_unit_lines(s: &[u8], units: &mut [u32; 256], hints: &mut [u8; 1024])
         let number = listed::number(u);
         hints[(number % 1024) as usize] = j as u8;
         units[j] = number as u32;
-        units[PERMITS + j] = find_permits(u);
+        units[COLUMNS + j] = find_column(u);
         units[WAYS + j] = find_way(u);
         units[MOIST + j] = find_moist(u);
         j += 1;
     }
 }
 
-// A bit for each of eight flags: whether a record with these is permitted in the unit whatever its fuel.
-fn find_permits(u: &[u8]) -> u32
+// The column of a fuel's flags that counts in the unit: that of all where some method is permitted with any of them, or
+// that of a large unit without a monitor.
+fn find_column(u: &[u8]) -> u32
     requires whole { ⌜ 32 ≤ length (now u) ⌝ }
-    ensures permits { λ r. ⌜ r ≡ permits (now (u .entry)) ⌝ }
+    ensures column { λ r. ⌜ r ≡ columnOf (now (u .entry)) ⌝ }
 {
     if listed::is_monitored(u) {
-        return 0xff;
+        return 128;
     }
     if listed::rating(u) <= method::SMALL_RATING {
-        return 0xff;
+        return 128;
     }
-    // Carbon is measured.
-    0xcc
+    64
 }
 
 // 4 where the CO2 of fuel isn't counted.
@@ -132,7 +132,7 @@ fn note_fuel_lines(s: &[u8], fuels: &mut [u32; 320], hints: &mut [u8; 1024])
         let number = listed::number(f);
         hints[(number % 1024) as usize] = j as u8;
         fuels[j] = number as u32;
-        fuels[REFINED + j] = find_refined(f);
+        fuels[LARGE + j] = find_large(f);
         fuels[ALLOWED + j] = find_allowed(f);
         fuels[CARBON + j] = range::find_carbon_limit(f);
         fuels[VOLUMES + j] = find_volume(f);
@@ -140,19 +140,20 @@ fn note_fuel_lines(s: &[u8], fuels: &mut [u32; 320], hints: &mut [u8; 1024])
     }
 }
 
-// The flags that the fuel permits in any unit: a measured heat, if it is natural gas or distillate oil.
-fn find_refined(f: &[u8]) -> u32
+// A bit for each of eight flags: whether a record of the fuel with these has a heat in use and, in a large unit without a
+// monitor, a method. There the carbon is measured, or the heat of natural gas or of distillate oil.
+fn find_large(f: &[u8]) -> u32
     requires whole { ⌜ 32 ≤ length (now f) ⌝ }
-    ensures refined { λ r. ⌜ r ≡ refinedFlags (now (f .entry)) ⌝ }
+    ensures large { λ r. ⌜ r ≡ largeFlags (now (f .entry)) ⌝ }
 {
     let class = listed::fuel_class(f);
     if (class == 1) | (class == 2) {
-        return 0xaa;
+        return find_allowed(f) & 0xee;
     }
-    0
+    find_allowed(f) & 0xcc
 }
 
-// The flags with which there is a heat in use: a measured one, the fuel's default, or the low value of
+// The same of flags with which there is a heat in use: a measured one, the fuel's default, or the low value of
 // natural gas, which is a measured one.
 fn find_allowed(f: &[u8]) -> u32
     requires whole { ⌜ 32 ≤ length (now f) ⌝ }

@@ -21,7 +21,10 @@ ghost use Rattle.rules.specs.Fields.{kind};
 ghost use Rattle.rules.specs.Book.{unitLines, fuelLines, opened, accepted};
 ghost use Rattle.rules.specs.Index.{UnitsNoted, FuelsNoted, Small};
 ghost use Rattle.rules.specs.Sorting.{Settled, NoGas};
-ghost use Rattle.rules.specs.AtOnce.{formRight, heatRight, carbonRight, gasRight, allowedBy, amountBurned};
+ghost use Rattle.rules.specs.AtOnce.{heatLimits, formRight, heatRight, carbonRight, gasRight, allowedBy, amountBurned};
+
+// The most heat by the lowest three flags: none where it wasn't measured, and less where it is a low value.
+pub const HEAT_LIMITS: [u32; 8] = [0, 200000, 0, 200000, 0, 180000, 0, 180000];
 
 // What a fuel record adds, before the factors of its fuel enter.
 pub struct Share {
@@ -53,11 +56,12 @@ pub fn sort_fuel(
     by_unit: &[u8; 1024],
     fuels: &[u32; 320],
     by_fuel: &[u8; 1024],
+    limits: &[u32; 8],
 ) -> Sorted
     requires opened { ⌜ opened (now book) ≡ accepted h ⌝ }
     requires there { ⌜ (i < h .n) × (kind (line i (now book)) ≡ 1) ⌝ }
     requires units { ⌜ UnitsNoted (unitLines h (now book)) (now units) × Small (now «by_unit») ⌝ }
-    requires fuels { ⌜ FuelsNoted (fuelLines h (now book)) (now fuels) × Small (now «by_fuel») ⌝ }
+    requires fuels { ⌜ FuelsNoted (fuelLines h (now book)) (now fuels) × Small (now «by_fuel») × (now limits ≡ heatLimits) ⌝ }
     ensures settled { λ r. ⌜ Settled h (now (book .entry)) i r ⌝ }
     ensures alone { λ r. ⌜ NoGas r ⌝ }
 {
@@ -69,13 +73,10 @@ pub fn sort_fuel(
     let unit_right = units[j] as u64 == unit;
     let fuel_right = fuels[k] as u64 == fuel;
     let carbon_right = is_carbon_right(l, fuels[index::CARBON + k]);
-    let allowed = is_allowed(
-        l,
-        units[index::PERMITS + j],
-        fuels[index::REFINED + k],
-        fuels[index::ALLOWED + k],
-    );
-    if !(unit_right & fuel_right & is_form_right(l) & is_heat_right(l) & carbon_right & allowed) {
+    let column = units[index::COLUMNS + j] as usize % 256;
+    let allowed = is_allowed(l, fuels[column + k]);
+    let heat_right = is_heat_right(l, limits);
+    if !(unit_right & fuel_right & is_form_right(l) & heat_right & carbon_right & allowed) {
         return Sorted::Unsure;
     }
     let carbon = field::amount(l) as u64 * field::carbon(l) as u64;
@@ -102,15 +103,15 @@ fn is_form_right(l: &[u8]) -> bool
         & field::is_fuel_record_blank(l)
 }
 
-// A flag is taken as a number, so that no jump hangs on it: of a book's flags a processor foresees half.
-fn is_heat_right(l: &[u8]) -> bool
+// The most heat is looked up by the flags, so that no jump hangs on these: of a book's flags a processor foresees half.
+fn is_heat_right(l: &[u8], limits: &[u32; 8]) -> bool
     requires whole { ⌜ 32 ≤ length (now l) ⌝ }
+    requires limits { ⌜ now limits ≡ heatLimits ⌝ }
     ensures right { λ r. ⌜ r ≡ heatRight (now (l .entry)) ⌝ }
 {
-    let measured = field::flags(l) as u32 % 2;
+    let flags = field::flags(l);
     let heat = field::heat(l);
-    let low_right = (field::flags(l) <= 3) | (heat <= 180000);
-    (measured <= heat) & (heat <= 200000 * measured) & low_right
+    (flags as u32 % 2 <= heat) & (heat <= limits[flags as usize % 8])
 }
 
 fn is_carbon_right(l: &[u8], limit: u32) -> bool
@@ -124,12 +125,12 @@ fn is_carbon_right(l: &[u8], limit: u32) -> bool
 }
 
 // Whether a method is permitted and there is a heat in use, by a bit for each of eight flags.
-fn is_allowed(l: &[u8], permits: u32, refined: u32, allowed: u32) -> bool
+fn is_allowed(l: &[u8], allowed: u32) -> bool
     requires whole { ⌜ 32 ≤ length (now l) ⌝ }
-    ensures allowed { λ r. ⌜ r ≡ allowedBy (now (l .entry)) permits refined allowed ⌝ }
+    ensures allowed { λ r. ⌜ r ≡ allowedBy (now (l .entry)) allowed ⌝ }
 {
     let flags = field::flags(l) as u32 % 32;
-    (((permits | refined) & allowed) >> flags) % 2 == 1
+    (allowed >> flags) % 2 == 1
 }
 
 fn find_burned(l: &[u8]) -> u64
@@ -151,11 +152,12 @@ pub fn sort_gas(
     by_unit: &[u8; 1024],
     fuels: &[u32; 320],
     by_fuel: &[u8; 1024],
+    limits: &[u32; 8],
 ) -> Sorted
     requires opened { ⌜ opened (now book) ≡ accepted h ⌝ }
     requires there { ⌜ (i < h .n) × (kind (line i (now book)) ≡ 3) ⌝ }
     requires units { ⌜ UnitsNoted (unitLines h (now book)) (now units) × Small (now «by_unit») ⌝ }
-    requires fuels { ⌜ FuelsNoted (fuelLines h (now book)) (now fuels) × Small (now «by_fuel») ⌝ }
+    requires fuels { ⌜ FuelsNoted (fuelLines h (now book)) (now fuels) × Small (now «by_fuel») × (now limits ≡ heatLimits) ⌝ }
     ensures settled { λ r. ⌜ Settled h (now (book .entry)) i r ⌝ }
 {
     let l = bytes::take_line(book, i);
@@ -167,8 +169,9 @@ pub fn sort_gas(
     let fuel_right = fuels[k] as u64 == fuel;
     let volume = fuels[index::VOLUMES + k];
     // Carbon is always measured, so that any unit permits it.
-    let allowed = is_allowed(l, 0xff, 0, fuels[index::ALLOWED + k]);
-    if !(unit_right & fuel_right & is_gas_right(l) & is_heat_right(l) & (0 < volume) & allowed) {
+    let allowed = is_allowed(l, fuels[index::ALLOWED + k]);
+    let heat_right = is_heat_right(l, limits);
+    if !(unit_right & fuel_right & is_gas_right(l) & heat_right & (0 < volume) & allowed) {
         return Sorted::Unsure;
     }
     let way = units[index::WAYS + j];

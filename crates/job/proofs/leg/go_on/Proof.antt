@@ -28,14 +28,14 @@ use Rattle.job.proofs.leg.go_on.Statement.{statement}
 use Rattle.job.proofs.leg.go_on.Tie as tie
 
 abbrev Inv-loop : tie.InvT-loop
-Inv-loop book h place until table₀ stop aside₀ w₀ units by-unit fuels by-fuel shares₀ at₀ table aside w shares at =
+Inv-loop book h place until table₀ stop aside₀ w₀ units by-unit fuels by-fuel limits shares₀ at₀ table aside w shares at =
     (place ≤ at) × (at ≤ until)
     × (legState h book at aside w shares ≡ run h book (stateIn (countsAt place aside₀) w₀) (at - place))
     × Kept (carriesEach * place + 3 * (at - place)) w × Held (at - place) shares
     × Known (lines at book) (unitLines h book) table × (length table ≡ length table₀) × (length w ≡ length w₀)
 
 abbrev μ-loop : tie.MeasureT-loop
-μ-loop book h place until table₀ stop aside₀ w₀ units by-unit fuels by-fuel shares₀ at₀ table aside w shares at = until - at
+μ-loop book h place until table₀ stop aside₀ w₀ units by-unit fuels by-fuel limits shares₀ at₀ table aside w shares at = until - at
 
 loop-holds : tie.Need-loop-holds Inv-loop μ-loop
 unfolding run
@@ -60,7 +60,7 @@ abbrev start : tie.At-loop Inv-loop μ-loop → tie.Start Inv-loop μ-loop
 start c = c .before .before .before .before .before .before .before .before .before .before
 
 abbrev tested : tie.After-take-quickly Inv-loop μ-loop → tie.In-loop Inv-loop μ-loop
-tested c = c .before .before .before .before .before .before .before .before .before
+tested c = c .before .before .before .before .before .before .before .before .before .before
 
 abbrev turn : tie.After-take-quickly Inv-loop μ-loop → tie.At-loop Inv-loop μ-loop
 turn c = tested c .before
@@ -90,16 +90,17 @@ roomy c =
 
 take-quickly-requires : tie.Need-take-quickly-requires Inv-loop μ-loop
 take-quickly-requires c κs =
-    let test = c .before .before .before .before .before .before .before .before in
+    let test = c .before .before .before .before .before .before .before .before .before in
     let at = test .before in
     let s = start at in
     let fit = fits test in
+    let fuels = at .before .note-fuels .ensures in
     let inv = at .loop .inv in
     let few = leg-left (inv .0) (test .loop-test .taken) (s .pre .1 .1 .1) in (
       s .pre .0,
       (
         (fit .1, fit .0),
-        (at .before .before .before .before .note-units .ensures, (at .before .note-fuels .ensures, (inv .5, (held-more (at .loop .shares) few (inv .4), roomy test)))),
+        (at .before .before .before .before .note-units .ensures, ((fuels .0, fuels .1, refl), (inv .5, (held-more (at .loop .shares) few (inv .4), roomy test)))),
       ),
     )
 

@@ -39,7 +39,7 @@ loop-again c =
       search needs,
       fuelColumns-next (few turn) (inv .1) line
           (c .before .before .before .before .number .ensures)
-          (c .before .before .before .find-refined .ensures)
+          (c .before .before .before .find-large .ensures)
           (c .before .before .find-allowed .ensures)
           (c .before .find-carbon-limit .ensures)
           (c .find-volume .ensures),

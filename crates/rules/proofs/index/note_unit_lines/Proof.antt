@@ -39,7 +39,7 @@ loop-again c =
       search needs,
       unitColumns-next (few turn) (inv .1) line
           (c .before .before .before .number .ensures)
-          (c .before .before .find-permits .ensures)
+          (c .before .before .find-column .ensures)
           (c .before .find-way .ensures)
           (c .find-moist .ensures),
       small-set _ (inv .2) (few turn),

@@ -1,6 +1,5 @@
 -- The code's test is the definition's. Assumes nothing.
 use Prim.Native.Nat.{_/_, _%_, _^_}
-use lib.Bits.{bitAnd, bitOr}
 use lib.Dec.{eqb}
 use borrow.Author.Needs.{needs}
 use Rattle.rules.specs.AtOnce.{allowedBy}
@@ -10,9 +9,8 @@ use Rattle.rules.proofs.sorting.is_allowed.Tie as tie
 returns : tie.Need-returns
 unfolding allowedBy
 returns c =
-    let a = c .before .before .args in
     let flags = c .flags .ensures in
-    λ i. eqb (bitAnd (bitOr (a .permits) (a .refined)) (a .allowed) / 2 ^ (flags i % 32) % 2) 1
+    λ i. eqb (c .before .before .args .allowed / 2 ^ (flags i % 32) % 2) 1
 
 pub is-allowed-spec : {M : Type 1} → statement M
 is-allowed-spec = tie.close (tie.spec (λ c κs. search needs) (λ c. search needs) (λ c. search needs) returns)

@@ -12,7 +12,7 @@ use Rattle.rules.proofs.BookLaws.{accepted-facts}
 use Rattle.rules.proofs.IndexLaws.{column-le, small-hint}
 use Rattle.rules.proofs.EntryLaws.{carbonLimit-le}
 use Rattle.rules.proofs.StandsLaws.{number-entry-le, Found}
-use Rattle.rules.proofs.SortingLaws.{wayOf-le}
+use Rattle.rules.proofs.SortingLaws.{wayOf-le, columnOf-le}
 use Rattle.rules.proofs.SortedFuelLaws.{Tested, tested, settled-fuel}
 use Rattle.rules.proofs.sorting.sort_fuel.Statement.{statement}
 use Rattle.rules.proofs.sorting.sort_fuel.Tie as tie
@@ -54,6 +54,11 @@ carbon-limit-le c =
     let limits = begun c .pre .1 .1 .1 .0 .carbon in
     column-le limits (fuel-few c) 4000000 (lit≤ tt) (λ j. carbonLimit-le _)
 
+column-le-most : (c : tie.After-fuel-number) → getD (begun c .args .units .now) (64 + unit-place c) 0 ≤ 65536
+column-le-most c =
+    let columns = begun c .pre .1 .1 .0 .0 .columns in
+    column-le columns (unit-few c) 65536 (lit≤ tt) (λ j. le-trans (columnOf-le _) (lit≤ tt))
+
 way-le : (c : tie.After-fuel-number) → getD (begun c .args .units .now) (128 + unit-place c) 0 ≤ 65536
 way-le c =
     let ways = begun c .pre .1 .1 .0 .0 .ways in
@@ -64,7 +69,7 @@ abbrev compared : tie.After-fuel-right → tie.After-fuel-number
 compared c = c .before .before .before .before
 
 abbrev looked : tie.Else1 → tie.After-fuel-number
-looked c = compared (c .before .before .before .before .before .before .before .before .before)
+looked c = compared (c .before .before .before .before .before .before .before .before)
 
 tests : (c : tie.Else1) →
     let l = looked c in
@@ -72,10 +77,10 @@ tests : (c : tie.Else1) →
     Tested (l .before .before .take-line .result .now) (a .units .now) (a .fuels .now)
     (l .before .unit-number .result) (l .fuel-number .result) (unit-place l) (fuel-place l)
 tests c =
-    let heat = c .before in
-    let form = heat .before in
-    let allowed = form .before in
-    let carbon = allowed .before .before .before .before in
+    let form = c .before in
+    let heat = form .before in
+    let allowed = heat .before in
+    let carbon = allowed .before .before .before in
     tested _ _ _ _ _ _ _ (form .is-form-right .ensures) (heat .is-heat-right .ensures)
     (carbon .is-carbon-right .ensures) (allowed .is-allowed .ensures) (c .if1 .left)
 
@@ -141,32 +146,29 @@ element-copy-out-is-carbon-right c = omega (arith, fuel-few (compared c))
 is-carbon-right-requires : tie.Need-is-carbon-right-requires
 is-carbon-right-requires c κs = (search needs, carbon-limit-le (compared (c .before)))
 
+add-column : tie.Need-add-column
+add-column c = omega (arith, unit-few (compared (c .before .before)))
+
+mul-column : tie.Need-mul-column
+mul-column c = omega (arith, unit-few (compared (c .before .before)))
+
+element-copy-out-column : tie.Need-element-copy-out-column
+element-copy-out-column c = omega (arith, unit-few (compared (c .before .before)))
+
+cast-column : tie.Need-cast-column
+cast-column c = omega (arith, column-le-most (compared (c .before .before .before)))
+
 add-is-allowed : tie.Need-add-is-allowed
-add-is-allowed c = omega (arith, unit-few (compared (c .before .before)))
+add-is-allowed c = omega (arith, fuel-few (compared (c .before .before .before)))
 
 mul-is-allowed : tie.Need-mul-is-allowed
-mul-is-allowed c = omega (arith, unit-few (compared (c .before .before)))
+mul-is-allowed c = omega (arith, fuel-few (compared (c .before .before .before)))
 
 element-copy-out-is-allowed : tie.Need-element-copy-out-is-allowed
-element-copy-out-is-allowed c = omega (arith, unit-few (compared (c .before .before)))
+element-copy-out-is-allowed c = omega (arith, fuel-few (compared (c .before .before .before)))
 
-add-is-allowed-2 : tie.Need-add-is-allowed-2
-add-is-allowed-2 c = omega (arith, fuel-few (compared (c .before .before .before)))
-
-mul-is-allowed-2 : tie.Need-mul-is-allowed-2
-mul-is-allowed-2 c = omega (arith, fuel-few (compared (c .before .before .before)))
-
-element-copy-out-is-allowed-2 : tie.Need-element-copy-out-is-allowed-2
-element-copy-out-is-allowed-2 c = omega (arith, fuel-few (compared (c .before .before .before)))
-
-add-is-allowed-3 : tie.Need-add-is-allowed-3
-add-is-allowed-3 c = omega (arith, fuel-few (compared (c .before .before .before .before)))
-
-mul-is-allowed-3 : tie.Need-mul-is-allowed-3
-mul-is-allowed-3 c = omega (arith, fuel-few (compared (c .before .before .before .before)))
-
-element-copy-out-is-allowed-3 : tie.Need-element-copy-out-is-allowed-3
-element-copy-out-is-allowed-3 c = omega (arith, fuel-few (compared (c .before .before .before .before)))
+is-heat-right-requires : tie.Need-is-heat-right-requires
+is-heat-right-requires c κs = (search needs, begun (compared (c .before .before .before .before .before)) .pre .1 .1 .1 .2)
 
 mul-carbon : tie.Need-mul-carbon
 mul-carbon c =
@@ -174,23 +176,23 @@ mul-carbon c =
     mul-le-mul {n₂ = 4294967295} {m₂ = 4294967295} (omega arith) (omega arith) in
     omega arith
 
-mul-t19 : tie.Need-mul-t19
-mul-t19 c = omega (arith, fuel-few (looked (c .before .before)))
+mul-t33 : tie.Need-mul-t33
+mul-t33 c = omega (arith, fuel-few (looked (c .before .before)))
 
-add-t30 : tie.Need-add-t30
-add-t30 c = omega (arith, unit-few (looked (c .before .before)))
+add-t22 : tie.Need-add-t22
+add-t22 c = omega (arith, unit-few (looked (c .before .before)))
 
-mul-t35 : tie.Need-mul-t35
-mul-t35 c = omega (arith, unit-few (looked (c .before .before)))
+mul-t38 : tie.Need-mul-t38
+mul-t38 c = omega (arith, unit-few (looked (c .before .before)))
 
-element-copy-out-t39 : tie.Need-element-copy-out-t39
-element-copy-out-t39 c = omega (arith, unit-few (looked (c .before .before)))
+element-copy-out-t48 : tie.Need-element-copy-out-t48
+element-copy-out-t48 c = omega (arith, unit-few (looked (c .before .before)))
 
-cast-t36 : tie.Need-cast-t36
-cast-t36 c = omega (arith, way-le (looked (c .before .before .before)))
+cast-t52 : tie.Need-cast-t52
+cast-t52 c = omega (arith, way-le (looked (c .before .before .before)))
 
-add-t40 : tie.Need-add-t40
-add-t40 c = let told = looked (c .before .before .before) in omega (arith, fuel-few told, way-le told)
+add-t53 : tie.Need-add-t53
+add-t53 c = let told = looked (c .before .before .before) in omega (arith, fuel-few told, way-le told)
 
 find-burned-requires : tie.Need-find-burned-requires
 find-burned-requires c κs = (search needs, tests (c .before .before .before .before) .heats)
@@ -213,9 +215,8 @@ sort-fuel-spec =
     (tie.spec take-line-requires (λ c κs. search needs) (λ c κs. search needs) (λ c. search needs) cast-j
     (λ c. search needs) cast-k mul-unit-right element-copy-out-unit-right cast-unit-right mul-fuel-right
     element-copy-out-fuel-right cast-fuel-right add-is-carbon-right mul-is-carbon-right
-    element-copy-out-is-carbon-right is-carbon-right-requires add-is-allowed mul-is-allowed
-    element-copy-out-is-allowed add-is-allowed-2 mul-is-allowed-2 element-copy-out-is-allowed-2 add-is-allowed-3
-    mul-is-allowed-3 element-copy-out-is-allowed-3 (λ c κs. search needs) (λ c κs. search needs)
+    element-copy-out-is-carbon-right is-carbon-right-requires add-column mul-column element-copy-out-column cast-column
+    add-is-allowed mul-is-allowed element-copy-out-is-allowed (λ c κs. search needs) is-heat-right-requires
     (λ c κs. search needs) (λ c. search needs) (λ c κs. search needs) (λ c. search needs) (λ c κs. search needs)
-    (λ c. search needs) mul-carbon mul-t19 add-t30 mul-t35 element-copy-out-t39 cast-t36 add-t40
+    (λ c. search needs) mul-carbon mul-t33 add-t22 mul-t38 element-copy-out-t48 cast-t52 add-t53
     (λ c κs. search needs) (λ c. search needs) find-burned-requires returns-2)

@@ -62,10 +62,10 @@ tests : (c : tie.Else1) →
     Tested (l .before .before .take-line .result .now) (a .units .now) (a .fuels .now)
     (l .before .unit-number .result) (l .fuel-number .result) (unit-place l) (fuel-place l)
 tests c =
-    let heat = c .before in
-    let form = heat .before in
+    let form = c .before in
+    let heat = form .before in
     tested _ _ _ _ _ _ _ (form .is-gas-right .ensures) (heat .is-heat-right .ensures)
-    (form .before .is-allowed .ensures) (c .if1 .left)
+    (heat .before .is-allowed .ensures) (c .if1 .left)
 
 found : (c : tie.Else1) →
     let l = looked c in
@@ -147,6 +147,9 @@ mul-is-allowed c = omega (arith, fuel-few (compared (c .before)))
 element-copy-out-is-allowed : tie.Need-element-copy-out-is-allowed
 element-copy-out-is-allowed c = omega (arith, fuel-few (compared (c .before)))
 
+is-heat-right-requires : tie.Need-is-heat-right-requires
+is-heat-right-requires c κs = (search needs, begun (compared (c .before .before .before)) .pre .1 .1 .1 .2)
+
 add-way : tie.Need-add-way
 add-way c = omega (arith, unit-few (looked c))
 
@@ -156,11 +159,11 @@ mul-way c = omega (arith, unit-few (looked c))
 element-copy-out-way : tie.Need-element-copy-out-way
 element-copy-out-way c = omega (arith, unit-few (looked c))
 
-sub-t51 : tie.Need-sub-t51
-sub-t51 c = omega (arith, way-le (c .before .before))
+sub-t52 : tie.Need-sub-t52
+sub-t52 c = omega (arith, way-le (c .before .before))
 
-mul-t52 : tie.Need-mul-t52
-mul-t52 c =
+mul-t53 : tie.Need-mul-t53
+mul-t53 c =
     let product : c .amount .result * (1 - way (c .before .before) / 4) ≤ 4294967295 * 1 =
     mul-le-mul {n₂ = 4294967295} {m₂ = 1} (omega arith) (omega arith) in
     omega arith
@@ -171,14 +174,14 @@ weigh-requires c κs =
     gas-in-reach (found done) (tests done) (analysed done) (c .before .before .amount .ensures)
     (c .before .carbon .ensures) (c .molecular-weight .ensures)
 
-mul-t23 : tie.Need-mul-t23
-mul-t23 c = omega (arith, fuel-few (looked (c .before .before .before .before .before)))
+mul-t25 : tie.Need-mul-t25
+mul-t25 c = omega (arith, fuel-few (looked (c .before .before .before .before .before)))
 
-cast-t34 : tie.Need-cast-t34
-cast-t34 c = omega (arith, way-le (c .before .before .before .before .before))
+cast-t36 : tie.Need-cast-t36
+cast-t36 c = omega (arith, way-le (c .before .before .before .before .before))
 
-add-t54 : tie.Need-add-t54
-add-t54 c = let done = c .before .before .before .before .before in omega (arith, fuel-few (looked done), way-le done)
+add-t55 : tie.Need-add-t55
+add-t55 c = let done = c .before .before .before .before .before in omega (arith, fuel-few (looked done), way-le done)
 
 find-burned-requires : tie.Need-find-burned-requires
 find-burned-requires c κs = (search needs, tests (c .before .before .before .before .before .before) .heats)
@@ -204,7 +207,7 @@ sort-gas-spec =
     (tie.spec take-line-requires (λ c κs. search needs) (λ c κs. search needs) (λ c. search needs) cast-j
     (λ c. search needs) cast-k mul-unit-right element-copy-out-unit-right cast-unit-right mul-fuel-right
     element-copy-out-fuel-right cast-fuel-right add-volume mul-volume element-copy-out-volume add-is-allowed
-    mul-is-allowed element-copy-out-is-allowed (λ c κs. search needs) (λ c κs. search needs)
+    mul-is-allowed element-copy-out-is-allowed (λ c κs. search needs) is-heat-right-requires
     (λ c κs. search needs) (λ c. search needs) add-way mul-way element-copy-out-way (λ c κs. search needs)
-    sub-t51 mul-t52 (λ c κs. search needs) (λ c κs. search needs) weigh-requires mul-t23 cast-t34 add-t54
+    sub-t52 mul-t53 (λ c κs. search needs) (λ c κs. search needs) weigh-requires mul-t25 cast-t36 add-t55
     (λ c κs. search needs) (λ c. search needs) (λ c. search needs) find-burned-requires returns-2)
