@@ -1,15 +1,15 @@
 -- The bytes of a number, put one by one, and one number behind the other. Assumes nothing.
-use Prim.Native.Nat.{ℕ, zero, suc, _+_, _/_, _%_, _^_, _<_, _≤_}
+use Prim.Native.Nat.{ℕ, zero, suc, _+_, _*_, _/_, _%_, _^_, _<_, _≤_}
 use mathlib.Core.List.{List, [], _∷_, _++_, append-nil, append-assoc}
-use mathlib.Core.Path.{_≡_, refl, ap, ap₂, sym, _∙_}
-use native.Mathlib.Nat.{pow-suc, div-div-eq-div-mul, le-of-suc-le-suc}
+use mathlib.Core.Path.{_≡_, refl, ap, ap₂, sym, _∙_, subst}
+use native.Mathlib.Nat.{add-zero, mul-zero, pow-suc, div-div-eq-div-mul, le-of-suc-le-suc}
 use native.Mathlib.Numerals.{add-one}
 use native.Mathlib.Omega.{arith}
 use lib.ListN.{length, getD, take, drop, set, length-append, drop-of-length-le, replicate, length-replicate, getD-replicate, List·getD-append, List·getD-eq-default}
 use lib.Seq.{paste, paste-suc, take-all, take-at, drop-at, drop-append-add, drop-drop}
 use Rattle.choice.proofs.Splitting.{if-lt}
 use Rattle.rules.specs.Bytes.{word, bytesOf}
-use Rattle.rules.proofs.BytesLaws.{word-same, word-nil, word-drop, length-bytesOf, byte-bytesOf, word-bytesOf}
+use Rattle.rules.proofs.BytesLaws.{word-same, word-nil, word-drop, length-bytesOf, byte-bytesOf, word-bytesOf, bytesOf-add}
 
 -- ---- what is left of a number
 pub div-bytes : (v i : ℕ) → v / 256 ^ i / 256 ≡ v / 256 ^ suc i
@@ -70,6 +70,33 @@ wrote-more {d} {o} {p} {at} w {r} n {u} {v} e put = record {
   front = length-append p (bytesOf n v) ∙ omega (arith, length-bytesOf n v, w .front);
 }
 
+-- ---- two numbers put as one: a in m bytes, and b in n bytes behind it
+append-two : (p : List ℕ) (m n a b : ℕ) → a < 256 ^ m
+    → p ++ bytesOf (m + n) (a + 256 ^ m * b) ≡ p ++ bytesOf m a ++ bytesOf n b
+append-two p m n a b l =
+    ap (λ (c : List ℕ). p ++ c) (bytesOf-add m n a b l) ∙ sym (append-assoc p (bytesOf m a) (bytesOf n b))
+
+-- Of a number that m bytes hold, the n behind them are 0.
+pub append-blank : (p : List ℕ) (m n v : ℕ) → v < 256 ^ m → p ++ bytesOf (m + n) v ≡ p ++ bytesOf m v ++ bytesOf n 0
+append-blank p m n v l =
+    let alone : v ≡ v + 256 ^ m * 0 = sym (ap (λ (x : ℕ). v + x) (mul-zero (256 ^ m)) ∙ add-zero v) in
+    ap (λ (x : ℕ). p ++ bytesOf (m + n) x) alone ∙ append-two p m n v 0 l
+
+pub wrote-two : {d o p : List ℕ} {at : ℕ} → Wrote d o p at → {r : List ℕ} (m n a b : ℕ) {v : ℕ} → a < 256 ^ m
+    → v ≡ a + 256 ^ m * b → r ≡ take at o ++ bytesOf (m + n) v ++ drop (at + (m + n)) o
+    → Wrote d r (p ++ bytesOf m a ++ bytesOf n b) (at + (m + n))
+wrote-two {d} {o} {p} {at} w {r} m n a b l e put =
+    subst (λ (c : List ℕ). Wrote d r c (at + (m + n))) (append-two p m n a b l) (wrote-more w (m + n) (sym e) put)
+
+-- The same with k bytes of 0 behind b.
+pub wrote-gap : {d o p : List ℕ} {at : ℕ} → Wrote d o p at → {r : List ℕ} (m n k a b : ℕ) {v : ℕ} → a < 256 ^ m → b < 256 ^ n
+    → v ≡ a + 256 ^ m * b → r ≡ take at o ++ bytesOf (m + (n + k)) v ++ drop (at + (m + (n + k))) o
+    → Wrote d r (p ++ bytesOf m a ++ bytesOf n b ++ bytesOf k 0) (at + (m + (n + k)))
+wrote-gap {d} {o} {p} {at} w {r} m n k a b l h e put =
+    subst (λ (c : List ℕ). Wrote d r c (at + (m + (n + k)))) (append-blank (p ++ bytesOf m a) n k b h)
+    (wrote-two w m (n + k) a b l e put)
+
+-- ---- all is written
 pub wrote-all : {d o p : List ℕ} {at : ℕ} → Wrote d o p at → length d ≡ at → o ≡ p
 wrote-all {d} {o} {p} {at} w h =
     w .whole

@@ -15,13 +15,13 @@ use Rattle.job.specs.State.{_plus_, each, State, ledgers, gives, fresh, 
 use Rattle.job.specs.Bounds.{FitFor}
 use Rattle.job.specs.Checkpoint.{checkpointSize, ledgerPlace, doneIn, decode, encode, countsIn, massIn}
 use Rattle.job.specs.Wake.{admittedFor}
-use Rattle.job.specs.Words.{words, carriesEach, massAt, stateIn, massesOn, stateOn, Light, Gone}
+use Rattle.job.specs.Words.{words, carriesEach, massAt, countsAt, stateIn, massesOn, stateOn, Light, Gone}
 use Rattle.job.proofs.PlacesLaws.{plus-assoc, length-each, getD-each, each-same, each-each}
 use Rattle.job.proofs.PutLaws.{word-blank}
 use Rattle.job.proofs.StateLaws.{run-done, run-run, fitFor-run}
 use Rattle.job.proofs.CheckpointLaws.{soundFor-sound, fitFor-sound}
 use Rattle.job.proofs.WordsLaws.{massAt-blank, kept-blank}
-use Rattle.job.proofs.WakeLaws.{records-le}
+use Rattle.job.proofs.WakeLaws.{records-le, head-fits}
 use Rattle.job.proofs.AdmissionLaws.{admittedFor-so}
 use Rattle.job.proofs.LegLaws.{reason-lt}
 
@@ -105,7 +105,7 @@ nothing : (i : ℕ) → i < ledgers → massIn (replicate checkpointSize 0) i + 
 nothing i l =
     omega (arith, massAt-blank i l, word-blank checkpointSize (ledgerPlace i) 8, word-blank checkpointSize (ledgerPlace i + 8) 8)
 
-pub stateOn-fresh : stateOn (fresh .counts) (replicate checkpointSize 0) (replicate words 0) ≡ fresh
+pub stateOn-fresh : stateOn (countsAt 0 (replicate 3 0)) (replicate checkpointSize 0) (replicate words 0) ≡ fresh
 unfolding stateOn massesOn fresh
 stateOn-fresh =
     let ms = each-same (λ i. massIn (replicate checkpointSize 0) i + massAt (replicate words 0) i) (λ i. 0) ledgers nothing in
@@ -147,12 +147,11 @@ module _ (h : Head) (k f : List ℕ) (o : opened k ≡ accepted h) (a : admitted
       ∙ sym (run-onto h k (each (massIn f) ledgers) (begun f) (c .done - doneIn f))
       ∙ ap (λ (x : State). run h k x (c .done - doneIn f)) (sym (decode-onto f))
 
-  -- So it is with what is written: r, of the counts d, where all records up to place u are gone through.
-  pub encode-gone : {r : List ℕ} {d : Counts} {u : ℕ} → r ≡ encode h (stateOn d f w) → d ≡ c → c .done ≡ u
+  -- So it is with what is written, where all records up to place u are gone through.
+  pub encode-gone : {r : List ℕ} {u : ℕ} → r ≡ encode h (stateOn c f w) → c .done ≡ u
       → r ≡ encode h (run h k (decode f) (u - doneIn f))
-  encode-gone written counts all =
+  encode-gone written all =
       written
-      ∙ ap (λ (t : Counts). encode h (stateOn t f w)) counts
       ∙ ap (encode h) stateOn-gone
       ∙ ap (λ (n : ℕ). encode h (run h k (decode f) (n - doneIn f))) all
 
@@ -165,9 +164,9 @@ module _ (h : Head) (k f : List ℕ) (o : opened k ≡ accepted h) (a : admitted
       let place = g .place in
       subst (FitFor h) (sym (g .state)) (fitFor-run h k (begun f) (c .done - doneIn f) o (omega arith) (fitFor-begun h f fitFor-decode))
 
-  pub reason-gone : c .done ≤ h .n → c .reason < 256
+  pub fits-gone : c .done ≤ h .n → (h .length < 4294967296) × (h .year < 65536) × (c .reason < 256)
   unfolding stateIn
-  reason-gone l = reason-lt h c (fitFor-gone l .counts-fit)
+  fits-gone l = let fit = head-fits k h o in (fit .0, fit .1, reason-lt h c (fitFor-gone l .counts-fit))
 
   pub light-gone : c .done ≤ h .n → Light f w
   unfolding decode stateOn massesOn

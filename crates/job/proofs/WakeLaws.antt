@@ -1,5 +1,5 @@
--- A call's admission, one case at a time, and how many records an accepted book has. Assumes nothing.
-use Prim.Native.Nat.{ℕ, suc, _≤_}
+-- A call's admission, one case at a time, and what fits of an accepted book. Assumes nothing.
+use Prim.Native.Nat.{ℕ, suc, _<_, _≤_}
 use mathlib.Core.Bool.{Bool, true, false}
 use mathlib.Core.List.{List, []}
 use mathlib.Core.Path.{_≡_, refl, sym, ap, _∙_}
@@ -128,3 +128,7 @@ module _ {n : ℕ} {vs out : List ℕ} where
 -- ---- a book that is accepted
 pub records-le : (k : List ℕ) (h : Head) → opened k ≡ accepted h → h .n ≤ recordsForeseen
 records-le k h e = let a = accepted-facts k h e in omega arith
+
+-- Its length and its year fit their fields in a checkpoint.
+pub head-fits : (k : List ℕ) (h : Head) → opened k ≡ accepted h → (h .length < 4294967296) × (h .year < 65536)
+head-fits k h e = let a = accepted-facts k h e in (omega arith, omega arith)

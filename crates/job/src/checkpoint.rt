@@ -11,12 +11,12 @@ use rules::bytes::read_word;
 use rules::record::LAST_REASON;
 ghost use mathlib.Core.List.{_++_};
 ghost use mathlib.Core.Path.{_≡_};
-ghost use Prim.Native.Nat.{_<_};
-ghost use lib.ListN.{length, take, drop};
+ghost use Prim.Native.Nat.{_+_, _*_, _<_};
+ghost use lib.ListN.{length, getD, take, drop};
 ghost use Rattle.choice.specs.Tests.{_also_};
 ghost use Rattle.job.specs.State as state;
 ghost use Rattle.job.specs.Checkpoint.{checkpointSize, ledgerPlace, gapIn, firstSound, ledgerSound, every, sound, laid, encode, countsIn};
-ghost use Rattle.job.specs.Words.{words, ledgerIn, massesOn, stateOn, Light};
+ghost use Rattle.job.specs.Words.{words, countsAt, ledgerIn, massesOn, stateOn, Light};
 
 // How many bytes a checkpoint has.
 pub const SIZE: usize = 96;
@@ -30,8 +30,6 @@ const INDEX: usize = 8;
 
 const REASON: usize = 12;
 
-const GAP: usize = 13;
-
 const LEDGERS: usize = 16;
 
 const LENGTH: usize = 80;
@@ -40,11 +38,17 @@ const YEAR: usize = 84;
 
 const BLANK: usize = 86;
 
+// The last word of the blank.
+const BLANK_WORD: usize = 88;
+
 // How many bytes a ledger has: 8 for its tonnes, 8 for its rest.
 const LEDGER_SIZE: usize = 16;
 
 // The most that a record gives to a ledger.
 const TONNES_EACH: u64 = 4_000_000;
+
+// One more than four bytes hold.
+const FOUR_BYTES: u64 = 4_294_967_296;
 
 fn find_ledger(k: usize) -> usize
     requires place { ⌜ k < state.ledgers ⌝ }
@@ -153,21 +157,29 @@ pub(crate) fn copy(from: &[u8], out: &mut [u8])
     }
 }
 
-// Writes the checkpoint of a book with the head h that says t and, at each place, what `from` says and w gives.
-pub(crate) fn write(h: Head, t: Counts, from: &[u8], w: &[u64], out: &mut [u8])
+// Writes the checkpoint of a book with the head h at `place`, where `aside` says how many records are set aside, and
+// index and reason of the first; each ledger is what `from` says and w gives. The fields go two in a word: of eight
+// bytes the compiler makes one store, of fewer one for each byte.
+pub(crate) fn write(h: Head, place: u32, aside: &[u32; 3], from: &[u8], w: &[u64], out: &mut [u8])
     requires whole { ⌜ (length (now from) ≡ checkpointSize) × (length (now w) ≡ words) × (length (now out) ≡ checkpointSize) ⌝ }
+    requires fits { ⌜ (h .length < 4294967296) × (h .year < 65536) × (getD (now aside) 2 0 < 256) ⌝ }
     requires light { ⌜ Light (now from) (now w) ⌝ }
-    ensures written { λ _. ⌜ now (out .exit) ≡ encode h (stateOn t (now (from .entry)) (now (w .entry))) ⌝ }
+    ensures written { λ _. ⌜ now (out .exit) ≡ encode h (stateOn (countsAt place (now (aside .entry))) (now (from .entry)) (now (w .entry))) ⌝ }
 {
-    put(out, DONE, 4, t.done as u64);
-    put(out, ASIDE, 4, t.aside as u64);
-    put(out, INDEX, 4, t.index as u64);
-    put(out, REASON, 1, t.reason as u64);
-    put(out, GAP, 3, 0);
+    put(out, DONE, 8, join(place, aside[0]));
+    // With the reason go the three bytes of 0 behind it.
+    put(out, INDEX, 8, join(aside[1], aside[2]));
     write_ledgers(from, w, out);
-    put(out, LENGTH, 4, h.length as u64);
-    put(out, YEAR, 2, h.year);
-    put(out, BLANK, 10, 0);
+    // With the year go the first two bytes of the blank.
+    put(out, LENGTH, 8, join(h.length as u32, h.year as u32));
+    put(out, BLANK_WORD, 8, 0);
+}
+
+// Two numbers of four bytes, as they stand behind each other.
+fn join(low: u32, high: u32) -> u64
+    ensures joined { λ r. ⌜ (r ≡ low + 4294967296 * high) × (low < 4294967296) ⌝ }
+{
+    low as u64 + FOUR_BYTES * (high as u64)
 }
 
 fn write_ledgers(from: &[u8], w: &[u64], out: &mut [u8])

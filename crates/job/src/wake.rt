@@ -2,7 +2,6 @@
 use crate::admission;
 use crate::admission::Admission;
 use crate::checkpoint;
-use crate::counts;
 use crate::ledgers;
 use crate::reply::Refusal;
 use crate::reply::Started;
@@ -38,7 +37,8 @@ fn fresh_open(book: &[u8], h: Head, out: &mut [u8]) -> Started
     }
     let blank = [0u8; checkpoint::SIZE];
     let nothing = [0u64; ledgers::WORDS];
-    checkpoint::write(h, counts::begin(), &blank, &nothing, out);
+    let none = [0u32; 3];
+    checkpoint::write(h, 0, &none, &blank, &nothing, out);
     Started::Fresh
 }
 

@@ -149,6 +149,22 @@ word-bytesOf (suc n) v h =
     ∙ ap (λ (w : ℕ). v % 256 + 256 * w) (word-cons (v % 256) (bytesOf n (v / 256)) 0 n)
     ∙ omega (arith, word-bytesOf n (v / 256) (omega arith))
 
+-- A number of m bytes and one of n behind it are one number.
+pub bytesOf-add : (m n a b : ℕ) → a < 256 ^ m → bytesOf (m + n) (a + 256 ^ m * b) ≡ bytesOf m a ++ bytesOf n b
+unfolding bytesOf
+bytesOf-add zero n a b l =
+    let alone : 0 + n ≡ n = omega arith in
+    let high : a + 256 ^ 0 * b ≡ b = omega arith in
+    ap₂ bytesOf alone high
+bytesOf-add (suc m) n a b l =
+    let longer : suc m + n ≡ suc (m + n) = omega arith in
+    let wider = pow-succ' 256 m in
+    let whole : a + 256 ^ suc m * b ≡ a + 256 * (256 ^ m * b) = rw wider (ap (λ (v : ℕ). a + v) (mul-assoc 256 (256 ^ m) b)) in
+    let low : (a + 256 * (256 ^ m * b)) % 256 ≡ a % 256 = omega arith in
+    let high : (a + 256 * (256 ^ m * b)) / 256 ≡ a / 256 + 256 ^ m * b = omega arith in
+    ap₂ bytesOf longer whole
+    ∙ ap₂ _∷_ low (ap (bytesOf (m + n)) high ∙ bytesOf-add m n (a / 256) b (omega arith))
+
 pub bytesOf-word : (c : List ℕ) (k n : ℕ) → ((i : ℕ) → byte c i < 256) → k + n ≤ length c
     → bytesOf n (word c k n) ≡ take n (drop k c)
 unfolding bytesOf

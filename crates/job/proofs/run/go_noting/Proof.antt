@@ -10,7 +10,7 @@ use Rattle.rules.specs.Table.{notedAll}
 use Rattle.rules.proofs.TableLaws.{known-notedAll}
 use Rattle.job.specs.Words.{countsAt, Gone}
 use Rattle.job.proofs.AdmissionLaws.{admittedFor-whole}
-use Rattle.job.proofs.RunLaws.{encode-gone, reason-gone, light-gone}
+use Rattle.job.proofs.RunLaws.{encode-gone, fits-gone, light-gone}
 use Rattle.job.proofs.WentLaws.{before-gone, gone-went}
 use Rattle.job.proofs.run.go_noting.Statement.{statement}
 use Rattle.job.proofs.run.go_noting.Tie as tie
@@ -45,33 +45,28 @@ gone : (c : tie.After-go-legs) →
     Gone (a .h) (a .book .now) (a .from .now) (countsAt (c .go-legs .result) (c .go-legs .last .1 .1 .1 .1 .1 .1 .0)) (c .go-legs .last .1 .1 .1 .1 .1 .1 .1 .0)
 gone c = gone-went (entry c .pre .1 .0) (c .go-legs .ensures)
 
-find-counts-requires : tie.Need-find-counts-requires
-find-counts-requires c κs =
-    let on = c .before .before .before .before .before in
-    let p = entry on .pre in
-    let end = le-trans (on .go-legs .ensures .end-le) (p .1 .1 .0 .1) in
-    reason-gone _ _ _ (p .0) (p .1 .1 .1 .0 .0) _ _ (gone on) end
-
 write-requires : tie.Need-write-requires
 write-requires c κs =
-    let on = c .before .before .before .before .before .before .before .before in
+    let on = c .before .before .before .before .before .before .before in
     let p = entry on .pre in
+    let a = p .1 .1 .1 .0 .0 in
     let all = gone on in
-    let end = le-trans (on .go-legs .ensures .end-le) (p .1 .1 .0 .1) in
-    ((admittedFor-whole _ _ (p .1 .1 .1 .0 .0), all .kept .whole, p .1 .1 .1 .0 .1), light-gone _ _ _ (p .0) (p .1 .1 .1 .0 .0) _ _ all end)
+    let end = le-trans (on .go-legs .ensures .end-le) (p .1 .1 .0 .1) in (
+      (admittedFor-whole _ _ a, all .kept .whole, p .1 .1 .1 .0 .1),
+      (fits-gone _ _ _ (p .0) a _ _ all end, light-gone _ _ _ (p .0) a _ _ all end),
+    )
 
 returns : tie.Need-returns
 returns c =
     let write = c .before .before in
-    let counts = write .before .before .before in
-    let on = counts .before .before .before .before .before .before in
+    let on = write .before .before .before .before .before .before .before .before in
     let p = entry on .pre in
     encode-gone _ _ _ (p .0) (p .1 .1 .1 .0 .0) _ _ (gone on)
-    (write .write .ensures) (counts .find-counts .ensures) (on .go-legs .ensures .whole refl)
+    (write .write .ensures) (on .go-legs .ensures .whole refl)
 
 pub go-noting-spec : {M : Type 1} → statement M
 go-noting-spec =
     tie.close
     (tie.spec
     (λ c. search needs) (λ c κs. search needs) (λ c. search needs) note-records-requires go-legs-requires
-    find-counts-requires write-requires (λ c. search needs) (λ c. search needs) (λ c. search needs) returns)
+    write-requires (λ c. search needs) (λ c. search needs) (λ c. search needs) returns)

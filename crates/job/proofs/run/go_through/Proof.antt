@@ -14,7 +14,7 @@ use Rattle.job.specs.Checkpoint.{doneIn, decode, encode}
 use Rattle.job.specs.Words.{words, countsAt, Gone}
 use Rattle.job.proofs.AdmissionLaws.{admittedFor-whole, admittedFor-so}
 use Rattle.job.proofs.CheckpointLaws.{encode-decode}
-use Rattle.job.proofs.RunLaws.{place-lt, gone-all, gone-none-yet, encode-gone, reason-gone, light-gone}
+use Rattle.job.proofs.RunLaws.{place-lt, gone-all, gone-none-yet, encode-gone, fits-gone, light-gone}
 use Rattle.job.proofs.WentLaws.{before-gone, gone-went}
 use Rattle.job.proofs.run.go_through.Statement.{statement}
 use Rattle.job.proofs.run.go_through.Tie as tie
@@ -71,29 +71,24 @@ gone c = gone-went (begun (entry c)) (c .go-slowly .ensures)
 ends : (c : tie.After-go-slowly) → c .go-slowly .result ≤ entry c .args .h .n
 ends c = le-trans (c .go-slowly .ensures .end-le) (entry c .pre .1 .1 .0)
 
-find-counts-requires : tie.Need-find-counts-requires
-find-counts-requires c κs =
-    let slow = c .before .before .before in
-    let p = entry slow .pre in
-    reason-gone _ _ _ (p .0) (p .1 .0 .0) _ _ (gone slow) (ends slow)
-
 write-requires : tie.Need-write-requires
 write-requires c κs =
-    let slow = c .before .before .before .before .before .before in
+    let slow = c .before .before .before .before .before in
     let p = entry slow .pre in
     let a = p .1 .0 .0 in
-    let all = gone slow in
-    ((admittedFor-whole _ _ a, all .kept .whole, p .1 .1 .1), light-gone _ _ _ (p .0) a _ _ all (ends slow))
+    let all = gone slow in (
+      (admittedFor-whole _ _ a, all .kept .whole, p .1 .1 .1),
+      (fits-gone _ _ _ (p .0) a _ _ all (ends slow), light-gone _ _ _ (p .0) a _ _ all (ends slow)),
+    )
 
 returns-2 : tie.Need-returns-2
 returns-2 c =
     let write = c .before .before in
-    let counts = write .before .before .before in
-    let slow = counts .before .before .before .before in
+    let slow = write .before .before .before .before .before .before in
     let s = entry slow in
     let a = s .args in
     encode-gone _ _ _ (s .pre .0) (s .pre .1 .0 .0) _ _ (gone slow)
-    (write .write .ensures) (counts .find-counts .ensures) (slow .go-slowly .ensures .whole refl)
+    (write .write .ensures) (slow .go-slowly .ensures .whole refl)
     ∙ ap (λ (m : ℕ). encode (a .h) (run (a .h) (a .book .now) (decode (a .from .now)) m)) (gone-all (a .n) (place s))
 
 further : (d n : ℕ) → (n ≡ 0 → ⊥) → d < d + n
@@ -118,5 +113,5 @@ go-through-spec =
     tie.close
     (tie.spec
     copy-requires (λ c. search needs) returns (λ c. search needs) add-until (λ c. search needs)
-    (λ c. search needs) (λ c. search needs) go-slowly-requires find-counts-requires (λ c. search needs) write-requires
+    (λ c. search needs) (λ c. search needs) go-slowly-requires (λ c. search needs) write-requires
     (λ c. search needs) returns-2 (λ c. search needs) go-to-requires (λ c. search needs) returns-3)

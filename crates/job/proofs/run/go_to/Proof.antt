@@ -7,7 +7,7 @@ use borrow.Author.Needs.{needs}
 use Rattle.rules.proofs.TableLaws.{known-none}
 use Rattle.job.specs.Words.{countsAt, Gone}
 use Rattle.job.proofs.AdmissionLaws.{admittedFor-whole}
-use Rattle.job.proofs.RunLaws.{encode-gone, reason-gone, light-gone}
+use Rattle.job.proofs.RunLaws.{encode-gone, fits-gone, light-gone}
 use Rattle.job.proofs.WentLaws.{before-gone, gone-went}
 use Rattle.job.proofs.run.go_to.Statement.{statement}
 use Rattle.job.proofs.run.go_to.Tie as tie
@@ -42,29 +42,24 @@ go-by-table-requires-2 c κs =
     let p = start legs .pre in
     (p .0, (gone legs, ((legs .go-legs .ensures .end-le, p .1 .1 .0 .1), p .1 .1 .1)))
 
-find-counts-requires : tie.Need-find-counts-requires
-find-counts-requires c κs =
-    let legs = c .before .before .before .before .before in
-    let p = start legs .pre in
-    reason-gone _ _ _ (p .0) (p .1 .1 .1 .0) _ _ (gone legs) (end-le legs)
-
 write-requires : tie.Need-write-requires
 write-requires c κs =
-    let legs = c .before .before .before .before .before .before .before .before in
+    let legs = c .before .before .before .before .before .before .before in
     let p = start legs .pre in
     let a = p .1 .1 .1 .0 in
-    let all = gone legs in
-    ((admittedFor-whole _ _ a, all .kept .whole, p .1 .1 .1 .1), light-gone _ _ _ (p .0) a _ _ all (end-le legs))
+    let all = gone legs in (
+      (admittedFor-whole _ _ a, all .kept .whole, p .1 .1 .1 .1),
+      (fits-gone _ _ _ (p .0) a _ _ all (end-le legs), light-gone _ _ _ (p .0) a _ _ all (end-le legs)),
+    )
 
 returns-3 : tie.Need-returns-3
 returns-3 c =
     let write = c .before .before in
-    let counts = write .before .before .before in
-    let ended = counts .before .before in
+    let ended = write .before .before .before .before in
     let legs = ended .before .before .before .before in
     let p = start legs .pre in
     encode-gone _ _ _ (p .0) (p .1 .1 .1 .0) _ _ (gone legs)
-    (write .write .ensures) (counts .find-counts .ensures) (le-antisymm (legs .go-legs .ensures .end-le) (ended .if2 .left))
+    (write .write .ensures) (le-antisymm (legs .go-legs .ensures .end-le) (ended .if2 .left))
 
 pub go-to-spec : {M : Type 1} → statement M
 go-to-spec =
@@ -72,4 +67,4 @@ go-to-spec =
     (tie.spec
     (λ c κs. search needs) go-by-table-requires (λ c. search needs) (λ c. search needs) (λ c. search needs)
     (λ c. search needs) (λ c. search needs) go-legs-requires go-by-table-requires-2 (λ c. search needs) (λ c. search needs)
-    (λ c. search needs) find-counts-requires write-requires (λ c. search needs) (λ c. search needs) returns-3)
+    (λ c. search needs) write-requires (λ c. search needs) (λ c. search needs) returns-3)
