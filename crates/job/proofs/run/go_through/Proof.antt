@@ -55,13 +55,13 @@ add-until c = let p = start c .pre in record { fits = place-lt _ _ _ (p .0) (p .
 
 go-slowly-requires : tie.Need-go-slowly-requires
 go-slowly-requires c κs =
-    let s = start (c .before .before .before .before) in
+    let s = start (c .before .before .before .before .before .before) in
     let p = s .pre in
     (p .0, before-gone (begun s) (p .0) (p .1 .0 .0) (le-add-right _ (s .args .n)) (p .1 .1 .0) (known-none _ _ _ refl))
 
 -- From where few records are gone through, the function's entry, and what they give.
 abbrev entry : tie.After-go-slowly → tie.Start
-entry c = start (c .before .before .before .before .before)
+entry c = start (c .before .before .before .before .before .before .before)
 
 gone : (c : tie.After-go-slowly) →
     let a = entry c .args in
@@ -112,6 +112,6 @@ pub go-through-spec : {M : Type 1} → statement M
 go-through-spec =
     tie.close
     (tie.spec
-    copy-requires (λ c. search needs) returns (λ c. search needs) add-until (λ c. search needs)
-    (λ c. search needs) (λ c. search needs) go-slowly-requires (λ c. search needs) write-requires
+    copy-requires (λ c. search needs) returns (λ c. search needs) add-until (λ c. search needs) (λ c. search needs)
+    (λ c. search needs) (λ c. search needs) (λ c. search needs) go-slowly-requires (λ c. search needs) write-requires
     (λ c. search needs) returns-2 (λ c. search needs) go-to-requires (λ c. search needs) returns-3)
