@@ -112,7 +112,9 @@ stateOn-fresh =
     λ i. record { counts = record { done = 0; aside = 0; index = 0; reason = 0 }; masses = ms i }
 
 pub light-fresh : Light (replicate checkpointSize 0) (replicate words 0)
-light-fresh i l = let none = nothing i l in (omega (arith, word-blank checkpointSize (ledgerPlace i + 8) 8), omega arith)
+light-fresh i l =
+    let none = nothing i l in
+    (omega (arith, word-blank checkpointSize (ledgerPlace i + 8) 8), omega arith, kept-blank 0 .low i l)
 
 decode-onto : (f : List ℕ) → decode f ≡ onto (each (massIn f) ledgers) (begun f)
 unfolding decode
@@ -177,4 +179,5 @@ module _ (h : Head) (k f : List ℕ) (o : opened k ≡ accepted h) (a : admitted
       let few = records-le k h o in (
         soundFor-sound h f (admittedFor-so h f a) .canonical i p,
         omega (arith, fit .masses-le i p, getD-each (λ j. massIn f j + massAt w j) ledgers i p),
+        g .kept .low i p,
       )

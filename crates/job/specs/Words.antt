@@ -16,7 +16,7 @@
 --     ledgersOf s, totalsIn c     the ledgers of which a report tells: of a state, and as they stand in c
 --     massesOn c w, stateOn t c w     at each place what c says and w gives, and the state of this and the counts t
 --     Kept m w                    sums of w fit 64 bits, and none of its high digits is above m
---     Light c w                   the ledgers of c, with what w gives, are those of a book
+--     Light c w                   the ledgers of c, with what w gives, are those of a book, and sums of w fit 64 bits
 --     Gone h k f c w              from the checkpoint f on records are gone through: the counts are c, and they give w
 --
 -- Laws: proofs/WordsLaws.antt, proofs/RunLaws.antt. Definitions only.
@@ -125,7 +125,8 @@ pub record Kept (m : ℕ) (w : List ℕ) : Type 0 where
   pub few : (i : ℕ) → i < ledgers → highAt w i ≤ m
 
 abbrev pub Light : List ℕ → List ℕ → Type 0
-Light c w = (i : ℕ) → i < ledgers → (restIn c i < tonne) × ((massIn c i + massAt w i) / tonne ≤ mostTonnes)
+Light c w =
+    (i : ℕ) → i < ledgers → (restIn c i < tonne) × ((massIn c i + massAt w i) / tonne ≤ mostTonnes) × (lowAt w i < half)
 
 pub record Gone (h : Head) (k f : List ℕ) (c : Counts) (w : List ℕ) : Type 0 where
   pub place : doneIn f ≤ c .done

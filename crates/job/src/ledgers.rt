@@ -1,6 +1,6 @@
 // What the records of a wake give to the ledgers, in words that it lends: for each place a number of two digits, in
 // µg of CO2 or in ng of another gas, first the low digits of all places and then the high ones. To add to a ledger
-// takes two divisions, and the masses of many records fit 64 bits: so they are summed, and a ledger gets them once.
+// takes divisions, and the masses of many records fit 64 bits: so they are summed, and a ledger gets them once.
 use mass::Ng;
 use mass::Ug;
 use mass::ledger;
@@ -96,7 +96,7 @@ pub(crate) fn add(w: &mut [u64], k: usize, x: u64)
 // The ledger g of place k with what the records give.
 pub(crate) fn gather(g: Ledger, k: usize, w: &[u64]) -> Ledger
     requires whole { ⌜ (length (now w) ≡ words) × (k < state.ledgers) ⌝ }
-    requires light { ⌜ Canonical g × ((total g + massAt (now w) k) / tonne ≤ mostTonnes) ⌝ }
+    requires light { ⌜ Canonical g × ((total g + massAt (now w) k) / tonne ≤ mostTonnes) × (lowAt (now w) k < half) ⌝ }
     ensures gathered { λ r. ⌜ r ≡ ledgerOf (total g + massAt (now (w .entry)) k) ⌝ }
 {
     let low = w[k];

@@ -2,7 +2,7 @@
 use crate::Ng;
 use crate::Ug;
 ghost use mathlib.Core.Path.{_≡_};
-ghost use Prim.Native.Nat.{_+_, _-_, _*_, _≤_};
+ghost use Prim.Native.Nat.{_+_, _-_, _*_, _<_, _≤_};
 ghost use Rattle.mass.specs.Ledger.{tonne, total, Canonical, Sound, ledgerOf, added};
 
 pub struct Ledger {
@@ -34,11 +34,13 @@ pub fn add_ug(g: Ledger, x: Ug) -> Ledger
     carry(g.tonnes + x.0 / UG_PER_TONNE, g.rest.0 + rest)
 }
 
+// The rest and x fit 64 bits together, so that one division carries all tonnes.
 pub fn add_ng(g: Ledger, x: Ng) -> Ledger
     requires sound { ⌜ Sound g ⌝ }
+    requires room { ⌜ x .0 < 9223372036854775808 ⌝ }
     ensures exact { λ r. ⌜ r ≡ added g (x .0) ⌝ }
 {
-    carry(g.tonnes + x.0 / NG_PER_TONNE, g.rest.0 + x.0 % NG_PER_TONNE)
+    carry(g.tonnes, g.rest.0 + x.0)
 }
 
 // The ledger of so many tonnes and ng, which may pass a tonne many times over.

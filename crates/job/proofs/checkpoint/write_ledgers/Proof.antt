@@ -42,7 +42,8 @@ gather-requires c κs =
     let turn = c .before .before in
     let p = start (turn .before) .pre in
     let light = p .1 (turn .before .loop .k) (turn .loop-test .taken) in
-    ((p .0 .1, turn .loop-test .taken), (omega (arith, ap (λ (g : Ledger). g .rest .0) (c .read-ledger .ensures)), omega (arith, total-read c)))
+    let rest = ap (λ (g : Ledger). g .rest .0) (c .read-ledger .ensures) in
+    ((p .0 .1, turn .loop-test .taken), (omega (arith, rest), omega (arith, total-read c), light .2))
 
 put-requires : tie.Need-put-requires Inv-loop μ-loop
 put-requires c κs = let whole = start (c .before .before .before .before .before) .pre .0 .2 in search needs

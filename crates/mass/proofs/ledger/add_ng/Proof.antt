@@ -1,4 +1,4 @@
--- Whole tonnes and the rest are added apart, and `carry` joins them. Assumes nothing.
+-- The rest and x fit 64 bits together, and `carry` takes the tonnes out of their sum. Assumes nothing.
 use mathlib.Core.Path.{ap, _∙_}
 use native.Mathlib.Omega.{arith}
 use borrow.Author.Needs.{needs}
@@ -9,9 +9,6 @@ use Rattle.mass.proofs.ledger.add_ng.Tie as tie
 add-carry : tie.Need-add-carry
 add-carry c = search needs
 
-add-carry-2 : tie.Need-add-carry-2
-add-carry-2 c = search needs
-
 carry-requires : tie.Need-carry-requires
 carry-requires c κs = search needs
 
@@ -20,4 +17,4 @@ unfolding added total
 returns c = c .carry .ensures ∙ ap ledgerOf (omega arith)
 
 pub add-ng-spec : {M : Type 1} → statement M
-add-ng-spec = tie.close (tie.spec add-carry add-carry-2 carry-requires returns)
+add-ng-spec = tie.close (tie.spec add-carry carry-requires returns)
