@@ -3,6 +3,7 @@
 use crate::ledgers;
 use crate::shares;
 use rules::book::Head;
+use rules::hints;
 use rules::index;
 use rules::record;
 use rules::record::Outcome;
@@ -56,10 +57,10 @@ pub(crate) fn go_on(
     ensures known { λ r. ⌜ Known (lines r (now (book .entry))) (unitLines h (now (book .entry))) (now (table .exit)) ⌝ }
 {
     let mut units = [index::BLANK; index::UNITS];
-    let mut by_unit = [0u8; index::HINTS];
+    let mut by_unit = [0u8; hints::COUNT];
     index::note_units(book, h, &mut units, &mut by_unit);
     let mut fuels = [index::BLANK; index::FUELS];
-    let mut by_fuel = [0u8; index::HINTS];
+    let mut by_fuel = [0u8; hints::COUNT];
     index::note_fuels(book, h, &mut fuels, &mut by_fuel);
     let limits = sorting::HEAT_LIMITS;
     let mut shares = [0u64; 1024];

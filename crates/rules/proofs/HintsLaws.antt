@@ -11,13 +11,13 @@ use Rattle.rules.specs.Hints.{hinted, hintsIn}
 pub length-hinted : (n : ℕ) (s t : List ℕ) → length (hinted n s t) ≡ length t
 unfolding hinted
 length-hinted zero s t = refl
-length-hinted (suc n) s t = length-set (hinted n s t) (number (line n s) % 256) n ∙ length-hinted n s t
+length-hinted (suc n) s t = length-set (hinted n s t) (number (line n s) % 1024) n ∙ length-hinted n s t
 
 pub hinted-zero : (s t : List ℕ) → t ≡ hinted 0 s t
 unfolding hinted
 hinted-zero s t = refl
 
-pub hinted-next : (n : ℕ) (s t : List ℕ) {x : ℕ} {l : List ℕ} → x ≡ number (line n s) % 256 → l ≡ hinted n s t
+pub hinted-next : (n : ℕ) (s t : List ℕ) {x : ℕ} {l : List ℕ} → x ≡ number (line n s) % 1024 → l ≡ hinted n s t
     → set l x n ≡ hinted (n + 1) s t
 unfolding hinted
 hinted-next n s t e q =

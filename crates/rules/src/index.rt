@@ -18,9 +18,6 @@ pub const UNITS: usize = 256;
 
 pub const FUELS: usize = 320;
 
-// How many hints there are. By fewer bits than ten, several of 64 lines would often share one.
-pub const HINTS: usize = 1024;
-
 // The number of no line.
 pub const BLANK: u32 = 65536;
 

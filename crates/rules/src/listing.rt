@@ -117,13 +117,13 @@ pub enum Found {
     Nothing,
 }
 
-// The place of the line with this number. For each last byte of a number, the hints say where its
+// The place of the line with this number. By the last ten bits of a number the hints say where its
 // line may stand. A hint is held against the line and never trusted, so that any bytes serve.
 pub(crate) fn find(s: &[u8], hints: &[u8], x: u64) -> Found
     requires rising { ⌜ Rising (now s) ⌝ }
     ensures place { λ r. ⌜ r ≡ place x 0 (linesIn (now (s .entry))) ⌝ }
 {
-    let last = (x % 256) as usize;
+    let last = (x % 1024) as usize;
     if last < hints.len() {
         let hint = hints[last] as usize;
         if hint < s.len() / 32 {

@@ -45,7 +45,7 @@ loop-less c = search needs
 loop-again : tie.Need-loop-again Inv-loop μ-loop
 loop-again c =
     let line = c .before .take-line .ensures .0 in
-    let last = ap (λ (x : ℕ). x % 256) (c .number .ensures ∙ ap number line) in
+    let last = ap (λ (x : ℕ). x % 1024) (c .number .ensures ∙ ap number line) in
     (search needs, hinted-next _ _ _ last (c .before .before .before .loop .inv .1))
 
 same-length : tie.Need-same-length Inv-loop μ-loop

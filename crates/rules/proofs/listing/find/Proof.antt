@@ -12,7 +12,7 @@ shared-slice-read-hint : tie.Need-shared-slice-read-hint
 shared-slice-read-hint c = search needs
 
 cast-hint : tie.Need-cast-hint
-cast-hint c = omega (arith, c .shared-slice-known3 .given (c .before .before .before .before .args .x % 256))
+cast-hint c = omega (arith, c .shared-slice-known3 .given (c .before .before .before .before .args .x % 1024))
 
 take-line-requires : tie.Need-take-line-requires
 take-line-requires c κs = search needs
