@@ -36,6 +36,14 @@ unfolding _also_
 also-assoc true b c = refl
 also-assoc false b c = refl
 
+pub also-swap : (a b c : Bool) → (a also b also c) ≡ (a also c also b)
+unfolding _also_
+also-swap false b c = refl
+also-swap true false false = refl
+also-swap true false true = refl
+also-swap true true false = refl
+also-swap true true true = refl
+
 -- What comes behind a test counts only where this passes.
 pub also-same : (a : Bool) {b b′ : Bool} → (a ≡ true → b ≡ b′) → (a also b) ≡ (a also b′)
 unfolding _also_

@@ -18,7 +18,7 @@ ghost use lib.ListN.{getD};
 ghost use Rattle.rules.specs.Bytes.{line, lines};
 ghost use Rattle.rules.specs.Book.{unitLines, fuelLines, opened, accepted};
 ghost use Rattle.rules.specs.Index.{UnitsNoted, FuelsNoted, Small};
-ghost use Rattle.rules.specs.AtOnce.{heatLimits};
+ghost use Rattle.rules.specs.Sorting.{heatLimits};
 ghost use Rattle.rules.specs.Table.{noting, Known};
 ghost use Rattle.rules.specs.declared.record.Outcome.the-variants as outcome;
 ghost use Rattle.job.specs.State.{counted};

@@ -4,7 +4,7 @@
 use Prim.Native.Nat.{ℕ, suc, zero, _+_, _*_, _/_, _%_, _^_, _<_, _≤_}
 use mathlib.Core.Bool.{Bool, true, false, false≢true, not, cond, _&&_, _||_, and-eq-true-iff}
 use mathlib.Core.List.{List}
-use mathlib.Core.Path.{_≡_, refl, sym, _∙_, subst}
+use mathlib.Core.Path.{_≡_, refl, sym, ap, _∙_, subst}
 use native.Mathlib.Nat.{not-suc-le-zero, le-trans, le-of-eq}
 use native.Mathlib.Omega.{arith}
 use lib.Bits.{bitAnd}
@@ -12,12 +12,13 @@ use lib.Dec.{eqb, leb, ltb}
 use lib.ListN.{getD}
 use borrow.Author.Tests.{eq-eqb, ltb-true, leb-true}
 use Rattle.choice.specs.Tests.{_either_, choose}
-use Rattle.choice.proofs.Splitting.{if-eq}
-use Rattle.choice.proofs.TestsLaws.{also-l, also-r, both, any, choose-true, choose-false}
+use Rattle.choice.proofs.Splitting.{if-test, if-eq}
+use Rattle.choice.proofs.TestsLaws.{also-l, also-r, both, any, choose-t, choose-f, choose-true, choose-false}
 use Rattle.rules.specs.Fields.{monitored, fuelClass, defaultHeat, flags, analysed, heatMeasured, heatLow}
 use Rattle.rules.specs.Method.{small, methodOf}
 use Rattle.rules.specs.Index.{columnOf, allowedFlags, largeFlags}
-use Rattle.rules.specs.AtOnce.{heatLimits, allowedBy}
+use Rattle.rules.specs.Sorting.{heatLimits}
+use Rattle.rules.specs.AtOnce.{allowedBy}
 
 -- ---- tests that compute
 choose-cond : (b : Bool) (x y : ℕ) → choose b x y ≡ cond b x y
@@ -93,13 +94,14 @@ flagsIn u f = choose (monitored u) (allowedFlags f) (choose (small u) (allowedFl
 
 pub flagsIn-at : (u f t : List ℕ) (k : ℕ) → getD t (64 + k) 0 ≡ largeFlags f → getD t (128 + k) 0 ≡ allowedFlags f
     → getD t (columnOf u % 256 + k) 0 ≡ flagsIn u f
-unfolding columnOf choose
-flagsIn-at u f t k large allowed = at (monitored u) (small u)
-  where
-    at : (m s : Bool) → getD t (choose m 128 (choose s 128 64) % 256 + k) 0 ≡ choose m (allowedFlags f) (choose s (allowedFlags f) (largeFlags f))
-    at true s = allowed
-    at false true = allowed
-    at false false = large
+unfolding columnOf
+flagsIn-at u f t k large allowed =
+    let at : ℕ → ℕ = λ o. getD t (o % 256 + k) 0 in
+    if-test (monitored u)
+    (λ m. ap at (choose-t _ m refl) ∙ allowed ∙ sym (choose-t _ m refl))
+    (λ m. if-test (small u)
+    (λ s. ap at (choose-f _ m (choose-t _ s refl)) ∙ allowed ∙ sym (choose-f _ m (choose-t _ s refl)))
+    (λ s. ap at (choose-f _ m (choose-f _ s refl)) ∙ large ∙ sym (choose-f _ m (choose-f _ s refl))))
 
 pub record Heated (l f : List ℕ) : Type 0 where
   pub in-use : (heatMeasured l either ltb 0 (defaultHeat f)) ≡ true

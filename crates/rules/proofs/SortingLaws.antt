@@ -26,8 +26,8 @@ use Rattle.rules.specs.Method.{small, methodOf}
 use Rattle.rules.specs.Entry.{measuredHeat, heatInUse, amountOf, co2By, destinationBy, entryBy, fuelEntry}
 use Rattle.rules.specs.Record.{carbonForm, fuelForm, heatLimit, heatRange, carbonRange, fuelRanges, fuelJudged, fuelOutcome, outcomeAt}
 use Rattle.rules.specs.Index.{columnOf, wayOf}
-use Rattle.rules.specs.Sorting.{heatOf, co2Of, carbonOf, ledgerOf, mostBurned, Shared}
-use Rattle.rules.specs.AtOnce.{heatLimits, heatRight, amountBurned}
+use Rattle.rules.specs.Sorting.{heatLimits, heatOf, co2Of, carbonOf, ledgerOf, mostBurned, Shared}
+use Rattle.rules.specs.AtOnce.{heatRight, amountBurned}
 use Rattle.rules.proofs.MethodLaws.{methodOf-monitored, methodOf-unmonitored-le}
 use Rattle.rules.proofs.EntryLaws.{measuredHeat-le}
 use Rattle.rules.proofs.RecordLaws.{check-t}

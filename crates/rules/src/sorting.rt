@@ -20,8 +20,8 @@ ghost use Rattle.rules.specs.Bytes.{line};
 ghost use Rattle.rules.specs.Fields.{kind};
 ghost use Rattle.rules.specs.Book.{unitLines, fuelLines, opened, accepted};
 ghost use Rattle.rules.specs.Index.{UnitsNoted, FuelsNoted, Small};
-ghost use Rattle.rules.specs.Sorting.{Settled, NoGas};
-ghost use Rattle.rules.specs.AtOnce.{heatLimits, formRight, heatRight, carbonRight, gasRight, allowedBy, amountBurned};
+ghost use Rattle.rules.specs.Sorting.{heatLimits, Settled, NoGas};
+ghost use Rattle.rules.specs.AtOnce.{formRight, heatRight, carbonRight, gasRight, allowedBy, amountBurned};
 
 // The most heat by the lowest three flags: none where it wasn't measured, and less where it is a low value.
 pub const HEAT_LIMITS: [u32; 8] = [0, 200000, 0, 200000, 0, 180000, 0, 180000];

@@ -1,10 +1,10 @@
 -- The row of tests is that of the definition, each test of what was read. Assumes nothing.
-use mathlib.Core.Bool.{Bool, true, false}
-use mathlib.Core.Path.{_≡_, refl, ap, _∙_}
+use mathlib.Core.Bool.{Bool}
+use mathlib.Core.Path.{_≡_, ap, _∙_}
 use lib.Dec.{eqb, leb}
 use borrow.Author.Needs.{needs}
 use Rattle.choice.specs.Tests.{_also_}
-use Rattle.choice.proofs.TestsLaws.{both}
+use Rattle.choice.proofs.TestsLaws.{both, also-assoc, also-swap}
 use Rattle.job.specs.Checkpoint.{doneIn, asideIn, gapIn, blankIn, firstSound, ledgerSound, every, sound}
 use Rattle.job.specs.State.{ledgers}
 use Rattle.job.proofs.checkpoint.is_sound.Statement.{statement}
@@ -12,13 +12,8 @@ use Rattle.job.proofs.checkpoint.is_sound.Tie as tie
 
 -- The gap is tested with the first record set aside, and named behind the ledgers.
 gap-last : (place first masses gap : Bool) → (place also (first also gap) also masses) ≡ (place also first also masses also gap)
-unfolding _also_
-gap-last false first masses gap = refl
-gap-last true false masses gap = refl
-gap-last true true false false = refl
-gap-last true true false true = refl
-gap-last true true true false = refl
-gap-last true true true true = refl
+gap-last place first masses gap =
+    ap (λ (b : Bool). b also masses) (also-assoc place first gap) ∙ also-swap (place also first) gap masses
 
 returns : tie.Need-returns
 unfolding sound

@@ -1,13 +1,13 @@
 -- Flags and gap, read as one word, are 0, 1 or 3: dry gas is measured only by a monitor. Assumes nothing.
 use Prim.Native.Nat.{ℕ, suc, zero, _/_, _%_, _≤_}
 use mathlib.Core.Bool.{Bool, not}
-use mathlib.Core.Path.{_≡_, refl, ap, _∙_}
+use mathlib.Core.Path.{_≡_, refl, sym, ap, _∙_}
 use native.Mathlib.Omega.{arith}
 use lib.Dec.{eqb, leb}
 use borrow.Author.Needs.{needs}
 use borrow.Author.Tests.{lt-leb, leb-true}
 use Rattle.choice.specs.Tests.{_also_, _either_}
-use Rattle.choice.proofs.TestsLaws.{both, also-f, also-same}
+use Rattle.choice.proofs.TestsLaws.{both, also-f, also-same, either-t, either-f}
 use Rattle.rules.specs.Book.{unitHeadOk}
 use Rattle.rules.specs.Fields.{unitFlags, unitGap}
 use Rattle.rules.proofs.BytesLaws.{word-one, word-wide}
@@ -15,11 +15,10 @@ use Rattle.rules.proofs.listing.is_unit_head_right.Statement.{statement
 use Rattle.rules.proofs.listing.is_unit_head_right.Tie as tie
 
 flagged : (f : ℕ) → f ≤ 3 → not (eqb f 2) ≡ (eqb (f % 2) 1 either not (eqb (f / 2 % 2) 1))
-unfolding _either_
-flagged zero few = refl
-flagged (suc zero) few = refl
-flagged (suc (suc zero)) few = refl
-flagged (suc (suc (suc zero))) few = refl
+flagged zero few = sym (either-f refl refl)
+flagged (suc zero) few = sym (either-t _ refl)
+flagged (suc (suc zero)) few = sym (either-f refl refl)
+flagged (suc (suc (suc zero))) few = sym (either-t _ refl)
 flagged (suc (suc (suc (suc f)))) few = absurd (omega arith)
 
 returns : tie.Need-returns
