@@ -4,7 +4,7 @@ use Prim.Native.Nat.{ℕ, suc, zero, _+_, _-_, _*_, _/_, _%_, _^_, _<_, _≤_, z
 use mathlib.Core.Bool.{Bool, false}
 use mathlib.Core.List.{List, [], _∷_, _++_}
 use mathlib.Core.Path.{_≡_, refl, ap, ap₂, sym, _∙_, subst}
-use native.Mathlib.Nat.{sub-zero, zero-add, one-mul, mul-assoc, mul-zero, mul-le-mul-left, mul-le-mul-right, div-one, div-div-eq-div-mul, pow-succ', pow-le-pow-right, lt-of-lt-of-le, le-of-suc-le-suc}
+use native.Mathlib.Nat.{sub-zero, zero-add, one-mul, mul-assoc, mul-zero, mul-suc, mul-le-mul-left, mul-le-mul-right, div-one, div-div-eq-div-mul, pow-succ', pow-le-pow-right, lt-of-lt-of-le, le-of-suc-le-suc}
 use native.Mathlib.Numerals.{add-one}
 use native.Mathlib.Omega.{arith}
 use lib.Bits.{bitOr, or-add-and, and-le-l, and-le-r}
@@ -200,17 +200,12 @@ word-parts : (l : List ℕ) (k m j n w : ℕ) → k + m ≡ j → m + n ≡ w �
 word-parts l k m j n w p q =
     ap (word l k) (sym q) ∙ word-add l k m n ∙ ap (λ (i : ℕ). word l k m + 256 ^ m * word l i n) p
 
-pub word-four : (l : List ℕ) (k low high : ℕ) → low ≡ word l k 2 → high ≡ word l (k + 2) 2 → low < 256 ^ 2 →
-    high < 256 ^ 2 → (low + 65536 * high ≡ word l k 4) × (low + 65536 * high < 256 ^ 4)
-word-four l k low high p q h j =
-    let sum : word l k 4 ≡ word l k 2 + 65536 * word l (k + 2) 2 = word-add l k 2 2 in
-    (omega (arith, sum), omega arith)
-
-pub word-eight : (l : List ℕ) (k low high : ℕ) → low ≡ word l k 4 → high ≡ word l (k + 4) 4 → low < 256 ^ 4 →
-    high < 256 ^ 4 → (low + 4294967296 * high ≡ word l k 8) × (low + 4294967296 * high < 256 ^ 8)
-word-eight l k low high p q h j =
-    let sum : word l k 8 ≡ word l k 4 + 4294967296 * word l (k + 4) 4 = word-add l k 4 4 in
-    (omega (arith, sum), omega arith)
+-- Twice as many bytes are a low half and a high half.
+pub word-halves : (l : List ℕ) (k n low high : ℕ) → low ≡ word l k n → high ≡ word l (k + n) n → low < 256 ^ n → high < 256 ^ n
+    → (low + 256 ^ n * high ≡ word l k (n + n)) × (low + 256 ^ n * high < 256 ^ (n + n))
+word-halves l k n low high p q h j =
+    let rises = mul-le-mul-left (256 ^ n) j in
+    ((λ i. p i + 256 ^ n * q i) ∙ sym (word-add l k n n), omega (arith, mul-suc (256 ^ n) high, pow-add 256 n n))
 
 -- What is known of a word of m bytes is known of one of n, if n is m.
 pub word-width : (l : List ℕ) (k m n v : ℕ) → n ≡ m → (v ≡ word l k m) × (v < 256 ^ m) →
