@@ -73,12 +73,12 @@ fn find_column(u: &[u8]) -> u32
     ensures column { λ r. ⌜ r ≡ columnOf (now (u .entry)) ⌝ }
 {
     if listed::is_monitored(u) {
-        return 128;
+        return ALLOWED as u32;
     }
     if listed::rating(u) <= method::SMALL_RATING {
-        return 128;
+        return ALLOWED as u32;
     }
-    64
+    LARGE as u32
 }
 
 // 4 where the CO2 of fuel isn't counted.

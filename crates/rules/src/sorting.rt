@@ -73,6 +73,7 @@ pub fn sort_fuel(
     let unit_right = units[j] as u64 == unit;
     let fuel_right = fuels[k] as u64 == fuel;
     let carbon_right = is_carbon_right(l, fuels[index::CARBON + k]);
+    // Where there is no line the entry is 65,536, and any column will do.
     let column = units[index::COLUMNS + j] as usize % 256;
     let allowed = is_allowed(l, fuels[column + k]);
     let heat_right = is_heat_right(l, limits);

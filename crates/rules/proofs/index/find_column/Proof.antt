@@ -28,4 +28,6 @@ returns-3 c =
 
 pub find-column-spec : {M : Type 1} → statement M
 find-column-spec =
-    tie.close (tie.spec (λ c κs. search needs) returns (λ c κs. search needs) returns-2 returns-3)
+    tie.close
+    (tie.spec (λ c κs. search needs) (λ c. search needs) returns (λ c κs. search needs) (λ c. search needs) returns-2
+    (λ c. search needs) returns-3)
