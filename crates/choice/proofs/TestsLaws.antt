@@ -10,132 +10,132 @@ use borrow.Author.Tests.{not-true, not-false, eq-eqb, ne_eqb, lt-ltb, le-ltb}
 use Rattle.choice.specs.Tests.{◌also◌, ◌either◌, choose}
 
 -- ---- rows
-pub also-t : {a b r : Bool} → a ≡ true → b ≡ r → (a also b) ≡ r
+pub also_t : {a b r : Bool} → a ≡ true → b ≡ r → (a also b) ≡ r
 unfolding ◌also◌
-also-t p q = rw p q
+also_t p q = rw p q
 
-pub also-f : {a : Bool} (b : Bool) → a ≡ false → (a also b) ≡ false
+pub also_f : {a : Bool} (b : Bool) → a ≡ false → (a also b) ≡ false
 unfolding ◌also◌
-also-f b p = rw p
+also_f b p = rw p
 
-pub also-l : (a b : Bool) → (a also b) ≡ true → a ≡ true
+pub also_l : (a b : Bool) → (a also b) ≡ true → a ≡ true
 unfolding ◌also◌
-also-l true b h = refl
-also-l false b h = h
+also_l true b h = refl
+also_l false b h = h
 
-pub also-r : (a b : Bool) → (a also b) ≡ true → b ≡ true
+pub also_r : (a b : Bool) → (a also b) ≡ true → b ≡ true
 unfolding ◌also◌
-also-r true b h = h
-also-r false b h = absurd (subst T (sym h) tt)
+also_r true b h = h
+also_r false b h = absurd (subst T (sym h) tt)
 
-pub also-iff : (a b : Bool) → ((a also b) ≡ true) ↔ ((a ≡ true) × (b ≡ true))
-also-iff a b = (λ h. (also-l a b h, also-r a b h), λ h. also-t h.0 h.1)
+pub also_iff : (a b : Bool) → ((a also b) ≡ true) ↔ ((a ≡ true) × (b ≡ true))
+also_iff a b = (λ h. (also_l a b h, also_r a b h), λ h. also_t h.0 h.1)
 
-pub also-assoc : (a b c : Bool) → (a also (b also c)) ≡ (a also b also c)
+pub also_assoc : (a b c : Bool) → (a also (b also c)) ≡ (a also b also c)
 unfolding ◌also◌
-also-assoc true b c = refl
-also-assoc false b c = refl
+also_assoc true b c = refl
+also_assoc false b c = refl
 
-pub also-swap : (a b c : Bool) → (a also b also c) ≡ (a also c also b)
+pub also_swap : (a b c : Bool) → (a also b also c) ≡ (a also c also b)
 unfolding ◌also◌
-also-swap false b c = refl
-also-swap true false false = refl
-also-swap true false true = refl
-also-swap true true false = refl
-also-swap true true true = refl
+also_swap false b c = refl
+also_swap true false false = refl
+also_swap true false true = refl
+also_swap true true false = refl
+also_swap true true true = refl
 
 -- What comes behind a test counts only where this passes.
-pub also-same : (a : Bool) {b b' : Bool} → (a ≡ true → b ≡ b') → (a also b) ≡ (a also b')
+pub also_same : (a : Bool) {b b' : Bool} → (a ≡ true → b ≡ b') → (a also b) ≡ (a also b')
 unfolding ◌also◌
-also-same true h = h refl
-also-same false h = refl
+also_same true h = h refl
+also_same false h = refl
 
 -- A last test that passes leaves a row as it is, and one that fails ends it.
-pub also-pass : (a : Bool) {b : Bool} → b ≡ true → (a also b) ≡ a
+pub also_pass : (a : Bool) {b : Bool} → b ≡ true → (a also b) ≡ a
 unfolding ◌also◌
-also-pass true p = p
-also-pass false p = refl
+also_pass true p = p
+also_pass false p = refl
 
-pub also-fail : (a : Bool) {b : Bool} → b ≡ false → (a also b) ≡ false
+pub also_fail : (a : Bool) {b : Bool} → b ≡ false → (a also b) ≡ false
 unfolding ◌also◌
-also-fail true p = p
-also-fail false p = refl
+also_fail true p = p
+also_fail false p = refl
 
 -- The code's `a & b` is a row of what a and b are, and its `a | b` a choice of them.
 pub both : {a b a' b' : Bool} → a ≡ a' → b ≡ b' → (a && b) ≡ (a' also b')
-both {a} {b} p q = and-also a b ∙ λ i. p i also q i
+both {a} {b} p q = and_also a b ∙ λ i. p i also q i
   where
-    and-also : (a b : Bool) → (a && b) ≡ (a also b)
-    and-also true b = sym (also-t refl refl)
-    and-also false b = sym (also-f b refl)
+    and_also : (a b : Bool) → (a && b) ≡ (a also b)
+    and_also true b = sym (also_t refl refl)
+    and_also false b = sym (also_f b refl)
 
-pub either-t : {a : Bool} (b : Bool) → a ≡ true → (a either b) ≡ true
+pub either_t : {a : Bool} (b : Bool) → a ≡ true → (a either b) ≡ true
 unfolding ◌either◌
-either-t b p = rw p
+either_t b p = rw p
 
-pub either-f : {a b r : Bool} → a ≡ false → b ≡ r → (a either b) ≡ r
+pub either_f : {a b r : Bool} → a ≡ false → b ≡ r → (a either b) ≡ r
 unfolding ◌either◌
-either-f p q = rw p q
+either_f p q = rw p q
 
-pub either-fail : (a : Bool) {b : Bool} → b ≡ false → (a either b) ≡ a
+pub either_fail : (a : Bool) {b : Bool} → b ≡ false → (a either b) ≡ a
 unfolding ◌either◌
-either-fail true p = refl
-either-fail false p = p
+either_fail true p = refl
+either_fail false p = p
 
 pub any : {a b a' b' : Bool} → a ≡ a' → b ≡ b' → (a || b) ≡ (a' either b')
-any {a} {b} p q = or-either a b ∙ λ i. p i either q i
+any {a} {b} p q = or_either a b ∙ λ i. p i either q i
   where
-    or-either : (a b : Bool) → (a || b) ≡ (a either b)
-    or-either true b = sym (either-t b refl)
-    or-either false b = sym (either-f refl refl)
+    or_either : (a b : Bool) → (a || b) ≡ (a either b)
+    or_either true b = sym (either_t b refl)
+    or_either false b = sym (either_f refl refl)
 
 -- ---- choices
-pub choose-t : {A : Type 0} {a : Bool} {x r : A} (y : A) → a ≡ true → x ≡ r → choose a x y ≡ r
+pub choose_t : {A : Type 0} {a : Bool} {x r : A} (y : A) → a ≡ true → x ≡ r → choose a x y ≡ r
 unfolding choose
-choose-t y p q = rw p q
+choose_t y p q = rw p q
 
-pub choose-f : {A : Type 0} {a : Bool} {y r : A} (x : A) → a ≡ false → y ≡ r → choose a x y ≡ r
+pub choose_f : {A : Type 0} {a : Bool} {y r : A} (x : A) → a ≡ false → y ≡ r → choose a x y ≡ r
 unfolding choose
-choose-f x p q = rw p q
+choose_f x p q = rw p q
 
 -- What holds of either thing holds of the chosen one.
-pub if-choose : {A : Type 0} {x y : A} (P : A → Type 0) (t : Bool) → (t ≡ true → P x) → (t ≡ false → P y)
+pub if_choose : {A : Type 0} {x y : A} (P : A → Type 0) (t : Bool) → (t ≡ true → P x) → (t ≡ false → P y)
     → P (choose t x y)
 unfolding choose
-if-choose P true p q = p refl
-if-choose P false p q = q refl
+if_choose P true p q = p refl
+if_choose P false p q = q refl
 
 -- ---- a test whose answer is known, as an equation
 pub choose-true : {A : Type 0} (x y : A) → choose true x y ≡ x
-choose-true x y = choose-t y refl refl
+choose-true x y = choose_t y refl refl
 
 pub choose-false : {A : Type 0} (x y : A) → choose false x y ≡ y
-choose-false x y = choose-f x refl refl
+choose-false x y = choose_f x refl refl
 
-pub also-true : (b : Bool) → (true also b) ≡ b
-also-true b = also-t refl refl
+pub also_true : (b : Bool) → (true also b) ≡ b
+also_true b = also_t refl refl
 
-pub also-false : (b : Bool) → (false also b) ≡ false
-also-false b = also-f b refl
+pub also_false : (b : Bool) → (false also b) ≡ false
+also_false b = also_f b refl
 
 pub either_true : (b : Bool) → (true either b) ≡ true
-either_true b = either-t b refl
+either_true b = either_t b refl
 
-pub either-false : (b : Bool) → (false either b) ≡ b
-either-false b = either-f refl refl
+pub either_false : (b : Bool) → (false either b) ≡ b
+either_false b = either_f refl refl
 
 -- With these `simp` works out what hangs on closed tests.
-pub ruleset worked-out = (choose-true, choose-false, also-true, also-false, either_true, either-false)
+pub ruleset worked-out = (choose-true, choose-false, also_true, also_false, either_true, either_false)
 
 -- ---- a call r that ensures r ≡ t, tested as r or as not r
 pub is : {r t x : Bool} → r ≡ t → r ≡ x → t ≡ x
 is p q = sym p ∙ q
 
-pub is-not : {r t : Bool} → r ≡ t → not r ≡ true → t ≡ false
-is-not {r} p q = sym p ∙ not-true r q
+pub is_not : {r t : Bool} → r ≡ t → not r ≡ true → t ≡ false
+is_not {r} p q = sym p ∙ not-true r q
 
-pub is-so : {r t : Bool} → r ≡ t → not r ≡ false → t ≡ true
-is-so {r} p q = sym p ∙ not-false r q
+pub is_so : {r t : Bool} → r ≡ t → not r ≡ false → t ≡ true
+is_so {r} p q = sym p ∙ not-false r q
 
 -- ---- a call r that ensures r ≡ n, compared with a number
 pub eq_of : {r n k : ℕ} → r ≡ n → r ≡ k → eqb n k ≡ true

@@ -7,5 +7,5 @@ use Rattle.files.specs.Got.{Within}
 use Rattle.files.specs.declared.Got.{Got}
 use Rattle.files.specs.declared.Got.TheVariants.{Bytes}
 
-pub counts-of-within : {r : Got} {n : ℕ} (xs : List ℕ) → Within r xs → r ≡ Bytes n → IsPrefixLen n xs
-counts-of-within xs w e = subst (λ r. Within r xs) e w
+pub counts_of_within : {r : Got} {n : ℕ} (xs : List ℕ) → Within r xs → r ≡ Bytes n → IsPrefixLen n xs
+counts_of_within xs w e = subst (λ r. Within r xs) e w

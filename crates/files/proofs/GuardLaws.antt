@@ -5,8 +5,8 @@ use mathlib.Core.Bool.{Bool, true, false}
 use mathlib.Core.List.{List}
 use mathlib.Core.Option.{Option, none, some}
 use mathlib.Core.Path.{◌≡◌, refl, sym, ap, ◌∙◌, subst}
-use Rattle.choice.proofs.Splitting.{if-test}
-use Rattle.choice.proofs.TestsLaws.{choose-t, choose-f}
+use Rattle.choice.proofs.Splitting.{if_test}
+use Rattle.choice.proofs.TestsLaws.{choose_t, choose_f}
 use Rattle.roster.specs.Bytes.{same}
 use Rattle.roster.proofs.BytesLaws.{same→eq}
 use Rattle.files.specs.declared.copy.Compared.{Compared}
@@ -14,106 +14,106 @@ use Rattle.files.specs.declared.copy.Compared.TheVariants as compared
 use Rattle.files.specs.declared.kept.Due.{Due}
 use Rattle.files.specs.declared.kept.Due.TheVariants as due
 use Rattle.files.specs.Kept.{Opens, DueOf}
-use Rattle.files.specs.Guard.{Folder, Guarded, AtItsWord, comparedWith, dueOf, stepsFor, stepped, stopped}
+use Rattle.files.specs.Guard.{Folder, Guarded, AtItsWord, compared_with, due_of, steps_for, stepped, stopped}
 
 -- ---- what is due is due by the contract
-pub dueOf-due : (k : List ℕ) (c : Compared) (anew : Bool) → Opens k → DueOf (dueOf c anew) k anew
-unfolding dueOf
-dueOf-due k compared.Same true o = o
-dueOf-due k compared.Same false o = (o, refl)
-dueOf-due k compared.Missing true o = o
-dueOf-due k compared.Missing false o = (o, refl)
-dueOf-due k compared.Other anew o = o
-dueOf-due k compared.Failed anew o = o
+pub due_of_due : (k : List ℕ) (c : Compared) (anew : Bool) → Opens k → DueOf (due_of c anew) k anew
+unfolding due_of
+due_of_due k compared.Same true o = o
+due_of_due k compared.Same false o = (o, refl)
+due_of_due k compared.Missing true o = o
+due_of_due k compared.Missing false o = (o, refl)
+due_of_due k compared.Other anew o = o
+due_of_due k compared.Failed anew o = o
 
 -- ---- every stop
 module _ (k : List ℕ) where
   -- Once the checkpoint is gone, or was begun with k, the other steps change nothing of that.
-  anew-guarded : (i : ℕ) (f : Folder) → Guarded f → Guarded (stopped k i (stepsFor due.Anew) f)
-  unfolding stepsFor stepped stopped
-  anew-guarded zero f g = g
-  anew-guarded (suc zero) f g = λ c b p q. cc
-  anew-guarded (suc (suc zero)) f g = λ c b p q. cc
-  anew-guarded (suc (suc (suc zero))) f g = λ c b p q. cc
-  anew-guarded (suc (suc (suc (suc i)))) f g = λ c b p q. cc
+  anew_guarded : (i : ℕ) (f : Folder) → Guarded f → Guarded (stopped k i (steps_for due.Anew) f)
+  unfolding steps_for stepped stopped
+  anew_guarded zero f g = g
+  anew_guarded (suc zero) f g = λ c b p q. cc
+  anew_guarded (suc (suc zero)) f g = λ c b p q. cc
+  anew_guarded (suc (suc (suc zero))) f g = λ c b p q. cc
+  anew_guarded (suc (suc (suc (suc i)))) f g = λ c b p q. cc
 
-  copy-guarded : (i : ℕ) (f : Folder) → f.copy ≡ none → AtItsWord f k → Guarded f
-      → Guarded (stopped k i (stepsFor due.Copy) f)
-  unfolding stepsFor stepped stopped
-  copy-guarded zero f m w g = g
-  copy-guarded (suc zero) f m w g = λ c b p q. let own = w b m q in cc
-  copy-guarded (suc (suc zero)) f m w g = λ c b p q. cc
-  copy-guarded (suc (suc (suc i))) f m w g = λ c b p q. cc
+  copy_guarded : (i : ℕ) (f : Folder) → f.copy ≡ none → AtItsWord f k → Guarded f
+      → Guarded (stopped k i (steps_for due.Copy) f)
+  unfolding steps_for stepped stopped
+  copy_guarded zero f m w g = g
+  copy_guarded (suc zero) f m w g = λ c b p q. let own = w b m q in cc
+  copy_guarded (suc (suc zero)) f m w g = λ c b p q. cc
+  copy_guarded (suc (suc (suc i))) f m w g = λ c b p q. cc
 
-  nothing-guarded : (i : ℕ) (f : Folder) → f.copy ≡ some k → Guarded f
-      → Guarded (stopped k i (stepsFor due.Nothing) f)
-  unfolding stepsFor stepped stopped
-  nothing-guarded zero f m g = g
-  nothing-guarded (suc zero) f m g = λ c b p q. cc
-  nothing-guarded (suc (suc i)) f m g = λ c b p q. cc
+  nothing_guarded : (i : ℕ) (f : Folder) → f.copy ≡ some k → Guarded f
+      → Guarded (stopped k i (steps_for due.Nothing) f)
+  unfolding steps_for stepped stopped
+  nothing_guarded zero f m g = g
+  nothing_guarded (suc zero) f m g = λ c b p q. cc
+  nothing_guarded (suc (suc i)) f m g = λ c b p q. cc
 
 -- ---- how the copy stands to the book
 module _ (c k : List ℕ) where
-  compared_same : same c k ≡ true → comparedWith (some c) k ≡ compared.Same
-  unfolding comparedWith
-  compared_same t = choose-t compared.Other t refl
+  compared_same : same c k ≡ true → compared_with (some c) k ≡ compared.Same
+  unfolding compared_with
+  compared_same t = choose_t compared.Other t refl
 
-  compared-other : same c k ≡ false → comparedWith (some c) k ≡ compared.Other
-  unfolding comparedWith
-  compared-other t = choose-f compared.Same t refl
+  compared_other : same c k ≡ false → compared_with (some c) k ≡ compared.Other
+  unfolding compared_with
+  compared_other t = choose_f compared.Same t refl
 
--- What is due for a wake of k in the folder f is `dueOf (comparedWith f.copy k) anew`.
+-- What is due for a wake of k in the folder f is `due_of (compared_with f.copy k) anew`.
 module _ (k : List ℕ) (f : Folder) (anew : Bool) where
   -- By what stands in the place of the copy.
-  by_copy : (P : Due → Type 0) → (f.copy ≡ none → P (dueOf compared.Missing anew))
-      → (f.copy ≡ some k → P (dueOf compared.Same anew)) → P due.Anew
-      → P (dueOf (comparedWith f.copy k) anew)
-  unfolding dueOf comparedWith
+  by_copy : (P : Due → Type 0) → (f.copy ≡ none → P (due_of compared.Missing anew))
+      → (f.copy ≡ some k → P (due_of compared.Same anew)) → P due.Anew
+      → P (due_of (compared_with f.copy k) anew)
+  unfolding due_of compared_with
   by_copy P missing own other = at f.copy refl
     where
-      at : (c : Option (List ℕ)) → f.copy ≡ c → P (dueOf (comparedWith c k) anew)
+      at : (c : Option (List ℕ)) → f.copy ≡ c → P (due_of (compared_with c k) anew)
       at none e = missing e
-      at (some c) e = if-test (same c k)
-          (λ t. subst (λ x. P (dueOf x anew)) (sym (compared_same c k t)) (own (e ∙ ap some (same→eq c k t))))
-          (λ t. subst (λ x. P (dueOf x anew)) (sym (compared-other c k t)) other)
+      at (some c) e = if_test (same c k)
+          (λ t. subst (λ x. P (due_of x anew)) (sym (compared_same c k t)) (own (e ∙ ap some (same→eq c k t))))
+          (λ t. subst (λ x. P (due_of x anew)) (sym (compared_other c k t)) other)
 
   -- Stopped after any of its steps, a wake leaves no checkpoint beside the copy of another book.
-  pub guarded-stopped : Guarded f → AtItsWord f k → (i : ℕ)
-      → Guarded (stopped k i (stepsFor (dueOf (comparedWith f.copy k) anew)) f)
-  unfolding dueOf
-  guarded-stopped g w i =
-      by_copy (λ d. Guarded (stopped k i (stepsFor d) f)) (missing anew) (own anew) (anew-guarded k i f g)
+  pub guarded_stopped : Guarded f → AtItsWord f k → (i : ℕ)
+      → Guarded (stopped k i (steps_for (due_of (compared_with f.copy k) anew)) f)
+  unfolding due_of
+  guarded_stopped g w i =
+      by_copy (λ d. Guarded (stopped k i (steps_for d) f)) (missing anew) (own anew) (anew_guarded k i f g)
     where
-      missing : (a : Bool) → f.copy ≡ none → Guarded (stopped k i (stepsFor (dueOf compared.Missing a)) f)
-      missing true e = anew-guarded k i f g
-      missing false e = copy-guarded k i f e w g
+      missing : (a : Bool) → f.copy ≡ none → Guarded (stopped k i (steps_for (due_of compared.Missing a)) f)
+      missing true e = anew_guarded k i f g
+      missing false e = copy_guarded k i f e w g
 
-      own : (a : Bool) → f.copy ≡ some k → Guarded (stopped k i (stepsFor (dueOf compared.Same a)) f)
-      own true e = anew-guarded k i f g
-      own false e = nothing-guarded k i f e g
+      own : (a : Bool) → f.copy ≡ some k → Guarded (stopped k i (steps_for (due_of compared.Same a)) f)
+      own true e = anew_guarded k i f g
+      own false e = nothing_guarded k i f e g
 
   -- After all of them, both are this book's.
   abbrev Settled : Due → Type 0
-  Settled d = ((stopped k 3 (stepsFor d) f).copy ≡ some k) × ((stopped k 3 (stepsFor d) f).begun ≡ some k)
+  Settled d = ((stopped k 3 (steps_for d) f).copy ≡ some k) × ((stopped k 3 (steps_for d) f).begun ≡ some k)
 
-  pub stopped-settled : Settled (dueOf (comparedWith f.copy k) anew)
-  unfolding dueOf stepsFor stepped stopped
-  stopped-settled = by_copy Settled (missing anew) (own anew) (refl, refl)
+  pub stopped_settled : Settled (due_of (compared_with f.copy k) anew)
+  unfolding due_of steps_for stepped stopped
+  stopped_settled = by_copy Settled (missing anew) (own anew) (refl, refl)
     where
-      missing : (a : Bool) → f.copy ≡ none → Settled (dueOf compared.Missing a)
+      missing : (a : Bool) → f.copy ≡ none → Settled (due_of compared.Missing a)
       missing true e = (refl, refl)
       missing false e = (refl, refl)
 
-      own : (a : Bool) → f.copy ≡ some k → Settled (dueOf compared.Same a)
+      own : (a : Bool) → f.copy ≡ some k → Settled (due_of compared.Same a)
       own true e = (refl, refl)
       own false e = (e, refl)
 
   -- A wake that leaves a checkpoint beside its copy, and so goes on from it, goes on from one of its own book.
-  pub begun-own : Guarded f → dueOf (comparedWith f.copy k) anew ≡ due.Nothing
+  pub begun_own : Guarded f → due_of (compared_with f.copy k) anew ≡ due.Nothing
       → (b : List ℕ) → f.begun ≡ some b → b ≡ k
-  unfolding dueOf
-  begun-own g e b q = by_copy (λ d. d ≡ due.Nothing → b ≡ k) (missing anew) (λ own n. g k b own q) (λ n. cc) e
+  unfolding due_of
+  begun_own g e b q = by_copy (λ d. d ≡ due.Nothing → b ≡ k) (missing anew) (λ own n. g k b own q) (λ n. cc) e
     where
-      missing : (a : Bool) → f.copy ≡ none → dueOf compared.Missing a ≡ due.Nothing → b ≡ k
+      missing : (a : Bool) → f.copy ≡ none → due_of compared.Missing a ≡ due.Nothing → b ≡ k
       missing true m n = cc
       missing false m n = cc

@@ -15,40 +15,40 @@ use Rattle.job.specs.declared.reply.Started.{Started}
 use Rattle.job.specs.declared.reply.Started.TheVariants.{NotStarted, Fresh}
 use Rattle.job.specs.declared.reply.Woken.{Woken}
 use Rattle.job.specs.declared.reply.Woken.TheVariants.{NotWoken, Moved}
-use Rattle.job.specs.Checkpoint.{checkpointSize}
-use Rattle.job.specs.Reply.{Reply, reply, refusalNumber, started, woken}
-use Rattle.job.specs.Wake.{freshReply, freshBytes}
-use Rattle.job.proofs.ReplyLaws.{started-inj, started-notStarted, started-fresh, woken-notWoken, woken-moved}
-use Rattle.job.proofs.WakeLaws.{freshBytes-kept}
+use Rattle.job.specs.Checkpoint.{checkpoint_size}
+use Rattle.job.specs.Reply.{Reply, reply, refusal_number, started, woken}
+use Rattle.job.specs.Wake.{fresh_reply, fresh_bytes}
+use Rattle.job.proofs.ReplyLaws.{started_inj, started_not_started, started-fresh, woken_not_woken, woken-moved}
+use Rattle.job.proofs.WakeLaws.{fresh_bytes-kept}
 use Rattle.files.specs.declared.kept.Due.{Due}
 use Rattle.files.specs.declared.kept.Place.{Place}
 use Rattle.files.specs.declared.kept.Place.TheVariants.{At, Refused, Failed}
 use Rattle.files.specs.Put.{front}
-use Rattle.files.specs.Kept.{replied, placed, counting, anewReply, anewBytes, Found, Begun, FoundBy}
+use Rattle.files.specs.Kept.{replied, placed, counting, anew_reply, anew_bytes, Found, Begun, FoundBy}
 use Rattle.files.proofs.PutLaws.{drop_past}
 
 -- ---- what is said of a place is said of no other
-number-inj : (x y : Refusal) → refusalNumber x ≡ refusalNumber y → x ≡ y
-number-inj x y e =
-    let told = started-notStarted x ∙ ap (λ (n : ℕ). reply n []) e ∙ sym (started-notStarted y) in
-    let same = started-inj (NotStarted x) (NotStarted y) told in
+number_inj : (x y : Refusal) → refusal_number x ≡ refusal_number y → x ≡ y
+number_inj x y e =
+    let told = started_not_started x ∙ ap (λ (n : ℕ). reply n []) e ∙ sym (started_not_started y) in
+    let same = started_inj (NotStarted x) (NotStarted y) told in
     cc
 
-pub placed-inj : (r s : Place) → placed r ≡ placed s → r ≡ s
+pub placed_inj : (r s : Place) → placed r ≡ placed s → r ≡ s
 unfolding placed
-placed-inj (At n) (At m) e = cc
-placed-inj (At n) (Refused y) e = cc
-placed-inj (At n) Failed e = cc
-placed-inj (Refused x) (At m) e = cc
-placed-inj (Refused x) (Refused y) e = let n : refusalNumber x ≡ refusalNumber y = cc in ap Refused (number-inj x y n)
-placed-inj (Refused x) Failed e = cc
-placed-inj Failed (At m) e = cc
-placed-inj Failed (Refused y) e = cc
-placed-inj Failed Failed e = refl
+placed_inj (At n) (At m) e = cc
+placed_inj (At n) (Refused y) e = cc
+placed_inj (At n) Failed e = cc
+placed_inj (Refused x) (At m) e = cc
+placed_inj (Refused x) (Refused y) e = let n : refusal_number x ≡ refusal_number y = cc in ap Refused (number_inj x y n)
+placed_inj (Refused x) Failed e = cc
+placed_inj Failed (At m) e = cc
+placed_inj Failed (Refused y) e = cc
+placed_inj Failed Failed e = refl
 
 -- ---- a start's answer
 -- No refusal has the number 0.
-counting-refused : (n : ℕ) (x : Refusal) → counting n (reply (refusalNumber x) []) ≡ reply (refusalNumber x) []
+counting-refused : (n : ℕ) (x : Refusal) → counting n (reply (refusal_number x) []) ≡ reply (refusal_number x) []
 unfolding counting
 counting-refused n (Book Length) = refl
 counting-refused n (Book Trailer) = refl
@@ -62,7 +62,7 @@ module _ {s : Started} {w : Reply} (n : ℕ) (p : started s ≡ w) where
   pub placed-refused : {x : Refusal} → s ≡ NotStarted x → placed (Refused x) ≡ replied (counting n w)
   unfolding placed
   placed-refused {x} e =
-      let told : w ≡ reply (refusalNumber x) [] = sym p ∙ ap started e ∙ started-notStarted x in
+      let told : w ≡ reply (refusal_number x) [] = sym p ∙ ap started e ∙ started_not_started x in
       sym (ap (λ (v : Reply). replied (counting n v)) told ∙ ap replied (counting-refused n x))
 
   pub placed_at : s ≡ Fresh → placed (At n) ≡ replied (counting n w)
@@ -74,53 +74,53 @@ module _ {s : Started} {w : Reply} (n : ℕ) (p : started s ≡ w) where
 -- ---- a start in a room
 module _ (k room : List ℕ) where
   -- A room that is shorter than a checkpoint is taken whole.
-  module _ (h : length room < checkpointSize) where
-    whole : front checkpointSize room ≡ room
-    whole = take_all checkpointSize room (le_of_lt h)
+  module _ (h : length room < checkpoint_size) where
+    whole : front checkpoint_size room ≡ room
+    whole = take_all checkpoint_size room (le_of_lt h)
 
-    pub anewReply-short : counting (length room) (freshReply k room) ≡ anewReply k room
-    unfolding anewReply
-    anewReply-short = sym (ap (λ (xs : List ℕ). counting (length xs) (freshReply k xs)) whole)
+    pub anew_reply_short : counting (length room) (fresh_reply k room) ≡ anew_reply k room
+    unfolding anew_reply
+    anew_reply_short = sym (ap (λ (xs : List ℕ). counting (length xs) (fresh_reply k xs)) whole)
 
-    pub anewBytes-short : freshBytes k room ≡ anewBytes k room
-    unfolding anewBytes
-    anewBytes-short = rw (whole, drop_past checkpointSize room (le_of_lt h), append-nil)
+    pub anew_bytes_short : fresh_bytes k room ≡ anew_bytes k room
+    unfolding anew_bytes
+    anew_bytes_short = rw (whole, drop_past checkpoint_size room (le_of_lt h), append-nil)
 
-  found-by : (r : Place) (w : Reply) {now : List ℕ} → freshReply k (front checkpointSize room) ≡ w
-      → placed r ≡ replied (counting (length (front checkpointSize room)) w)
-      → now ≡ anewBytes k room → length now ≡ length room → Found r k room now
-  unfolding placed counting anewReply anewBytes
-  found-by (At n) (reply zero vs) f p e l =
-      let all : n ≡ length (front checkpointSize room) = cc in
-      prefix_len_of_le _ _ (omega (arith, all, length-take checkpointSize room))
-  found-by (At n) (reply (suc m) vs) f p e l = let z : ◌≡◌ {A = ℕ} 0 (suc m) = cc in absurd (omega arith)
-  found-by (Refused x) (reply zero vs) f p e l = let z : ◌≡◌ {A = ℕ} 0 1 = cc in absurd (omega arith)
-  found-by (Refused x) (reply (suc m) vs) f p e l = (
-    p ∙ ap (λ (v : Reply). replied (counting (length (front checkpointSize room)) v)) (sym f),
-    e ∙ rw (freshBytes-kept k f) (take-append-drop checkpointSize room),
+  found_by : (r : Place) (w : Reply) {now : List ℕ} → fresh_reply k (front checkpoint_size room) ≡ w
+      → placed r ≡ replied (counting (length (front checkpoint_size room)) w)
+      → now ≡ anew_bytes k room → length now ≡ length room → Found r k room now
+  unfolding placed counting anew_reply anew_bytes
+  found_by (At n) (reply zero vs) f p e l =
+      let all : n ≡ length (front checkpoint_size room) = cc in
+      prefix_len_of_le _ _ (omega (arith, all, length-take checkpoint_size room))
+  found_by (At n) (reply (suc m) vs) f p e l = let z : ◌≡◌ {A = ℕ} 0 (suc m) = cc in absurd (omega arith)
+  found_by (Refused x) (reply zero vs) f p e l = let z : ◌≡◌ {A = ℕ} 0 1 = cc in absurd (omega arith)
+  found_by (Refused x) (reply (suc m) vs) f p e l = (
+    p ∙ ap (λ (v : Reply). replied (counting (length (front checkpoint_size room)) v)) (sym f),
+    e ∙ rw (fresh_bytes-kept k f) (take-append-drop checkpoint_size room),
   )
-  found-by Failed w f p e l = tt
+  found_by Failed w f p e l = tt
 
-  pub found-anew : (r : Place) {now : List ℕ} → placed r ≡ replied (anewReply k room)
-      → now ≡ anewBytes k room → length now ≡ length room → Found r k room now
-  unfolding anewReply
-  found-anew r = found-by r (freshReply k (front checkpointSize room)) refl
+  pub found_anew : (r : Place) {now : List ℕ} → placed r ≡ replied (anew_reply k room)
+      → now ≡ anew_bytes k room → length now ≡ length room → Found r k room now
+  unfolding anew_reply
+  found_anew r = found_by r (fresh_reply k (front checkpoint_size room)) refl
 
-  pub begun-anew : (r : Place) {now : List ℕ} → placed r ≡ replied (anewReply k room)
-      → now ≡ anewBytes k room → Begun r k room now
-  begun-anew (At n) p e = (p, e)
-  begun-anew (Refused x) p e = (p, e)
-  begun-anew Failed p e = tt
+  pub begun_anew : (r : Place) {now : List ℕ} → placed r ≡ replied (anew_reply k room)
+      → now ≡ anew_bytes k room → Begun r k room now
+  begun_anew (At n) p e = (p, e)
+  begun_anew (Refused x) p e = (p, e)
+  begun_anew Failed p e = tt
 
 -- ---- where a job stands, by what is due
-pub foundBy-due : (r : Place) (k room now : List ℕ) {d e : Due} → d ≡ e
+pub found_by_due : (r : Place) (k room now : List ℕ) {d e : Due} → d ≡ e
     → FoundBy e r k room now → FoundBy d r k room now
-foundBy-due r k room now q = subst (λ (x : Due). FoundBy x r k room now) (sym q)
+found_by_due r k room now q = subst (λ (x : Due). FoundBy x r k room now) (sym q)
 
 -- ---- a wake's answer
 module _ {s : Woken} {w : Reply} (p : woken s ≡ w) where
-  pub reply-refused : {x : Refusal} → s ≡ NotWoken x → w ≡ reply (refusalNumber x) []
-  reply-refused {x} e = sym p ∙ ap woken e ∙ woken-notWoken x
+  pub reply-refused : {x : Refusal} → s ≡ NotWoken x → w ≡ reply (refusal_number x) []
+  reply-refused {x} e = sym p ∙ ap woken e ∙ woken_not_woken x
 
   pub reply-moved : {m : ℕ} → s ≡ Moved m → w ≡ reply 0 (m ∷ [])
   reply-moved {m} e = sym p ∙ ap woken e ∙ woken-moved m

@@ -8,7 +8,7 @@ use native.Mathlib.Omega.{arith}
 use lib.ListN.{length, take, drop, length-take, length-drop}
 use lib.Seq.{take_all, take-length, drop-length, drop-drop}
 use borrow.Rule.Slice.PartMut.{mid_of, post_of, put_mid, mid_len}
-use Rattle.files.specs.Put.{front, putEnd, putBytes}
+use Rattle.files.specs.Put.{front, put_end, put_bytes}
 
 drop_min : (a : ℕ) (xs : List ℕ) → drop (min a (length xs)) xs ≡ drop a xs
 drop_min zero xs = rw zero-min
@@ -20,15 +20,15 @@ drop_past n xs h =
     let all : min n (length xs) ≡ length xs = omega arith in
     sym (drop_min n xs) ∙ ap (λ (m : ℕ). drop m xs) all ∙ drop-length xs
 
-pub putEnd-le : (n : ℕ) (xs ys : List ℕ) → putEnd n xs ys ≤ length xs
-unfolding putEnd
-putEnd-le n xs ys = omega arith
+pub put_end-le : (n : ℕ) (xs ys : List ℕ) → put_end n xs ys ≤ length xs
+unfolding put_end
+put_end-le n xs ys = omega arith
 
 module _ (n : ℕ) (xs ys : List ℕ) where
   -- Behind more bytes than there are nothing fits.
-  pub put-past : length xs < n → (length xs ≡ putEnd n xs ys) × (xs ≡ putBytes n xs ys)
-  unfolding putEnd putBytes
-  put-past h =
+  pub put_past : length xs < n → (length xs ≡ put_end n xs ys) × (xs ≡ put_bytes n xs ys)
+  unfolding put_end put_bytes
+  put_past h =
       let none : length xs - n ≡ 0 = omega arith in (
         omega arith,
         rw (take_all n xs (le_of_lt h), none, drop_past (n + length ys) xs (omega arith), append-nil, append-nil),
@@ -42,8 +42,8 @@ module _ (n : ℕ) (xs ys : List ℕ) where
     none_after : post_of n (length xs - n) xs ≡ []
     none_after = drop_past (length xs - n) (drop n xs) (omega (arith, length-drop n xs))
 
-    pub fitting-le : {fs : List ℕ} → fs ≡ front (length xs - n) ys → length fs ≤ length (mid_of n (length xs - n) xs)
-    fitting-le e =
+    pub fitting_le : {fs : List ℕ} → fs ≡ front (length xs - n) ys → length fs ≤ length (mid_of n (length xs - n) xs)
+    fitting_le e =
         let few = ap length e ∙ length-take (length xs - n) ys in
         let room = mid_len n (length xs) xs (omega arith) in
         omega arith
@@ -58,11 +58,11 @@ module _ (n : ℕ) (xs ys : List ℕ) where
         ∙ drop_min (n + length ys) xs
 
     -- fs is what fits, and zs what its copy leaves in the rest of the buffer.
-    pub put-copied : {fs zs : List ℕ} {r : ℕ} → fs ≡ front (length xs - n) ys → r ≡ length fs
+    pub put_copied : {fs zs : List ℕ} {r : ℕ} → fs ≡ front (length xs - n) ys → r ≡ length fs
         → zs ≡ take (length fs) fs ++ drop (length fs) (mid_of n (length xs - n) xs)
-        → (n + r ≡ putEnd n xs ys) × (put_mid n (length xs - n) xs zs ≡ putBytes n xs ys)
-    unfolding putEnd putBytes
-    put-copied {fs} e s p = (
+        → (n + r ≡ put_end n xs ys) × (put_mid n (length xs - n) xs zs ≡ put_bytes n xs ys)
+    unfolding put_end put_bytes
+    put_copied {fs} e s p = (
       ap (λ (m : ℕ). n + m) s ∙ ends e,
       rw (p, none_after, rest, left e, take-length fs, append-nil, ← append_assoc, e),
     )

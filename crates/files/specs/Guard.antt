@@ -3,10 +3,10 @@
 --
 --     Folder             what is in a job's folder, where it is there: the book that the copy is, and the
 --                        book that the checkpoint was begun with
---     comparedWith c k   how the copy c stands to the book k
---     dueOf c anew       what is due by that, anew saying that a new start is asked for
+--     compared_with c k   how the copy c stands to the book k
+--     due_of c anew       what is due by that, anew saying that a new start is asked for
 --     Step               a change that no stop divides: the checkpoint goes, the copy is saved, a checkpoint is
---     stepsFor d         the steps of a wake for which d is due
+--     steps_for d         the steps of a wake for which d is due
 --     stepped k s f      the folder f after the step s of a wake of k
 --     stopped k i ss f   the folder f after the first i of the steps ss
 --     Guarded f          a checkpoint beside a copy was begun with that copy's book
@@ -27,17 +27,17 @@ pub record Folder : Type 0 where
   pub begun : Option (List ℕ)
 
 -- ---- what is due
-unfoldable pub comparedWith : Option (List ℕ) → List ℕ → Compared
-comparedWith none k = compared.Missing
-comparedWith (some c) k = choose (same c k) compared.Same compared.Other
+unfoldable pub compared_with : Option (List ℕ) → List ℕ → Compared
+compared_with none k = compared.Missing
+compared_with (some c) k = choose (same c k) compared.Same compared.Other
 
-unfoldable pub dueOf : Compared → Bool → Due
-dueOf compared.Same true = due.Anew
-dueOf compared.Same false = due.Nothing
-dueOf compared.Missing true = due.Anew
-dueOf compared.Missing false = due.Copy
-dueOf compared.Other anew = due.Anew
-dueOf compared.Failed anew = due.Failed
+unfoldable pub due_of : Compared → Bool → Due
+due_of compared.Same true = due.Anew
+due_of compared.Same false = due.Nothing
+due_of compared.Missing true = due.Anew
+due_of compared.Missing false = due.Copy
+due_of compared.Other anew = due.Anew
+due_of compared.Failed anew = due.Failed
 
 -- ---- the steps of a wake
 pub data Step : Type 0 where
@@ -45,12 +45,12 @@ pub data Step : Type 0 where
   copied : Step
   saved : Step
 
-unfoldable pub stepsFor : Due → List Step
-stepsFor due.Nothing = saved ∷ []
-stepsFor due.Copy = copied ∷ saved ∷ []
-stepsFor due.Anew = removed ∷ copied ∷ saved ∷ []
-stepsFor (due.Refused x) = []
-stepsFor due.Failed = []
+unfoldable pub steps_for : Due → List Step
+steps_for due.Nothing = saved ∷ []
+steps_for due.Copy = copied ∷ saved ∷ []
+steps_for due.Anew = removed ∷ copied ∷ saved ∷ []
+steps_for (due.Refused x) = []
+steps_for due.Failed = []
 
 unfoldable pub stepped : List ℕ → Step → Folder → Folder
 stepped k removed f = record { copy = f.copy; begun = none }

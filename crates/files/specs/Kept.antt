@@ -7,8 +7,8 @@
 --     Came                  what came of a call: a reply of the job, or that a file can't be read or saved
 --     placed r              what the place r says: a checkpoint of so many bytes, or a refusal
 --     counting n w          the reply w, which says n too if it accepts
---     anewReply k room      the reply to a fresh start in the first bytes of room, and how many these are
---     anewBytes k room      the room afterwards
+--     anew_reply k room      the reply to a fresh start in the first bytes of room, and how many these are
+--     anew_bytes k room      the room afterwards
 --     Found r k room now    r is what a look for a checkpoint can come to, which leaves now in place of
 --                           room: so many of its bytes, the refusal of a fresh start, or a failure
 --     Begun r k room now    r is what a fresh start in place of a checkpoint can come to: that start, or a
@@ -23,9 +23,9 @@ use Rattle.std.specs.Prelude.{ℕ, zero, suc, List, [], ◌∷◌, ◌++◌, ◌
 use Rattle.io.specs.Counts.{IsPrefixLen}
 use Rattle.rules.specs.declared.book.Head.{Head}
 use Rattle.rules.specs.Book.{opened, refused, accepted}
-use Rattle.job.specs.Checkpoint.{checkpointSize}
-use Rattle.job.specs.Reply.{Reply, reply, refusalNumber}
-use Rattle.job.specs.Wake.{freshReply, freshBytes}
+use Rattle.job.specs.Checkpoint.{checkpoint_size}
+use Rattle.job.specs.Reply.{Reply, reply, refusal_number}
+use Rattle.job.specs.Wake.{fresh_reply, fresh_bytes}
 use Rattle.files.specs.declared.kept.Due.{Due}
 use Rattle.files.specs.declared.kept.Due.TheVariants as due
 use Rattle.files.specs.declared.kept.Place.{Place}
@@ -47,33 +47,33 @@ abbrev pub DueOf : Due → List ℕ → Bool → Type 0
 DueOf due.Nothing k anew = Opens k × (anew ≡ false)
 DueOf due.Copy k anew = Opens k × (anew ≡ false)
 DueOf due.Anew k anew = Opens k
-DueOf (due.Refused x) k anew = opened k ≡ refused (refusalNumber x)
+DueOf (due.Refused x) k anew = opened k ≡ refused (refusal_number x)
 DueOf due.Failed k anew = Opens k
 
 -- ---- where a job stands
 unfoldable pub placed : Place → Came
 placed (place.At n) = replied (reply 0 (n ∷ []))
-placed (place.Refused x) = replied (reply (refusalNumber x) [])
+placed (place.Refused x) = replied (reply (refusal_number x) [])
 placed place.Failed = failed
 
 unfoldable pub counting : ℕ → Reply → Reply
 counting n (reply zero vs) = reply 0 (n ∷ [])
 counting n (reply (suc m) vs) = reply (suc m) vs
 
-unfoldable pub anewReply : List ℕ → List ℕ → Reply
-anewReply k room = counting (length (front checkpointSize room)) (freshReply k (front checkpointSize room))
+unfoldable pub anew_reply : List ℕ → List ℕ → Reply
+anew_reply k room = counting (length (front checkpoint_size room)) (fresh_reply k (front checkpoint_size room))
 
-unfoldable pub anewBytes : List ℕ → List ℕ → List ℕ
-anewBytes k room = freshBytes k (front checkpointSize room) ++ drop checkpointSize room
+unfoldable pub anew_bytes : List ℕ → List ℕ → List ℕ
+anew_bytes k room = fresh_bytes k (front checkpoint_size room) ++ drop checkpoint_size room
 
 abbrev pub Found : Place → List ℕ → List ℕ → List ℕ → Type 0
 Found (place.At n) k room now = IsPrefixLen n now
-Found (place.Refused x) k room now = (placed (place.Refused x) ≡ replied (anewReply k room)) × (now ≡ room)
+Found (place.Refused x) k room now = (placed (place.Refused x) ≡ replied (anew_reply k room)) × (now ≡ room)
 Found place.Failed k room now = Unit {0}
 
 abbrev pub Begun : Place → List ℕ → List ℕ → List ℕ → Type 0
-Begun (place.At n) k room now = (placed (place.At n) ≡ replied (anewReply k room)) × (now ≡ anewBytes k room)
-Begun (place.Refused x) k room now = (placed (place.Refused x) ≡ replied (anewReply k room)) × (now ≡ anewBytes k room)
+Begun (place.At n) k room now = (placed (place.At n) ≡ replied (anew_reply k room)) × (now ≡ anew_bytes k room)
+Begun (place.Refused x) k room now = (placed (place.Refused x) ≡ replied (anew_reply k room)) × (now ≡ anew_bytes k room)
 Begun place.Failed k room now = Unit {0}
 
 abbrev pub FoundBy : Due → Place → List ℕ → List ℕ → List ℕ → Type 0
@@ -90,5 +90,5 @@ pub record Accepts (w : Reply) : Type 0 where
 
 abbrev pub Saved : Kept → Reply → Type 0
 Saved (kept.Moved m) w = w ≡ reply 0 (m ∷ [])
-Saved (kept.Refused x) w = w ≡ reply (refusalNumber x) []
+Saved (kept.Refused x) w = w ≡ reply (refusal_number x) []
 Saved kept.Failed w = Accepts w

@@ -3,7 +3,7 @@
 // finds there.
 ghost use Rattle.std.specs.Prelude.{◌≡◌};
 ghost use Rattle.files.specs.declared.ended.Ended.TheVariants.{Misused};
-ghost use Rattle.files.specs.Ended.{isDone};
+ghost use Rattle.files.specs.Ended.{is_done};
 
 use libc::STDERR_FILENO;
 
@@ -49,7 +49,7 @@ fn take_digit(e: Ended) -> u8 {
 }
 
 pub fn is_done(e: Ended) -> bool
-    ensures done { result ≡ isDone e }
+    ensures done { result ≡ is_done e }
 {
     match e {
         Ended::Done => true,

@@ -1,9 +1,9 @@
 // A job between its files: what ties its checkpoint to its book, where it stands, and one wake of it
 // that is saved. Whatever fails before the save leaves no checkpoint that passes for another book's.
 ghost use Rattle.std.specs.Prelude.{◌≡◌, length};
-ghost use Rattle.job.specs.Wake.{freshReply, freshBytes, wakeReply, wakeBytes};
-ghost use Rattle.files.specs.Guard.{dueOf};
-ghost use Rattle.files.specs.Kept.{replied, placed, counting, anewReply, anewBytes, DueOf, Found, Begun, FoundBy, Saved};
+ghost use Rattle.job.specs.Wake.{fresh_reply, fresh_bytes, wake_reply, wake_bytes};
+ghost use Rattle.files.specs.Guard.{due_of};
+ghost use Rattle.files.specs.Kept.{replied, placed, counting, anew_reply, anew_bytes, DueOf, Found, Begun, FoundBy, Saved};
 
 use crate::copy::Compared;
 use crate::{Got, copy, real, save};
@@ -65,7 +65,7 @@ pub fn find_due(book: &[u8], real: &[u8], whose: &[u8], path: &[u8], anew: bool)
 }
 
 fn decide(compared: Compared, anew: bool) -> Due
-    ensures due { result ≡ dueOf compared anew }
+    ensures due { result ≡ due_of compared anew }
 {
     match compared {
         Compared::Failed => Due::Failed,
@@ -159,8 +159,8 @@ fn is_checkpoint_long(n: usize, whose: &[u8], path: &[u8]) -> bool {
 // A fresh start's checkpoint at the start of room, whatever is kept. A room that is shorter than that
 // is refused as job's calls refuse a buffer.
 pub fn start_anew(book: &[u8], room: &mut [u8]) -> Place
-    ensures place { placed result ≡ replied (anewReply book.now room.old) }
-    ensures bytes { room.new ≡ anewBytes book.now room.old }
+    ensures place { placed result ≡ replied (anew_reply book.now room.old) }
+    ensures bytes { room.new ≡ anew_bytes book.now room.old }
 {
     if room.len() < checkpoint::SIZE {
         return begin(book, room);
@@ -169,8 +169,8 @@ pub fn start_anew(book: &[u8], room: &mut [u8]) -> Place
 }
 
 fn begin(book: &[u8], out: &mut [u8]) -> Place
-    ensures place { placed result ≡ replied (counting (length out.old) (freshReply book.now out.old)) }
-    ensures bytes { out.new ≡ freshBytes book.now out.old }
+    ensures place { placed result ≡ replied (counting (length out.old) (fresh_reply book.now out.old)) }
+    ensures bytes { out.new ≡ fresh_bytes book.now out.old }
 {
     match job::wake::fresh(book, out) {
         Started::NotStarted(x) => Place::Refused(x),
@@ -203,8 +203,8 @@ pub fn wake(
     path: &[u8],
     saved: &mut [u8],
 ) -> Kept
-    ensures saved { Saved result (wakeReply book.now from.now budget saved.old) }
-    ensures bytes { saved.new ≡ wakeBytes book.now from.now budget saved.old }
+    ensures saved { Saved result (wake_reply book.now from.now budget saved.old) }
+    ensures bytes { saved.new ≡ wake_bytes book.now from.now budget saved.old }
 {
     match job::wake::wake(book, from, budget, saved) {
         Woken::NotWoken(x) => Kept::Refused(x),

@@ -12,7 +12,7 @@ pub mod save;
 ghost use Rattle.std.specs.Prelude.{◌≡◌};
 ghost use Rattle.io.specs.Counts.{IsPrefixLen};
 ghost use Rattle.files.specs.Got.{Within};
-ghost use Rattle.files.specs.Put.{front, putEnd, putBytes};
+ghost use Rattle.files.specs.Put.{front, put_end, put_bytes};
 ghost use Rattle.files.specs.Ended.{Printed};
 
 use ended::Ended;
@@ -147,8 +147,8 @@ pub fn take_front(bytes: &[u8], n: usize) -> &[u8]
 // That these are within dst follows; it is stated for callers that go on with `&dst[..r]`.
 pub fn put(dst: &mut [u8], n: usize, src: &[u8]) -> usize
     ensures within { IsPrefixLen result dst.new }
-    ensures end { result ≡ putEnd n dst.old src.now }
-    ensures bytes { dst.new ≡ putBytes n dst.old src.now }
+    ensures end { result ≡ put_end n dst.old src.now }
+    ensures bytes { dst.new ≡ put_bytes n dst.old src.now }
 {
     let len = dst.len();
     if len < n {

@@ -12,29 +12,29 @@ use Rattle.rules.proofs.NumberLaws.{refused-accepted, passed}
 use Rattle.job.specs.declared.reply.Refusal.{Refusal}
 use Rattle.job.specs.declared.admission.Admission.{Admission}
 use Rattle.job.specs.declared.admission.Admission.TheVariants.{Refused, Sound}
-use Rattle.job.specs.Checkpoint.{checkpointSize, sound}
-use Rattle.job.specs.Reply.{refusalNumber}
-use Rattle.job.specs.Wake.{admittedFor}
+use Rattle.job.specs.Checkpoint.{checkpoint_size, sound}
+use Rattle.job.specs.Reply.{refusal_number}
+use Rattle.job.specs.Wake.{admitted_for}
 use Rattle.job.specs.Admission.{admission}
 
 module _ (h : Head) (c : List ℕ) where
-  pub admittedFor-whole : admittedFor h c ≡ accepted h → length c ≡ checkpointSize
-  unfolding admittedFor
-  admittedFor-whole e = eqb-true _ _ (passed (eqb (length c) checkpointSize) e (refused-accepted 30 h)).0
+  pub admitted_for-whole : admitted_for h c ≡ accepted h → length c ≡ checkpoint_size
+  unfolding admitted_for
+  admitted_for-whole e = eqb-true _ _ (passed (eqb (length c) checkpoint_size) e (refused-accepted 30 h)).0
 
-  pub admittedFor-so : admittedFor h c ≡ accepted h → sound h c ≡ true
-  unfolding admittedFor
-  admittedFor-so e =
-      let whole = passed (eqb (length c) checkpointSize) e (refused-accepted 30 h) in
+  pub admitted_for_so : admitted_for h c ≡ accepted h → sound h c ≡ true
+  unfolding admitted_for
+  admitted_for_so e =
+      let whole = passed (eqb (length c) checkpoint_size) e (refused-accepted 30 h) in
       (passed (sound h c) whole.1 (refused-accepted 31 h)).0
 
   -- ---- by the code's answer
-  pub admittedFor-refused : {r : Admission} {x : Refusal} → admission h r ≡ admittedFor h c → r ≡ Refused x
-      → admittedFor h c ≡ refused (refusalNumber x)
+  pub admitted_for-refused : {r : Admission} {x : Refusal} → admission h r ≡ admitted_for h c → r ≡ Refused x
+      → admitted_for h c ≡ refused (refusal_number x)
   unfolding admission
-  admittedFor-refused e q = sym e ∙ ap (admission h) q
+  admitted_for-refused e q = sym e ∙ ap (admission h) q
 
-  pub admittedFor-accepted : {r : Admission} → admission h r ≡ admittedFor h c → r ≡ Sound
-      → admittedFor h c ≡ accepted h
+  pub admitted_for-accepted : {r : Admission} → admission h r ≡ admitted_for h c → r ≡ Sound
+      → admitted_for h c ≡ accepted h
   unfolding admission
-  admittedFor-accepted e q = sym e ∙ ap (admission h) q
+  admitted_for-accepted e q = sym e ∙ ap (admission h) q

@@ -8,31 +8,31 @@ use native.Mathlib.Nat.{mul-add, mul-zero, mul-le-mul, one-mul}
 use native.Mathlib.Omega.{arith}
 use lib.Dec.{lit<}
 use lib.ListN.{get_or}
-use Rattle.choice.proofs.Splitting.{if-eq}
-use Rattle.choice.proofs.TestsLaws.{choose-t, choose-f}
+use Rattle.choice.proofs.Splitting.{if_eq}
+use Rattle.choice.proofs.TestsLaws.{choose_t, choose_f}
 use Rattle.rules.specs.declared.factors.Factors.{Factors}
-use Rattle.rules.specs.Factors.{factorsOf}
+use Rattle.rules.specs.Factors.{factors_of}
 use Rattle.rules.specs.Sorting.{heat_of}
-use Rattle.rules.proofs.FactorsLaws.{factorsOf-parts}
+use Rattle.rules.proofs.FactorsLaws.{factors_of_parts}
 use Rattle.job.specs.State.{◌to◌, mass, ledgers, fossil, biomass, ch4, n2o}
 use Rattle.job.specs.Words.{unit_at}
-use Rattle.job.specs.Shares.{legRecords, coarse, unitsEach, restEach, co2PlaceOf, co2Ledger, fuelShares, countedIn, otherIn, weighed, gathered, sum_at, Held, Modest, Summed}
-use Rattle.job.proofs.PlacesLaws.{to-here, to-other, to_at}
-use Rattle.job.proofs.WordsLaws.{unitAt-co2, unitAt-trace}
-use Rattle.job.proofs.WorthLaws.{worthOf-ch4, worthOf-n2o, worthOf-ch4-none, worthOf-n2o-none, by-ledger, fuelShares-trace, fuelShares-elsewhere, fuelShares-co2}
-use Rattle.job.proofs.HeldLaws.{carbon-le, countedIn-le, otherIn-le}
-use Rattle.job.proofs.WeighedLaws.{length-weighed, units-weighed, rest-weighed, sumAt-weighed, Under, Room, restMost, rest-product, room-under, under-weighed, spread}
+use Rattle.job.specs.Shares.{leg_records, coarse, units_each, rest_each, co2_place_of, co2_ledger, fuel_shares, counted_in, other_in, weighed, gathered, sum_at, Held, Modest, Summed}
+use Rattle.job.proofs.PlacesLaws.{to_here, to_other, to_at}
+use Rattle.job.proofs.WordsLaws.{unit_at_co2, unit_at_trace}
+use Rattle.job.proofs.WorthLaws.{worth_of-ch4, worth_of-n2o, worth_of-ch4-none, worth_of-n2o-none, by_ledger, fuel_shares_trace, fuel_shares_elsewhere, fuel_shares_co2}
+use Rattle.job.proofs.HeldLaws.{carbon_le, counted_in-le, other_in-le}
+use Rattle.job.proofs.WeighedLaws.{length-weighed, units-weighed, rest-weighed, sum_at-weighed, Under, Room, rest_most, rest_product, room_under, under_weighed, spread}
 
 -- ---- how much of a product are coarse units
-abbrev countedUnits : ℕ
-countedUnits = 40000000 * legRecords * 200000
+abbrev counted_units : ℕ
+counted_units = 40000000 * leg_records * 200000
 
-abbrev carbonUnits : ℕ
-carbonUnits = 400000000 * legRecords * 3664
+abbrev carbon_units : ℕ
+carbon_units = 400000000 * leg_records * 3664
 
-co2PlaceOf-lt : (b : Bool) → co2PlaceOf b < ch4
-co2PlaceOf-lt true = subst (λ (p : ℕ). p < ch4) (sym (choose-t fossil refl refl)) (lit< tt)
-co2PlaceOf-lt false = subst (λ (p : ℕ). p < ch4) (sym (choose-f biomass refl refl)) (lit< tt)
+co2_place_of-lt : (b : Bool) → co2_place_of b < ch4
+co2_place_of-lt true = subst (λ (p : ℕ). p < ch4) (sym (choose_t fossil refl refl)) (lit< tt)
+co2_place_of-lt false = subst (λ (p : ℕ). p < ch4) (sym (choose_f biomass refl refl)) (lit< tt)
 
 quotient_le : (x y q : ℕ) → x ≤ coarse * q → y ≤ 200000 → x / coarse * y ≤ q * 200000
 quotient_le x y q l m = mul-le-mul {n₂ = q} (omega arith) m
@@ -40,17 +40,17 @@ quotient_le x y q l m = mul-le-mul {n₂ = q} (omega arith) m
 -- ---- one fuel line more
 -- What is asked before the line is added.
 abbrev pub Ready : Factors → ℕ → List ℕ → List ℕ → Type 0
-Ready f k d s = ((k < 64) × Modest f) × ((Held legRecords d) × (Summed k s))
+Ready f k d s = ((k < 64) × Modest f) × ((Held leg_records d) × (Summed k s))
 
 module _ (f : Factors) (k : ℕ) (d s : List ℕ) where
   abbrev place : ℕ
-  place = co2PlaceOf f.biomass
+  place = co2_place_of f.biomass
 
   abbrev counted : ℕ
-  counted = countedIn f.heat d k
+  counted = counted_in f.heat d k
 
   abbrev all : ℕ
-  all = counted + otherIn f.heat d k
+  all = counted + other_in f.heat d k
 
   abbrev carbon : ℕ
   carbon = get_or d (16 * k + 8) 0
@@ -70,46 +70,46 @@ module _ (f : Factors) (k : ℕ) (d s : List ℕ) where
       mass ((counted * f.co2) to place) i + mass ((carbon * 3664) to place) i + mass ((all * f.ch4) to ch4) i
       + mass ((all * f.n2o) to n2o) i
 
-  parts-ch4 : parts ch4 ≡ all * f.ch4
-  parts-ch4 =
-      let l = co2PlaceOf-lt f.biomass in
+  parts_ch4 : parts ch4 ≡ all * f.ch4
+  parts_ch4 =
+      let l = co2_place_of-lt f.biomass in
       omega (
         arith,
-        to-other (counted * f.co2) place ch4 (λ q. omega arith),
-        to-other (carbon * 3664) place ch4 (λ q. omega arith),
-        to-here (all * f.ch4) ch4,
-        to-other (all * f.n2o) n2o ch4 (λ q. omega arith),
+        to_other (counted * f.co2) place ch4 (λ q. omega arith),
+        to_other (carbon * 3664) place ch4 (λ q. omega arith),
+        to_here (all * f.ch4) ch4,
+        to_other (all * f.n2o) n2o ch4 (λ q. omega arith),
       )
 
-  parts-n2o : parts n2o ≡ all * f.n2o
-  parts-n2o =
-      let l = co2PlaceOf-lt f.biomass in
+  parts_n2o : parts n2o ≡ all * f.n2o
+  parts_n2o =
+      let l = co2_place_of-lt f.biomass in
       omega (
         arith,
-        to-other (counted * f.co2) place n2o (λ q. omega arith),
-        to-other (carbon * 3664) place n2o (λ q. omega arith),
-        to-other (all * f.ch4) ch4 n2o (λ q. omega arith),
-        to-here (all * f.n2o) n2o,
+        to_other (counted * f.co2) place n2o (λ q. omega arith),
+        to_other (carbon * 3664) place n2o (λ q. omega arith),
+        to_other (all * f.ch4) ch4 n2o (λ q. omega arith),
+        to_here (all * f.n2o) n2o,
       )
 
-  parts-here : (i : ℕ) → i < ch4 → i ≡ place → parts i ≡ counted * f.co2 + carbon * 3664
-  parts-here i l e =
+  parts_here : (i : ℕ) → i < ch4 → i ≡ place → parts i ≡ counted * f.co2 + carbon * 3664
+  parts_here i l e =
       omega (
         arith,
         to_at (counted * f.co2) place i e,
         to_at (carbon * 3664) place i e,
-        to-other (all * f.ch4) ch4 i (λ q. omega arith),
-        to-other (all * f.n2o) n2o i (λ q. omega arith),
+        to_other (all * f.ch4) ch4 i (λ q. omega arith),
+        to_other (all * f.n2o) n2o i (λ q. omega arith),
       )
 
-  parts-else : (i : ℕ) → i < ch4 → (i ≡ place → ⊥) → parts i ≡ 0
-  parts-else i l n =
+  parts_else : (i : ℕ) → i < ch4 → (i ≡ place → ⊥) → parts i ≡ 0
+  parts_else i l n =
       omega (
         arith,
-        to-other (counted * f.co2) place i n,
-        to-other (carbon * 3664) place i n,
-        to-other (all * f.ch4) ch4 i (λ q. omega arith),
-        to-other (all * f.n2o) n2o i (λ q. omega arith),
+        to_other (counted * f.co2) place i n,
+        to_other (carbon * 3664) place i n,
+        to_other (all * f.ch4) ch4 i (λ q. omega arith),
+        to_other (all * f.n2o) n2o i (λ q. omega arith),
       )
 
   module _ (ready : Ready f k d s) where
@@ -119,163 +119,163 @@ module _ (f : Factors) (k : ℕ) (d s : List ℕ) where
     abbrev modest : Modest f
     modest = ready.0.1
 
-    abbrev held : Held legRecords d
+    abbrev held : Held leg_records d
     held = ready.1.0
 
     abbrev summed : Summed k s
     summed = ready.1.1
 
-    place-lt : place < ledgers
-    place-lt = omega (arith, co2PlaceOf-lt f.biomass)
+    place_lt : place < ledgers
+    place_lt = omega (arith, co2_place_of-lt f.biomass)
 
-    counted-le : counted ≤ 40000000000000 * legRecords
-    counted-le = countedIn-le d k k_lt held f.heat modest.heat-le
+    counted-le : counted ≤ 40000000000000 * leg_records
+    counted-le = counted_in-le d k k_lt held f.heat modest.heat_le
 
-    all-le : all ≤ 160000000000000 * legRecords
-    all-le = omega (arith, counted-le, otherIn-le d k k_lt held f.heat modest.heat-le)
+    all-le : all ≤ 160000000000000 * leg_records
+    all-le = omega (arith, counted-le, other_in-le d k k_lt held f.heat modest.heat_le)
 
     pub all-lt : all < 18446744073709551616
     all-lt = omega (arith, all-le)
 
-    counted-units : counted / coarse * f.co2 ≤ countedUnits
-    counted-units = quotient_le counted f.co2 (40000000 * legRecords) counted-le modest.co2-le
+    counted-units : counted / coarse * f.co2 ≤ counted_units
+    counted-units = quotient_le counted f.co2 (40000000 * leg_records) counted-le modest.co2_le
 
-    carbon-units : carbon / coarse * 3664 ≤ carbonUnits
-    carbon-units = omega (arith, carbon-le d k k_lt held)
+    carbon-units : carbon / coarse * 3664 ≤ carbon_units
+    carbon-units = omega (arith, carbon_le d k k_lt held)
 
-    ch4-units : all / coarse * f.ch4 ≤ unitsEach
-    ch4-units = quotient_le all f.ch4 (160000000 * legRecords) all-le modest.ch4-le
+    ch4-units : all / coarse * f.ch4 ≤ units_each
+    ch4-units = quotient_le all f.ch4 (160000000 * leg_records) all-le modest.ch4_le
 
-    n2o-units : all / coarse * f.n2o ≤ unitsEach
-    n2o-units = quotient_le all f.n2o (160000000 * legRecords) all-le modest.n2o-le
+    n2o-units : all / coarse * f.n2o ≤ units_each
+    n2o-units = quotient_le all f.n2o (160000000 * leg_records) all-le modest.n2o_le
 
     -- How large the sums get at any place, while the line is added.
-    under : Under (unitsEach * 63) (restEach * 63) s
+    under : Under (units_each * 63) (rest_each * 63) s
     under = record {
       whole = summed.whole;
-      units-le = λ i l. omega (arith, summed.units-le i l);
+      units_le = λ i l. omega (arith, summed.units_le i l);
       rest_le = λ i l. omega (arith, summed.rest_le i l);
     }
 
-    under-once : Under (unitsEach * 63 + countedUnits) (restEach * 63 + restMost) once
-    under-once = under-weighed s place counted f.co2 countedUnits place-lt modest.co2-le counted-units under
+    under_once : Under (units_each * 63 + counted_units) (rest_each * 63 + rest_most) once
+    under_once = under_weighed s place counted f.co2 counted_units place_lt modest.co2_le counted-units under
 
-    under_twice : Under (unitsEach * 63 + countedUnits + carbonUnits) (restEach * 63 + restMost + restMost) twice
-    under_twice = under-weighed once place carbon 3664 carbonUnits place-lt (omega arith) carbon-units under-once
+    under_twice : Under (units_each * 63 + counted_units + carbon_units) (rest_each * 63 + rest_most + rest_most) twice
+    under_twice = under_weighed once place carbon 3664 carbon_units place_lt (omega arith) carbon-units under_once
 
-    under-thrice :
-        Under (unitsEach * 63 + countedUnits + carbonUnits + unitsEach)
-        (restEach * 63 + restMost + restMost + restMost)
+    under_thrice :
+        Under (units_each * 63 + counted_units + carbon_units + units_each)
+        (rest_each * 63 + rest_most + rest_most + rest_most)
         thrice
-    under-thrice = under-weighed twice ch4 all f.ch4 unitsEach (lit< tt) modest.ch4-le ch4-units under_twice
+    under_thrice = under_weighed twice ch4 all f.ch4 units_each (lit< tt) modest.ch4_le ch4-units under_twice
 
-    pub room-once : Room s place counted f.co2
-    room-once =
-        room-under s place counted f.co2 countedUnits place-lt modest.co2-le counted-units under
+    pub room_once : Room s place counted f.co2
+    room_once =
+        room_under s place counted f.co2 counted_units place_lt modest.co2_le counted-units under
         (lit< tt) (lit< tt)
 
     pub room_twice : Room once place carbon 3664
     room_twice =
-        room-under once place carbon 3664 carbonUnits place-lt (omega arith) carbon-units under-once
+        room_under once place carbon 3664 carbon_units place_lt (omega arith) carbon-units under_once
         (lit< tt) (lit< tt)
 
-    pub room-thrice : Room twice ch4 all f.ch4
-    room-thrice =
-        room-under twice ch4 all f.ch4 unitsEach (lit< tt) modest.ch4-le ch4-units under_twice
+    pub room_thrice : Room twice ch4 all f.ch4
+    room_thrice =
+        room_under twice ch4 all f.ch4 units_each (lit< tt) modest.ch4_le ch4-units under_twice
         (lit< tt) (lit< tt)
 
-    pub room-last : Room thrice n2o all f.n2o
-    room-last =
-        room-under thrice n2o all f.n2o unitsEach (lit< tt) modest.n2o-le n2o-units under-thrice
+    pub room_last : Room thrice n2o all f.n2o
+    room_last =
+        room_under thrice n2o all f.n2o units_each (lit< tt) modest.n2o_le n2o-units under_thrice
         (lit< tt) (lit< tt)
 
-    pub summed-gathered : Summed (k + 1) (gathered f k d s)
+    pub summed_gathered : Summed (k + 1) (gathered f k d s)
     unfolding gathered
-    summed-gathered = record {
-      whole = length-weighed thrice n2o all f.n2o (lit< tt) under-thrice.whole;
-      units-le = λ i l.
-          let four = units-weighed thrice n2o all f.n2o (lit< tt) under-thrice.whole i l in
+    summed_gathered = record {
+      whole = length-weighed thrice n2o all f.n2o (lit< tt) under_thrice.whole;
+      units_le = λ i l.
+          let four = units-weighed thrice n2o all f.n2o (lit< tt) under_thrice.whole i l in
           let three = units-weighed twice ch4 all f.ch4 (lit< tt) under_twice.whole i l in
-          let two = units-weighed once place carbon 3664 place-lt under-once.whole i l in
-          let one = units-weighed s place counted f.co2 place-lt summed.whole i l in
+          let two = units-weighed once place carbon 3664 place_lt under_once.whole i l in
+          let one = units-weighed s place counted f.co2 place_lt summed.whole i l in
           let more = spread place i (counted / coarse * f.co2) (carbon / coarse * 3664)
-          (all / coarse * f.ch4) (all / coarse * f.n2o) unitsEach
-          (co2PlaceOf-lt f.biomass) (omega (arith, counted-units, carbon-units)) ch4-units n2o-units in
-          let before = summed.units-le i l in
+          (all / coarse * f.ch4) (all / coarse * f.n2o) units_each
+          (co2_place_of-lt f.biomass) (omega (arith, counted-units, carbon-units)) ch4-units n2o-units in
+          let before = summed.units_le i l in
           omega arith;
       rest_le = λ i l.
-          let four = rest-weighed thrice n2o all f.n2o (lit< tt) under-thrice.whole i l in
+          let four = rest-weighed thrice n2o all f.n2o (lit< tt) under_thrice.whole i l in
           let three = rest-weighed twice ch4 all f.ch4 (lit< tt) under_twice.whole i l in
-          let two = rest-weighed once place carbon 3664 place-lt under-once.whole i l in
-          let one = rest-weighed s place counted f.co2 place-lt summed.whole i l in
-          let by-co2 = rest-product counted f.co2 modest.co2-le in
-          let by-carbon = rest-product carbon 3664 (omega arith) in
-          let by-ch4 = rest-product all f.ch4 modest.ch4-le in
-          let by-n2o = rest-product all f.n2o modest.n2o-le in
+          let two = rest-weighed once place carbon 3664 place_lt under_once.whole i l in
+          let one = rest-weighed s place counted f.co2 place_lt summed.whole i l in
+          let by_co2 = rest_product counted f.co2 modest.co2_le in
+          let by_carbon = rest_product carbon 3664 (omega arith) in
+          let by_ch4 = rest_product all f.ch4 modest.ch4_le in
+          let by_n2o = rest_product all f.n2o modest.n2o_le in
           let more = spread place i (counted % coarse * f.co2) (carbon % coarse * 3664)
-          (all % coarse * f.ch4) (all % coarse * f.n2o) restEach
-          (co2PlaceOf-lt f.biomass) (omega arith) (omega arith) (omega arith) in
+          (all % coarse * f.ch4) (all % coarse * f.n2o) rest_each
+          (co2_place_of-lt f.biomass) (omega arith) (omega arith) (omega arith) in
           let before = summed.rest_le i l in
           omega arith;
     }
 
-    sumAt-parts : (i : ℕ) → i < ledgers → sum_at (gathered f k d s) i ≡ sum_at s i + unit_at i * parts i
+    sum_at_parts : (i : ℕ) → i < ledgers → sum_at (gathered f k d s) i ≡ sum_at s i + unit_at i * parts i
     unfolding gathered
-    sumAt-parts i l =
+    sum_at_parts i l =
         let u = unit_at i in
         let one = mass ((counted * f.co2) to place) i in
         let two = mass ((carbon * 3664) to place) i in
         let three = mass ((all * f.ch4) to ch4) i in
         omega (
           arith,
-          sumAt-weighed thrice n2o all f.n2o (lit< tt) under-thrice.whole i l,
-          sumAt-weighed twice ch4 all f.ch4 (lit< tt) under_twice.whole i l,
-          sumAt-weighed once place carbon 3664 place-lt under-once.whole i l,
-          sumAt-weighed s place counted f.co2 place-lt summed.whole i l,
+          sum_at-weighed thrice n2o all f.n2o (lit< tt) under_thrice.whole i l,
+          sum_at-weighed twice ch4 all f.ch4 (lit< tt) under_twice.whole i l,
+          sum_at-weighed once place carbon 3664 place_lt under_once.whole i l,
+          sum_at-weighed s place counted f.co2 place_lt summed.whole i l,
           mul-add u (one + two + three) (mass ((all * f.n2o) to n2o) i),
           mul-add u (one + two) three,
           mul-add u one two,
         )
 
 -- ---- what it gives is what its words come to
-module _ (f : List ℕ) (k : ℕ) (d s : List ℕ) (ready : Ready (factorsOf f) k d s) where
-  ledger : co2PlaceOf (factorsOf f).biomass ≡ co2Ledger f
-  unfolding co2Ledger
-  ledger = ap co2PlaceOf (factorsOf-parts f).4
+module _ (f : List ℕ) (k : ℕ) (d s : List ℕ) (ready : Ready (factors_of f) k d s) where
+  ledger : co2_place_of (factors_of f).biomass ≡ co2_ledger f
+  unfolding co2_ledger
+  ledger = ap co2_place_of (factors_of_parts f).4
 
   abbrev Gives : ℕ → Type 0
-  Gives i = unit_at i * parts (factorsOf f) k d s i ≡ fuelShares f d k i
+  Gives i = unit_at i * parts (factors_of f) k d s i ≡ fuel_shares f d k i
 
-  gives-co2 : (i : ℕ) → i < ch4 → Gives i
-  gives-co2 i l =
-      if-eq i (co2Ledger f)
+  gives_co2 : (i : ℕ) → i < ch4 → Gives i
+  gives_co2 i l =
+      if_eq i (co2_ledger f)
       (λ e.
-      let here = parts-here (factorsOf f) k d s i l (e ∙ sym ledger) in
-      (λ j. unitAt-co2 i l j * here j) ∙ sym (fuelShares-co2 f d k i l e))
+      let here = parts_here (factors_of f) k d s i l (e ∙ sym ledger) in
+      (λ j. unit_at_co2 i l j * here j) ∙ sym (fuel_shares_co2 f d k i l e))
       (λ n.
-      ap (λ (m : ℕ). unit_at i * m) (parts-else (factorsOf f) k d s i l (λ e. n (e ∙ ledger)))
+      ap (λ (m : ℕ). unit_at i * m) (parts_else (factors_of f) k d s i l (λ e. n (e ∙ ledger)))
       ∙ mul-zero (unit_at i)
-      ∙ sym (fuelShares-elsewhere f d k i l n))
+      ∙ sym (fuel_shares_elsewhere f d k i l n))
 
   gives-ch4 : Gives ch4
   gives-ch4 =
-      let here = parts-ch4 (factorsOf f) k d s in
-      (λ j. unitAt-trace ch4 (omega arith) j * here j)
-      ∙ one-mul (all (factorsOf f) k d s * (factorsOf f).ch4)
-      ∙ sym (fuelShares-trace f d k ch4 (factorsOf f).ch4
-      (λ v l. worthOf-ch4 f v l ∙ ap (λ (y : ℕ). y * heat_of f v) (sym (factorsOf-parts f).2))
-      (worthOf-ch4-none f))
+      let here = parts_ch4 (factors_of f) k d s in
+      (λ j. unit_at_trace ch4 (omega arith) j * here j)
+      ∙ one-mul (all (factors_of f) k d s * (factors_of f).ch4)
+      ∙ sym (fuel_shares_trace f d k ch4 (factors_of f).ch4
+      (λ v l. worth_of-ch4 f v l ∙ ap (λ (y : ℕ). y * heat_of f v) (sym (factors_of_parts f).2))
+      (worth_of-ch4-none f))
 
   gives-n2o : Gives n2o
   gives-n2o =
-      let here = parts-n2o (factorsOf f) k d s in
-      (λ j. unitAt-trace n2o (omega arith) j * here j)
-      ∙ one-mul (all (factorsOf f) k d s * (factorsOf f).n2o)
-      ∙ sym (fuelShares-trace f d k n2o (factorsOf f).n2o
-      (λ v l. worthOf-n2o f v l ∙ ap (λ (y : ℕ). y * heat_of f v) (sym (factorsOf-parts f).3))
-      (worthOf-n2o-none f))
+      let here = parts_n2o (factors_of f) k d s in
+      (λ j. unit_at_trace n2o (omega arith) j * here j)
+      ∙ one-mul (all (factors_of f) k d s * (factors_of f).n2o)
+      ∙ sym (fuel_shares_trace f d k n2o (factors_of f).n2o
+      (λ v l. worth_of-n2o f v l ∙ ap (λ (y : ℕ). y * heat_of f v) (sym (factors_of_parts f).3))
+      (worth_of-n2o-none f))
 
-  pub sumAt-gathered : (i : ℕ) → i < ledgers → sum_at (gathered (factorsOf f) k d s) i ≡ sum_at s i + fuelShares f d k i
-  sumAt-gathered i l =
-      sumAt-parts (factorsOf f) k d s ready i l
-      ∙ ap (λ (m : ℕ). sum_at s i + m) (by-ledger Gives i l (gives-co2 i) gives-ch4 gives-n2o)
+  pub sum_at-gathered : (i : ℕ) → i < ledgers → sum_at (gathered (factors_of f) k d s) i ≡ sum_at s i + fuel_shares f d k i
+  sum_at-gathered i l =
+      sum_at_parts (factors_of f) k d s ready i l
+      ∙ ap (λ (m : ℕ). sum_at s i + m) (by_ledger Gives i l (gives_co2 i) gives-ch4 gives-n2o)

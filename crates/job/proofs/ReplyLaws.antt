@@ -7,7 +7,7 @@ use mathlib.Core.Path.{◌≡◌, refl, sym, ap, ◌∙◌}
 use native.Mathlib.Omega.{arith}
 use lib.Dec.{eqb}
 use Rattle.choice.specs.Tests.{choose}
-use Rattle.choice.proofs.TestsLaws.{choose-t, choose-f}
+use Rattle.choice.proofs.TestsLaws.{choose_t, choose_f}
 use Rattle.mass.specs.declared.figures.Figures.{Figures}
 use Rattle.rules.specs.declared.book.Fault.TheVariants.{Length, Trailer, Units, Fuels}
 use Rattle.job.specs.declared.reply.Refusal.{Refusal}
@@ -20,70 +20,70 @@ use Rattle.job.specs.declared.reply.Reported.{Reported}
 use Rattle.job.specs.declared.reply.Reported.TheVariants.{NotReported, Unfinished, RecordAside, Given}
 use Rattle.job.specs.declared.reply.Remaining.{Remaining}
 use Rattle.job.specs.declared.reply.Remaining.TheVariants.{Unknown, Left}
-use Rattle.job.specs.Reply.{Reply, reply, refusalNumber, figureValues, started, woken, reported, remaining}
+use Rattle.job.specs.Reply.{Reply, reply, refusal_number, figure_values, started, woken, reported, remaining}
 
 -- ---- the reply of each answer
-pub started-notStarted : (x : Refusal) → started (NotStarted x) ≡ reply (refusalNumber x) []
+pub started_not_started : (x : Refusal) → started (NotStarted x) ≡ reply (refusal_number x) []
 unfolding started
-started-notStarted x = refl
+started_not_started x = refl
 
 pub started-fresh : started Fresh ≡ reply 0 []
 unfolding started
 started-fresh = refl
 
-pub woken-notWoken : (x : Refusal) → woken (NotWoken x) ≡ reply (refusalNumber x) []
+pub woken_not_woken : (x : Refusal) → woken (NotWoken x) ≡ reply (refusal_number x) []
 unfolding woken
-woken-notWoken x = refl
+woken_not_woken x = refl
 
 pub woken-moved : (m : ℕ) → woken (Moved m) ≡ reply 0 (m ∷ [])
 unfolding woken
 woken-moved m = refl
 
-pub reported-notReported : (x : Refusal) → reported (NotReported x) ≡ reply (refusalNumber x) []
+pub reported_not_reported : (x : Refusal) → reported (NotReported x) ≡ reply (refusal_number x) []
 unfolding reported
-reported-notReported x = refl
+reported_not_reported x = refl
 
-pub reported-unfinished : (d : ℕ) → reported (Unfinished d) ≡ reply 40 (d ∷ [])
+pub reported_unfinished : (d : ℕ) → reported (Unfinished d) ≡ reply 40 (d ∷ [])
 unfolding reported
-reported-unfinished d = refl
+reported_unfinished d = refl
 
-pub reported-recordAside : (i k : ℕ) → reported (RecordAside i k) ≡ reply 41 (i ∷ k ∷ [])
+pub reported_record_aside : (i k : ℕ) → reported (RecordAside i k) ≡ reply 41 (i ∷ k ∷ [])
 unfolding reported
-reported-recordAside i k = refl
+reported_record_aside i k = refl
 
-pub reported-given : (f : Figures) → reported (Given f) ≡ reply 0 (figureValues f)
+pub reported-given : (f : Figures) → reported (Given f) ≡ reply 0 (figure_values f)
 unfolding reported
 reported-given f = refl
 
-pub remaining-unknown : (x : Refusal) → remaining (Unknown x) ≡ reply (refusalNumber x) []
+pub remaining_unknown : (x : Refusal) → remaining (Unknown x) ≡ reply (refusal_number x) []
 unfolding remaining
-remaining-unknown x = refl
+remaining_unknown x = refl
 
-pub remaining-left : (m : ℕ) → remaining (Left m) ≡ reply 0 (m ∷ [])
+pub remaining_left : (m : ℕ) → remaining (Left m) ≡ reply 0 (m ∷ [])
 unfolding remaining
-remaining-left m = refl
+remaining_left m = refl
 
-pub figureValues-six : (f : Figures) {m : ℕ} → choose f.reportable 1 0 ≡ m
-    → figureValues f
+pub figure_values_six : (f : Figures) {m : ℕ} → choose f.reportable 1 0 ≡ m
+    → figure_values f
     ≡ (f.fossil.0 ∷ f.biomass.0 ∷ f.ch4.0 ∷ f.n2o.0 ∷ f.co2e.0 ∷ m ∷ [])
-unfolding figureValues
-figureValues-six f e = ap (λ (m : ℕ). f.fossil.0 ∷ f.biomass.0 ∷ f.ch4.0 ∷ f.n2o.0 ∷ f.co2e.0 ∷ m ∷ []) e
+unfolding figure_values
+figure_values_six f e = ap (λ (m : ℕ). f.fossil.0 ∷ f.biomass.0 ∷ f.ch4.0 ∷ f.n2o.0 ∷ f.co2e.0 ∷ m ∷ []) e
 
 -- ---- the parts of a reply
 number : Reply → ℕ
 number (reply n vs) = n
 
-pub refused-0 : {r : Reply} {n : ℕ} {us vs : List ℕ} → r ≡ reply 0 us → r ≡ reply n vs → 0 < n → ⊥
+pub refused_0 : {r : Reply} {n : ℕ} {us vs : List ℕ} → r ≡ reply 0 us → r ≡ reply n vs → 0 < n → ⊥
 unfolding number
-refused-0 p q l = let e = sym (ap number p) ∙ ap number q in omega arith
+refused_0 p q l = let e = sym (ap number p) ∙ ap number q in omega arith
 
-firstValue : Reply → ℕ
-firstValue (reply n []) = 0
-firstValue (reply n (m ∷ vs)) = m
+first_value : Reply → ℕ
+first_value (reply n []) = 0
+first_value (reply n (m ∷ vs)) = m
 
-pub one-first : {r : Reply} {m n a b : ℕ} {us vs : List ℕ} → reply m (a ∷ us) ≡ r → reply n (b ∷ vs) ≡ r → a ≡ b
-unfolding firstValue
-one-first p q = ap firstValue p ∙ sym (ap firstValue q)
+pub one_first : {r : Reply} {m n a b : ℕ} {us vs : List ℕ} → reply m (a ∷ us) ≡ r → reply n (b ∷ vs) ≡ r → a ≡ b
+unfolding first_value
+one_first p q = ap first_value p ∙ sym (ap first_value q)
 
 -- ---- the answer that a reply stands for
 pick : {A : Type 0} → Bool → A → A → A
@@ -100,15 +100,15 @@ refusal n =
     (pick (eqb n 31) CheckpointUnsound
     BufferLength)))))
 
-refusal-number : (x : Refusal) → refusal (refusalNumber x) ≡ x
+refusal_number_told : (x : Refusal) → refusal (refusal_number x) ≡ x
 unfolding refusal pick
-refusal-number (Book Length) = refl
-refusal-number (Book Trailer) = refl
-refusal-number (Book Units) = refl
-refusal-number (Book Fuels) = refl
-refusal-number CheckpointLength = refl
-refusal-number CheckpointUnsound = refl
-refusal-number BufferLength = refl
+refusal_number_told (Book Length) = refl
+refusal_number_told (Book Trailer) = refl
+refusal_number_told (Book Units) = refl
+refusal_number_told (Book Fuels) = refl
+refusal_number_told CheckpointLength = refl
+refusal_number_told CheckpointUnsound = refl
+refusal_number_told BufferLength = refl
 
 -- ---- a fresh start
 begun : Reply → Started
@@ -125,8 +125,8 @@ begun-started (NotStarted CheckpointUnsound) = refl
 begun-started (NotStarted BufferLength) = refl
 begun-started Fresh = refl
 
-pub started-inj : (r s : Started) → started r ≡ started s → r ≡ s
-started-inj r s e = sym (begun-started r) ∙ ap begun e ∙ begun-started s
+pub started_inj : (r s : Started) → started r ≡ started s → r ≡ s
+started_inj r s e = sym (begun-started r) ∙ ap begun e ∙ begun-started s
 
 -- ---- a wake
 moved : Reply → Woken
@@ -135,11 +135,11 @@ moved (reply n (m ∷ vs)) = Moved m
 
 moved-woken : (r : Woken) → moved (woken r) ≡ r
 unfolding moved woken
-moved-woken (NotWoken x) = ap NotWoken (refusal-number x)
+moved-woken (NotWoken x) = ap NotWoken (refusal_number_told x)
 moved-woken (Moved m) = refl
 
-pub woken-inj : (r s : Woken) → woken r ≡ woken s → r ≡ s
-woken-inj r s e = sym (moved-woken r) ∙ ap moved e ∙ moved-woken s
+pub woken_inj : (r s : Woken) → woken r ≡ woken s → r ≡ s
+woken_inj r s e = sym (moved-woken r) ∙ ap moved e ∙ moved-woken s
 
 -- ---- a report
 said : Reply → Reported
@@ -158,36 +158,36 @@ said (reply n (a ∷ b ∷ c ∷ d ∷ e ∷ m ∷ vs)) = Given (record {
   reportable = eqb m 1;
 })
 
-one-or-none : (t : Bool) → eqb (choose t 1 0) 1 ≡ t
-one-or-none true = ap (λ (m : ℕ). eqb m 1) (choose-t 0 refl refl)
-one-or-none false = ap (λ (m : ℕ). eqb m 1) (choose-f 1 refl refl)
+one_or-none : (t : Bool) → eqb (choose t 1 0) 1 ≡ t
+one_or-none true = ap (λ (m : ℕ). eqb m 1) (choose_t 0 refl refl)
+one_or-none false = ap (λ (m : ℕ). eqb m 1) (choose_f 1 refl refl)
 
-said-reported : (r : Reported) → said (reported r) ≡ r
-unfolding said reported figureValues
-said-reported (NotReported x) = ap NotReported (refusal-number x)
-said-reported (Unfinished d) = refl
-said-reported (RecordAside i k) = refl
-said-reported (Given f) = λ i. Given (record {
+said_reported : (r : Reported) → said (reported r) ≡ r
+unfolding said reported figure_values
+said_reported (NotReported x) = ap NotReported (refusal_number_told x)
+said_reported (Unfinished d) = refl
+said_reported (RecordAside i k) = refl
+said_reported (Given f) = λ i. Given (record {
   fossil = f.fossil;
   biomass = f.biomass;
   ch4 = f.ch4;
   n2o = f.n2o;
   co2e = f.co2e;
-  reportable = one-or-none f.reportable i;
+  reportable = one_or-none f.reportable i;
 })
 
-pub reported-inj : (r s : Reported) → reported r ≡ reported s → r ≡ s
-reported-inj r s e = sym (said-reported r) ∙ ap said e ∙ said-reported s
+pub reported_inj : (r s : Reported) → reported r ≡ reported s → r ≡ s
+reported_inj r s e = sym (said_reported r) ∙ ap said e ∙ said_reported s
 
 -- ---- a count of the records left
 left : Reply → Remaining
 left (reply n []) = Unknown (refusal n)
 left (reply n (m ∷ vs)) = Left m
 
-left-remaining : (r : Remaining) → left (remaining r) ≡ r
+left_remaining : (r : Remaining) → left (remaining r) ≡ r
 unfolding left remaining
-left-remaining (Unknown x) = ap Unknown (refusal-number x)
-left-remaining (Left m) = refl
+left_remaining (Unknown x) = ap Unknown (refusal_number_told x)
+left_remaining (Left m) = refl
 
-pub remaining-inj : (r s : Remaining) → remaining r ≡ remaining s → r ≡ s
-remaining-inj r s e = sym (left-remaining r) ∙ ap left e ∙ left-remaining s
+pub remaining_inj : (r s : Remaining) → remaining r ≡ remaining s → r ≡ s
+remaining_inj r s e = sym (left_remaining r) ∙ ap left e ∙ left_remaining s

@@ -7,54 +7,54 @@ use native.Mathlib.Omega.{arith}
 use lib.Dec.{eqb, lit<}
 use lib.ListN.{get_or}
 use borrow.Author.Tests.{lt-ltb, le-ltb, eq-eqb, ne_eqb}
-use Rattle.choice.proofs.Splitting.{if-lt, if-eq}
-use Rattle.choice.proofs.TestsLaws.{choose-t, choose-f}
-use Rattle.rules.specs.Fields.{ch4Factor, n2oFactor}
-use Rattle.rules.specs.Factors.{factorsOf}
-use Rattle.rules.specs.Sorting.{heat_of, co2Of}
-use Rattle.rules.proofs.FactorsLaws.{co2Of-other, factorsOf-parts, heatOf-odd, heatOf-even, co2Of-heat}
+use Rattle.choice.proofs.Splitting.{if_lt, if_eq}
+use Rattle.choice.proofs.TestsLaws.{choose_t, choose_f}
+use Rattle.rules.specs.Fields.{ch4_factor, n2o_factor}
+use Rattle.rules.specs.Factors.{factors_of}
+use Rattle.rules.specs.Sorting.{heat_of, co2_of}
+use Rattle.rules.proofs.FactorsLaws.{co2_of_other, factors_of_parts, heat_of_odd, heat_of_even, co2_of-heat}
 use Rattle.job.specs.State.{ledgers, ch4, n2o, sum_to}
-use Rattle.job.specs.Shares.{co2Ledger, worthOf, fuelShares, countedIn, otherIn}
+use Rattle.job.specs.Shares.{co2_ledger, worth_of, fuel_shares, counted_in, other_in}
 
 -- ---- sums that differ at one place
-pub sumTo-same : (f g : ℕ → ℕ) (n : ℕ) → ((j : ℕ) → j < n → g j ≡ f j) → sum_to g n ≡ sum_to f n
+pub sum_to-same : (f g : ℕ → ℕ) (n : ℕ) → ((j : ℕ) → j < n → g j ≡ f j) → sum_to g n ≡ sum_to f n
 unfolding sum_to
-sumTo-same f g zero same = refl
-sumTo-same f g (suc n) same = omega (arith, sumTo-same f g n (λ j l. same j (omega arith)), same n (omega arith))
+sum_to-same f g zero same = refl
+sum_to-same f g (suc n) same = omega (arith, sum_to-same f g n (λ j l. same j (omega arith)), same n (omega arith))
 
-pub sumTo-more : (f g : ℕ → ℕ) (n i x : ℕ) → i < n → ((j : ℕ) → (j ≡ i → ⊥) → g j ≡ f j) → g i ≡ f i + x
+pub sum_to_more : (f g : ℕ → ℕ) (n i x : ℕ) → i < n → ((j : ℕ) → (j ≡ i → ⊥) → g j ≡ f j) → g i ≡ f i + x
     → sum_to g n ≡ sum_to f n + x
 unfolding sum_to
-sumTo-more f g zero i x l other here = absurd (not-suc-le-zero l)
-sumTo-more f g (suc n) i x l other here =
-    if-lt i n
-    (λ m. omega (arith, sumTo-more f g n i x m other here, other n (λ e. omega arith)))
+sum_to_more f g zero i x l other here = absurd (not-suc-le-zero l)
+sum_to_more f g (suc n) i x l other here =
+    if_lt i n
+    (λ m. omega (arith, sum_to_more f g n i x m other here, other n (λ e. omega arith)))
     (λ m.
     let last : i ≡ n = omega arith in
     let now-here = subst (λ (j : ℕ). g j ≡ f j + x) last here in
-    omega (arith, sumTo-same f g n (λ j p. other j (λ e. omega arith))))
+    omega (arith, sum_to-same f g n (λ j p. other j (λ e. omega arith))))
 
-pub sumTo-none : (f : ℕ → ℕ) (n : ℕ) → ((j : ℕ) → f j ≡ 0) → sum_to f n ≡ 0
+pub sum_to-none : (f : ℕ → ℕ) (n : ℕ) → ((j : ℕ) → f j ≡ 0) → sum_to f n ≡ 0
 unfolding sum_to
-sumTo-none f zero none = refl
-sumTo-none f (suc n) none = omega (arith, sumTo-none f n none, none n)
+sum_to-none f zero none = refl
+sum_to-none f (suc n) none = omega (arith, sum_to-none f n none, none n)
 
 -- ---- what a unit of a word is worth
-pub worthOf-ch4 : (f : List ℕ) (v : ℕ) → v < 8 → worthOf f v ch4 ≡ ch4Factor f * heat_of f v
-unfolding worthOf
-worthOf-ch4 f v l = choose-t _ refl (choose-t _ (lt-ltb v 8 l) refl)
+pub worth_of-ch4 : (f : List ℕ) (v : ℕ) → v < 8 → worth_of f v ch4 ≡ ch4_factor f * heat_of f v
+unfolding worth_of
+worth_of-ch4 f v l = choose_t _ refl (choose_t _ (lt-ltb v 8 l) refl)
 
-pub worthOf-n2o : (f : List ℕ) (v : ℕ) → v < 8 → worthOf f v n2o ≡ n2oFactor f * heat_of f v
-unfolding worthOf
-worthOf-n2o f v l = choose-f _ refl (choose-t _ refl (choose-t _ (lt-ltb v 8 l) refl))
+pub worth_of-n2o : (f : List ℕ) (v : ℕ) → v < 8 → worth_of f v n2o ≡ n2o_factor f * heat_of f v
+unfolding worth_of
+worth_of-n2o f v l = choose_f _ refl (choose_t _ refl (choose_t _ (lt-ltb v 8 l) refl))
 
-pub worthOf-ch4-none : (f : List ℕ) (v : ℕ) → 8 ≤ v → worthOf f v ch4 ≡ 0
-unfolding worthOf
-worthOf-ch4-none f v l = choose-t _ refl (choose-f _ (le-ltb v 8 l) refl)
+pub worth_of-ch4-none : (f : List ℕ) (v : ℕ) → 8 ≤ v → worth_of f v ch4 ≡ 0
+unfolding worth_of
+worth_of-ch4-none f v l = choose_t _ refl (choose_f _ (le-ltb v 8 l) refl)
 
-pub worthOf-n2o-none : (f : List ℕ) (v : ℕ) → 8 ≤ v → worthOf f v n2o ≡ 0
-unfolding worthOf
-worthOf-n2o-none f v l = choose-f _ refl (choose-t _ refl (choose-f _ (le-ltb v 8 l) refl))
+pub worth_of-n2o-none : (f : List ℕ) (v : ℕ) → 8 ≤ v → worth_of f v n2o ≡ 0
+unfolding worth_of
+worth_of-n2o-none f v l = choose_f _ refl (choose_t _ refl (choose_f _ (le-ltb v 8 l) refl))
 
 module _ (f : List ℕ) (v i : ℕ) (co2 : i < ch4) where
   not-ch4 : eqb i ch4 ≡ eqb 0 1
@@ -63,63 +63,63 @@ module _ (f : List ℕ) (v i : ℕ) (co2 : i < ch4) where
   not-n2o : eqb i n2o ≡ eqb 0 1
   not-n2o = ne_eqb i n2o (λ e. omega arith)
 
-  pub worthOf-elsewhere : (i ≡ co2Ledger f → ⊥) → worthOf f v i ≡ 0
-  unfolding worthOf
-  worthOf-elsewhere n = choose-f _ not-ch4 (choose-f _ not-n2o (choose-f _ (ne_eqb i (co2Ledger f) n) refl))
+  pub worth_of_elsewhere : (i ≡ co2_ledger f → ⊥) → worth_of f v i ≡ 0
+  unfolding worth_of
+  worth_of_elsewhere n = choose_f _ not-ch4 (choose_f _ not-n2o (choose_f _ (ne_eqb i (co2_ledger f) n) refl))
 
-  module _ (e : i ≡ co2Ledger f) where
-    pub worthOf-heat : v < 8 → worthOf f v i ≡ 1000 * co2Of f v
-    unfolding worthOf
-    worthOf-heat l =
-        choose-f _ not-ch4 (choose-f _ not-n2o (choose-t _ (eq-eqb i (co2Ledger f) e)
-        (ap (λ (y : ℕ). 1000 * y) (choose-t _ (lt-ltb v 8 l) refl))))
+  module _ (e : i ≡ co2_ledger f) where
+    pub worth_of-heat : v < 8 → worth_of f v i ≡ 1000 * co2_of f v
+    unfolding worth_of
+    worth_of-heat l =
+        choose_f _ not-ch4 (choose_f _ not-n2o (choose_t _ (eq-eqb i (co2_ledger f) e)
+        (ap (λ (y : ℕ). 1000 * y) (choose_t _ (lt-ltb v 8 l) refl))))
 
-    pub worthOf-carbon : v ≡ 8 → worthOf f v i ≡ 1000 * 3664
-    unfolding worthOf
-    worthOf-carbon at =
-        choose-f _ not-ch4 (choose-f _ not-n2o (choose-t _ (eq-eqb i (co2Ledger f) e)
-        (ap (λ (y : ℕ). 1000 * y) (choose-f _ (le-ltb v 8 (omega arith)) (choose-t _ (eq-eqb v 8 at) refl)))))
+    pub worth_of-carbon : v ≡ 8 → worth_of f v i ≡ 1000 * 3664
+    unfolding worth_of
+    worth_of-carbon at =
+        choose_f _ not-ch4 (choose_f _ not-n2o (choose_t _ (eq-eqb i (co2_ledger f) e)
+        (ap (λ (y : ℕ). 1000 * y) (choose_f _ (le-ltb v 8 (omega arith)) (choose_t _ (eq-eqb v 8 at) refl)))))
 
-    pub worthOf-past : 8 < v → worthOf f v i ≡ 0
-    unfolding worthOf
-    worthOf-past l =
-        choose-f _ not-ch4 (choose-f _ not-n2o (choose-t _ (eq-eqb i (co2Ledger f) e)
+    pub worth_of_past : 8 < v → worth_of f v i ≡ 0
+    unfolding worth_of
+    worth_of_past l =
+        choose_f _ not-ch4 (choose_f _ not-n2o (choose_t _ (eq-eqb i (co2_ledger f) e)
         (ap (λ (y : ℕ). 1000 * y)
-        (choose-f _ (le-ltb v 8 (omega arith)) (choose-f _ (ne_eqb v 8 (λ at. omega arith)) refl)))))
+        (choose_f _ (le-ltb v 8 (omega arith)) (choose_f _ (ne_eqb v 8 (λ at. omega arith)) refl)))))
 
 -- Ways in which no CO2 comes from the heat.
-pub worthOf-monitor : (f : List ℕ) (v i : ℕ) → i < ch4 → 2 ≤ v → (v ≡ 8 → ⊥) → worthOf f v i ≡ 0
-worthOf-monitor f v i co2 l n =
-    if-eq i (co2Ledger f)
-    (λ e. if-lt v 8
-    (λ m. worthOf-heat f v i co2 e m ∙ ap (λ (y : ℕ). 1000 * y) (co2Of-other f v l))
-    (λ m. worthOf-past f v i co2 e (omega arith)))
-    (λ e. worthOf-elsewhere f v i co2 e)
+pub worth_of-monitor : (f : List ℕ) (v i : ℕ) → i < ch4 → 2 ≤ v → (v ≡ 8 → ⊥) → worth_of f v i ≡ 0
+worth_of-monitor f v i co2 l n =
+    if_eq i (co2_ledger f)
+    (λ e. if_lt v 8
+    (λ m. worth_of-heat f v i co2 e m ∙ ap (λ (y : ℕ). 1000 * y) (co2_of_other f v l))
+    (λ m. worth_of_past f v i co2 e (omega arith)))
+    (λ e. worth_of_elsewhere f v i co2 e)
 
 -- ---- a ledger is one of CO2, or that of another gas
-pub by-ledger : (P : ℕ → Type 0) (i : ℕ) → i < ledgers → (i < ch4 → P i) → P ch4 → P n2o → P i
-by-ledger P i l co2 by-ch4 by-n2o =
-    if-lt i ch4 co2
-    (λ m. if-eq i ch4
-    (λ e. subst P (sym e) by-ch4)
-    (λ n. let last : n2o ≡ i = omega arith in subst P last by-n2o))
+pub by_ledger : (P : ℕ → Type 0) (i : ℕ) → i < ledgers → (i < ch4 → P i) → P ch4 → P n2o → P i
+by_ledger P i l co2 by_ch4 by_n2o =
+    if_lt i ch4 co2
+    (λ m. if_eq i ch4
+    (λ e. subst P (sym e) by_ch4)
+    (λ n. let last : n2o ≡ i = omega arith in subst P last by_n2o))
 
 -- ---- what the words of a fuel come to
-sumTo-words : (g : ℕ → ℕ) → sum_to g 16
+sum_to-words : (g : ℕ → ℕ) → sum_to g 16
     ≡ g 0 + g 1 + g 2 + g 3 + g 4 + g 5 + g 6 + g 7 + (g 8 + g 9 + g 10 + g 11 + g 12 + g 13 + g 14 + g 15)
 unfolding sum_to
-sumTo-words g = omega arith
+sum_to-words g = omega arith
 
 module _ (n w : ℕ → ℕ) (y h : ℕ) where
-  even-word : (v : ℕ) → w v ≡ y * h → n v * w v ≡ h * n v * y
-  even-word v e =
+  even_word : (v : ℕ) → w v ≡ y * h → n v * w v ≡ h * n v * y
+  even_word v e =
       ap (λ (u : ℕ). n v * u) e
       ∙ mul_left_comm (n v) y h
       ∙ mul_comm y (n v * h)
       ∙ ap (λ (u : ℕ). u * y) (mul_comm (n v) h)
 
-  odd-word : (v : ℕ) → w v ≡ y → n v * w v ≡ n v * y
-  odd-word v e = ap (λ (u : ℕ). n v * u) e
+  odd_word : (v : ℕ) → w v ≡ y → n v * w v ≡ n v * y
+  odd_word v e = ap (λ (u : ℕ). n v * u) e
 
   no_word : (v : ℕ) → w v ≡ 0 → n v * w v ≡ 0
   no_word v e = ap (λ (u : ℕ). n v * u) e ∙ mul-zero (n v)
@@ -139,28 +139,28 @@ module _ (n w : ℕ → ℕ) (y h : ℕ) where
         )
 
     -- Each way counts, and carbon doesn't.
-    sumTo-trace : ((v : ℕ) → v < 8 → v % 2 ≡ 0 → w v ≡ y * h) → ((v : ℕ) → v < 8 → v % 2 ≡ 1 → w v ≡ y) → w 8 ≡ 0
+    sum_to_trace : ((v : ℕ) → v < 8 → v % 2 ≡ 0 → w v ≡ y * h) → ((v : ℕ) → v < 8 → v % 2 ≡ 1 → w v ≡ y) → w 8 ≡ 0
         → sum_to (λ v. n v * w v) 16 ≡ (n 1 + h * n 0 + (n 3 + n 5 + n 7 + h * (n 2 + n 4 + n 6))) * y
-    sumTo-trace even odd no-carbon =
-        let e0 = even-word 0 (even 0 (lit< tt) refl) in
-        let e2 = even-word 2 (even 2 (lit< tt) refl) in
-        let e4 = even-word 4 (even 4 (lit< tt) refl) in
-        let e6 = even-word 6 (even 6 (lit< tt) refl) in
-        let o1 = odd-word 1 (odd 1 (lit< tt) refl) in
-        let o3 = odd-word 3 (odd 3 (lit< tt) refl) in
-        let o5 = odd-word 5 (odd 5 (lit< tt) refl) in
-        let o7 = odd-word 7 (odd 7 (lit< tt) refl) in
-        let c = no_word 8 no-carbon in
-        sumTo-words (λ v. n v * w v) ∙ simp (mul-add, add-mul) (omega (arith, past_words))
+    sum_to_trace even odd no_carbon =
+        let e0 = even_word 0 (even 0 (lit< tt) refl) in
+        let e2 = even_word 2 (even 2 (lit< tt) refl) in
+        let e4 = even_word 4 (even 4 (lit< tt) refl) in
+        let e6 = even_word 6 (even 6 (lit< tt) refl) in
+        let o1 = odd_word 1 (odd 1 (lit< tt) refl) in
+        let o3 = odd_word 3 (odd 3 (lit< tt) refl) in
+        let o5 = odd_word 5 (odd 5 (lit< tt) refl) in
+        let o7 = odd_word 7 (odd 7 (lit< tt) refl) in
+        let c = no_word 8 no_carbon in
+        sum_to-words (λ v. n v * w v) ∙ simp (mul-add, add-mul) (omega (arith, past_words))
 
     -- The ways 0 and 1 count, and carbon.
-    sumTo-co2 : w 0 ≡ y * h → w 1 ≡ y → ((v : ℕ) → 2 ≤ v → v < 8 → w v ≡ 0) → w 8 ≡ 3664000
+    sum_to_co2 : w 0 ≡ y * h → w 1 ≡ y → ((v : ℕ) → 2 ≤ v → v < 8 → w v ≡ 0) → w 8 ≡ 3664000
         → sum_to (λ v. n v * w v) 16 ≡ (n 1 + h * n 0) * y + n 8 * 3664000
-    sumTo-co2 first second other carbon =
-        let e0 = even-word 0 first in
-        let o1 = odd-word 1 second in
+    sum_to_co2 first second other carbon =
+        let e0 = even_word 0 first in
+        let o1 = odd_word 1 second in
         let c = ap (λ (u : ℕ). n 8 * u) carbon in
-        sumTo-words (λ v. n v * w v)
+        sum_to-words (λ v. n v * w v)
         ∙ simp add-mul
         (omega (
           arith,
@@ -175,53 +175,53 @@ module _ (n w : ℕ → ℕ) (y h : ℕ) where
 
 module _ (f d : List ℕ) (k : ℕ) where
   abbrev heat : ℕ
-  heat = (factorsOf f).heat
+  heat = (factors_of f).heat
 
-  worth-even : (v y : ℕ) → v % 2 ≡ 0 → y * heat_of f v ≡ y * heat
-  worth-even v y e = ap (λ (h : ℕ). y * h) (heatOf-even f v e ∙ sym (factorsOf-parts f).0)
+  worth_even : (v y : ℕ) → v % 2 ≡ 0 → y * heat_of f v ≡ y * heat
+  worth_even v y e = ap (λ (h : ℕ). y * h) (heat_of_even f v e ∙ sym (factors_of_parts f).0)
 
-  worth-odd : (v y : ℕ) → v % 2 ≡ 1 → y * heat_of f v ≡ y
-  worth-odd v y e = ap (λ (h : ℕ). y * h) (heatOf-odd f v e) ∙ mul-one y
+  worth_odd : (v y : ℕ) → v % 2 ≡ 1 → y * heat_of f v ≡ y
+  worth_odd v y e = ap (λ (h : ℕ). y * h) (heat_of_odd f v e) ∙ mul-one y
 
   first_word : get_or d (16 * k + 0) 0 ≡ get_or d (16 * k) 0
   first_word = ap (λ (p : ℕ). get_or d p 0) (add-zero (16 * k))
 
-  pub fuelShares-trace : (i y : ℕ)
-      → ((v : ℕ) → v < 8 → worthOf f v i ≡ y * heat_of f v)
-      → ((v : ℕ) → 8 ≤ v → worthOf f v i ≡ 0)
-      → fuelShares f d k i ≡ (countedIn heat d k + otherIn heat d k) * y
-  unfolding fuelShares countedIn otherIn
-  fuelShares-trace i y worth none =
-      sumTo-trace (λ v. get_or d (16 * k + v) 0) (λ v. worthOf f v i) y heat
+  pub fuel_shares_trace : (i y : ℕ)
+      → ((v : ℕ) → v < 8 → worth_of f v i ≡ y * heat_of f v)
+      → ((v : ℕ) → 8 ≤ v → worth_of f v i ≡ 0)
+      → fuel_shares f d k i ≡ (counted_in heat d k + other_in heat d k) * y
+  unfolding fuel_shares counted_in other_in
+  fuel_shares_trace i y worth none =
+      sum_to_trace (λ v. get_or d (16 * k + v) 0) (λ v. worth_of f v i) y heat
       (λ v l. none v (omega arith))
-      (λ v l e. worth v l ∙ worth-even v y e)
-      (λ v l e. worth v l ∙ worth-odd v y e)
+      (λ v l e. worth v l ∙ worth_even v y e)
+      (λ v l e. worth v l ∙ worth_odd v y e)
       (none 8 (omega arith))
-      ∙ ap (λ (w : ℕ). (get_or d (16 * k + 1) 0 + heat * w + otherIn heat d k) * y) first_word
+      ∙ ap (λ (w : ℕ). (get_or d (16 * k + 1) 0 + heat * w + other_in heat d k) * y) first_word
 
-  pub fuelShares-elsewhere : (i : ℕ) → i < ch4 → (i ≡ co2Ledger f → ⊥) → fuelShares f d k i ≡ 0
-  unfolding fuelShares
-  fuelShares-elsewhere i l n =
-      sumTo-none _ 16 (λ v. ap (λ (u : ℕ). get_or d (16 * k + v) 0 * u) (worthOf-elsewhere f v i l n) ∙ mul-zero _)
+  pub fuel_shares_elsewhere : (i : ℕ) → i < ch4 → (i ≡ co2_ledger f → ⊥) → fuel_shares f d k i ≡ 0
+  unfolding fuel_shares
+  fuel_shares_elsewhere i l n =
+      sum_to-none _ 16 (λ v. ap (λ (u : ℕ). get_or d (16 * k + v) 0 * u) (worth_of_elsewhere f v i l n) ∙ mul-zero _)
 
-  module _ (i : ℕ) (l : i < ch4) (e : i ≡ co2Ledger f) where
-    by-heat : (v : ℕ) → v < 2 → worthOf f v i ≡ 1000 * (factorsOf f).co2 * heat_of f v
-    by-heat v m =
-        worthOf-heat f v i l e (omega arith)
-        ∙ ap (λ (u : ℕ). 1000 * u) (co2Of-heat f v m ∙ ap (λ (u : ℕ). u * heat_of f v) (sym (factorsOf-parts f).1))
-        ∙ sym (mul_assoc 1000 (factorsOf f).co2 (heat_of f v))
+  module _ (i : ℕ) (l : i < ch4) (e : i ≡ co2_ledger f) where
+    by_heat : (v : ℕ) → v < 2 → worth_of f v i ≡ 1000 * (factors_of f).co2 * heat_of f v
+    by_heat v m =
+        worth_of-heat f v i l e (omega arith)
+        ∙ ap (λ (u : ℕ). 1000 * u) (co2_of-heat f v m ∙ ap (λ (u : ℕ). u * heat_of f v) (sym (factors_of_parts f).1))
+        ∙ sym (mul_assoc 1000 (factors_of f).co2 (heat_of f v))
 
     abbrev carbon : ℕ
     carbon = get_or d (16 * k + 8) 0
 
-    pub fuelShares-co2 : fuelShares f d k i ≡ 1000 * (countedIn heat d k * (factorsOf f).co2 + carbon * 3664)
-    unfolding fuelShares countedIn
-    fuelShares-co2 =
-        sumTo-co2 (λ v. get_or d (16 * k + v) 0) (λ v. worthOf f v i) (1000 * (factorsOf f).co2) heat
-        (λ v m. worthOf-past f v i l e m)
-        (by-heat 0 (lit< tt) ∙ worth-even 0 _ refl)
-        (by-heat 1 (lit< tt) ∙ worth-odd 1 _ refl)
-        (λ v m n. worthOf-heat f v i l e n ∙ ap (λ (u : ℕ). 1000 * u) (co2Of-other f v m))
-        (worthOf-carbon f 8 i l e refl)
-        ∙ ap (λ (w : ℕ). (get_or d (16 * k + 1) 0 + heat * w) * (1000 * (factorsOf f).co2) + carbon * 3664000) first_word
-        ∙ omega (arith, mul_left_comm (countedIn heat d k) 1000 (factorsOf f).co2)
+    pub fuel_shares_co2 : fuel_shares f d k i ≡ 1000 * (counted_in heat d k * (factors_of f).co2 + carbon * 3664)
+    unfolding fuel_shares counted_in
+    fuel_shares_co2 =
+        sum_to_co2 (λ v. get_or d (16 * k + v) 0) (λ v. worth_of f v i) (1000 * (factors_of f).co2) heat
+        (λ v m. worth_of_past f v i l e m)
+        (by_heat 0 (lit< tt) ∙ worth_even 0 _ refl)
+        (by_heat 1 (lit< tt) ∙ worth_odd 1 _ refl)
+        (λ v m n. worth_of-heat f v i l e n ∙ ap (λ (u : ℕ). 1000 * u) (co2_of_other f v m))
+        (worth_of-carbon f 8 i l e refl)
+        ∙ ap (λ (w : ℕ). (get_or d (16 * k + 1) 0 + heat * w) * (1000 * (factors_of f).co2) + carbon * 3664000) first_word
+        ∙ omega (arith, mul_left_comm (counted_in heat d k) 1000 (factors_of f).co2)

@@ -1,13 +1,13 @@
 -- The 96 bytes of a checkpoint. RULES, "Checkpoint"; docs/FORMAT.md has the same by offset.
 --
---     checkpointSize                 96
---     doneIn c .. yearIn c           the fields of a checkpoint c
---     ledgerPlace i                  where the ledger at place i stands
---     tonnesIn c i, restIn c i       this ledger: whole tonnes, and ng
---     countsIn c, massIn c i         the counts, and the mass of a ledger in ng
---     gapIn c, blankIn c             the bytes that no field names are 0
---     firstSound c                   index and reason of the first record set aside are right
---     ledgerSound c i                the ledger at place i is right
+--     checkpoint_size                 96
+--     done_in c .. year_in c           the fields of a checkpoint c
+--     ledger_place i                  where the ledger at place i stands
+--     tonnes_in c i, rest_in c i       this ledger: whole tonnes, and ng
+--     counts_in c, mass_in c i         the counts, and the mass of a ledger in ng
+--     gap_in c, blank_in c             the bytes that no field names are 0
+--     first_sound c                   index and reason of the first record set aside are right
+--     ledger_sound c i                the ledger at place i is right
 --     every t n                      the test t passes for 0 .. n - 1
 --     sound h c                      c is sound for a book with the head h (else 31)
 --     decode c                       the state that c says
@@ -18,65 +18,65 @@
 -- Laws: proofs/CheckpointLaws.antt. Definitions only.
 use Rattle.std.specs.Prelude.{ℕ, zero, suc, ◌+◌, ◌*◌, ◌/◌, ◌%◌, Bool, true, List, [], ◌∷◌, ◌++◌, leb, ltb, eqb}
 use Rattle.choice.specs.Tests.{◌also◌, choose}
-use Rattle.mass.specs.Ledger.{tonne, tonnesEach}
+use Rattle.mass.specs.Ledger.{tonne, tonnes_each}
 use Rattle.rules.specs.declared.book.Head.{Head}
 use Rattle.rules.specs.Bytes.{word, zeros, bytes_of}
-use Rattle.rules.specs.Record.{lastReason}
+use Rattle.rules.specs.Record.{last_reason}
 use Rattle.job.specs.declared.counts.Counts.{Counts}
 use Rattle.job.specs.State.{State, each, ledgers}
 
-abbrev pub checkpointSize : ℕ
-checkpointSize = 96
+abbrev pub checkpoint_size : ℕ
+checkpoint_size = 96
 
 -- ---- fields
-abbrev pub doneIn : List ℕ → ℕ
-doneIn c = word c 0 4
+abbrev pub done_in : List ℕ → ℕ
+done_in c = word c 0 4
 
-abbrev pub asideIn : List ℕ → ℕ
-asideIn c = word c 4 4
+abbrev pub aside_in : List ℕ → ℕ
+aside_in c = word c 4 4
 
-abbrev pub indexIn : List ℕ → ℕ
-indexIn c = word c 8 4
+abbrev pub index_in : List ℕ → ℕ
+index_in c = word c 8 4
 
-abbrev pub reasonIn : List ℕ → ℕ
-reasonIn c = word c 12 1
+abbrev pub reason_in : List ℕ → ℕ
+reason_in c = word c 12 1
 
-abbrev pub gapIn : List ℕ → Bool
-gapIn c = zeros c 13 3
+abbrev pub gap_in : List ℕ → Bool
+gap_in c = zeros c 13 3
 
-abbrev pub ledgerPlace : ℕ → ℕ
-ledgerPlace i = 16 + 16 * i
+abbrev pub ledger_place : ℕ → ℕ
+ledger_place i = 16 + 16 * i
 
-abbrev pub tonnesIn : List ℕ → ℕ → ℕ
-tonnesIn c i = word c (ledgerPlace i) 8
+abbrev pub tonnes_in : List ℕ → ℕ → ℕ
+tonnes_in c i = word c (ledger_place i) 8
 
-abbrev pub restIn : List ℕ → ℕ → ℕ
-restIn c i = word c (ledgerPlace i + 8) 8
+abbrev pub rest_in : List ℕ → ℕ → ℕ
+rest_in c i = word c (ledger_place i + 8) 8
 
-abbrev pub countsIn : List ℕ → Counts
-countsIn c = record { done = doneIn c; aside = asideIn c; index = indexIn c; reason = reasonIn c }
+abbrev pub counts_in : List ℕ → Counts
+counts_in c = record { done = done_in c; aside = aside_in c; index = index_in c; reason = reason_in c }
 
-abbrev pub massIn : List ℕ → ℕ → ℕ
-massIn c i = tonnesIn c i * tonne + restIn c i
+abbrev pub mass_in : List ℕ → ℕ → ℕ
+mass_in c i = tonnes_in c i * tonne + rest_in c i
 
-abbrev pub lengthIn : List ℕ → ℕ
-lengthIn c = word c 80 4
+abbrev pub length_in : List ℕ → ℕ
+length_in c = word c 80 4
 
-abbrev pub yearIn : List ℕ → ℕ
-yearIn c = word c 84 2
+abbrev pub year_in : List ℕ → ℕ
+year_in c = word c 84 2
 
-abbrev pub blankIn : List ℕ → Bool
-blankIn c = zeros c 86 10
+abbrev pub blank_in : List ℕ → Bool
+blank_in c = zeros c 86 10
 
 -- ---- soundness
-unfoldable pub firstSound : List ℕ → Bool
-firstSound c =
-    choose (eqb (asideIn c) 0)
-    (eqb (indexIn c) 0 also eqb (reasonIn c) 0)
-    (ltb (indexIn c) (doneIn c) also leb 1 (reasonIn c) also leb (reasonIn c) lastReason)
+unfoldable pub first_sound : List ℕ → Bool
+first_sound c =
+    choose (eqb (aside_in c) 0)
+    (eqb (index_in c) 0 also eqb (reason_in c) 0)
+    (ltb (index_in c) (done_in c) also leb 1 (reason_in c) also leb (reason_in c) last_reason)
 
-unfoldable pub ledgerSound : List ℕ → ℕ → Bool
-ledgerSound c i = ltb (restIn c i) tonne also leb (tonnesIn c i) (tonnesEach * doneIn c)
+unfoldable pub ledger_sound : List ℕ → ℕ → Bool
+ledger_sound c i = ltb (rest_in c i) tonne also leb (tonnes_in c i) (tonnes_each * done_in c)
 
 unfoldable pub every : (ℕ → Bool) → ℕ → Bool
 every t zero = true
@@ -84,18 +84,18 @@ every t (suc n) = every t n also t n
 
 unfoldable pub sound : Head → List ℕ → Bool
 sound h c =
-    eqb (lengthIn c) h.length
-    also eqb (yearIn c) h.year
-    also leb (doneIn c) h.n
-    also leb (asideIn c) (doneIn c)
-    also firstSound c
-    also every (ledgerSound c) ledgers
-    also gapIn c
-    also blankIn c
+    eqb (length_in c) h.length
+    also eqb (year_in c) h.year
+    also leb (done_in c) h.n
+    also leb (aside_in c) (done_in c)
+    also first_sound c
+    also every (ledger_sound c) ledgers
+    also gap_in c
+    also blank_in c
 
 -- ---- what a checkpoint says, and how it is said
 unfoldable pub decode : List ℕ → State
-decode c = record { counts = countsIn c; masses = each (massIn c) ledgers }
+decode c = record { counts = counts_in c; masses = each (mass_in c) ledgers }
 
 abbrev pub front : Counts → List ℕ
 front c =

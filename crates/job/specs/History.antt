@@ -12,17 +12,17 @@
 use Rattle.std.specs.Prelude.{ℕ, ◌+◌, ◌≡◌}
 use mathlib.Core.List.{List, [], ◌∷◌, Memᴰ}
 use Rattle.job.specs.Reply.{reply}
-use Rattle.job.specs.Wake.{freshReply, freshBytes, wakeReply, wakeBytes}
+use Rattle.job.specs.Wake.{fresh_reply, fresh_bytes, wake_reply, wake_bytes}
 
 pub record Starts (k c : List ℕ) : Type 0 where
   pub out : List ℕ
-  pub accepts : freshReply k out ≡ reply 0 []
-  pub saves : c ≡ freshBytes k out
+  pub accepts : fresh_reply k out ≡ reply 0 []
+  pub saves : c ≡ fresh_bytes k out
 
 pub record Wakes (k c : List ℕ) (b m : ℕ) (d : List ℕ) : Type 0 where
   pub out : List ℕ
-  pub accepts : wakeReply k c b out ≡ reply 0 (m ∷ [])
-  pub saves : d ≡ wakeBytes k c b out
+  pub accepts : wake_reply k c b out ≡ reply 0 (m ∷ [])
+  pub saves : d ≡ wake_bytes k c b out
 
 pub data History (k : List ℕ) : List (List ℕ) → Type 0 where
   begun : {c : List ℕ} → Starts k c → History k (c ∷ [])

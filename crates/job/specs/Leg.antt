@@ -16,11 +16,11 @@
 --                              what r says of the look at record p is so: done with it, a table is u where it was t; and
 --                              else nothing has changed, and one that stops was to stop (s)
 --
---     takenSorted s, takenWeighed x    how the look at a record ends that was sorted as s, or weighed as x
+--     taken_sorted s, taken_weighed x    how the look at a record ends that was sorted as s, or weighed as x
 --     RoomFor s d, Co2For s    there is room for s in the shares d, and its CO2 is that of a record
 --     LightFor g x             so is that of x, whose grains are g µg
---     sharedBy s d, addedBy s w    the shares and the words once s is taken
---     weighedBy g x w, AsideBy p x a b    the words once x is taken, and what is then said of records set aside
+--     shared_by s d, added_by s w    the shares and the words once s is taken
+--     weighed_by g x w, AsideBy p x a b    the words once x is taken, and what is then said of records set aside
 --
 -- Laws: proofs/LegLaws.antt, proofs/WentLaws.antt. Definitions only.
 use Rattle.std.specs.Prelude.{ℕ, ◌+◌, ◌-◌, ◌*◌, ◌<◌, ◌≤◌, Bool, true, false, List, ◌≡◌, get_or}
@@ -31,64 +31,64 @@ use Rattle.rules.specs.declared.sorting.Sorted.TheVariants as sorted
 use Rattle.rules.specs.declared.weighing.Weighed.{Weighed}
 use Rattle.rules.specs.declared.weighing.Weighed.TheVariants as weighed
 use Rattle.rules.specs.Bytes.{line, lines}
-use Rattle.rules.specs.Book.{unitLines, fuelLines}
-use Rattle.rules.specs.Record.{outcomeAt}
+use Rattle.rules.specs.Book.{unit_lines, fuel_lines}
+use Rattle.rules.specs.Record.{outcome_at}
 use Rattle.rules.specs.Index.{UnitsNoted, Small}
-use Rattle.rules.specs.Table.{isTable, noting, Known}
+use Rattle.rules.specs.Table.{is_table, noting, Known}
 use Rattle.job.specs.declared.leg.Taken.{Taken}
 use Rattle.job.specs.declared.leg.Taken.TheVariants.{Done, Unsure, Stopped}
 use Rattle.job.specs.State.{mass, ledgers, fossil, gives, counted, run}
 use Rattle.job.specs.Bounds.{FitFor}
-use Rattle.job.specs.Words.{carriesEach, full, massAt, countsAt, stateIn, added, Kept}
-use Rattle.job.specs.Shares.{shared, sharesAt, Held}
+use Rattle.job.specs.Words.{carries_each, full, mass_at, counts_at, state_in, added, Kept}
+use Rattle.job.specs.Shares.{shared, shares_at, Held}
 
 -- ---- the records from a place on
 pub record Before (h : Head) (k : List ℕ) (p u : ℕ) (a w t : List ℕ) : Type 0 where
-  pub fit : FitFor h (stateIn (countsAt p a) w)
-  pub kept : Kept (carriesEach * p) w
+  pub fit : FitFor h (state_in (counts_at p a) w)
+  pub kept : Kept (carries_each * p) w
   pub from_le : p ≤ u
-  pub end-le : u ≤ h.n
-  pub known : Known (lines p k) (unitLines h k) t
+  pub end_le : u ≤ h.n
+  pub known : Known (lines p k) (unit_lines h k) t
 
 pub record Ready (h : Head) (k : List ℕ) (p u : ℕ) (a w t v x : List ℕ) : Type 0 where
   pub before : Before h k p u a w t
-  pub table : isTable (unitLines h k) t ≡ true
-  pub units : UnitsNoted (unitLines h k) v
+  pub table : is_table (unit_lines h k) t ≡ true
+  pub units : UnitsNoted (unit_lines h k) v
   pub hints : Small x
 
 pub record Went (h : Head) (k : List ℕ) (p u : ℕ) (s : Bool) (a w : List ℕ) (r : ℕ) (b v : List ℕ) : Type 0 where
-  pub state : stateIn (countsAt r b) v ≡ run h k (stateIn (countsAt p a) w) (r - p)
-  pub kept : Kept (carriesEach * r) v
+  pub state : state_in (counts_at r b) v ≡ run h k (state_in (counts_at p a) w) (r - p)
+  pub kept : Kept (carries_each * r) v
   pub from_le : p ≤ r
-  pub end-le : r ≤ u
+  pub end_le : r ≤ u
   pub whole : s ≡ false → r ≡ u
 
 -- ---- one record more
 abbrev pub Aside : Head → List ℕ → ℕ → List ℕ → List ℕ → Type 0
-Aside h k p a b = countsAt (p + 1) b ≡ counted (countsAt p a) (outcomeAt h k p)
+Aside h k p a b = counts_at (p + 1) b ≡ counted (counts_at p a) (outcome_at h k p)
 
 pub record Took (h : Head) (k : List ℕ) (p : ℕ) (a w b v : List ℕ) : Type 0 where
   pub counts : Aside h k p a b
-  pub masses : (i : ℕ) → i < ledgers → massAt v i ≡ massAt w i + mass (gives (outcomeAt h k p)) i
+  pub masses : (i : ℕ) → i < ledgers → mass_at v i ≡ mass_at w i + mass (gives (outcome_at h k p)) i
   pub kept : (m : ℕ) → Kept m w → Kept (m + 3) v
 
 pub record TookShare (h : Head) (k : List ℕ) (p : ℕ) (a w d b v e : List ℕ) : Type 0 where
   pub counts : Aside h k p a b
   pub masses : (i : ℕ) → i < ledgers →
-      massAt v i + sharesAt (fuelLines h k) e i
-      ≡ massAt w i + sharesAt (fuelLines h k) d i + mass (gives (outcomeAt h k p)) i
+      mass_at v i + shares_at (fuel_lines h k) e i
+      ≡ mass_at w i + shares_at (fuel_lines h k) d i + mass (gives (outcome_at h k p)) i
   pub kept : (m : ℕ) → Kept m w → Kept (m + 3) v
   pub held : (n : ℕ) → Held n d → Held (n + 1) e
 
 abbrev pub Taking : Head → List ℕ → ℕ → Bool → List ℕ → List ℕ → List ℕ → List ℕ → Taken → List ℕ → List ℕ → List ℕ → List ℕ → Type 0
-Taking h k p s a w d t Done b v e u = TookShare h k p a w d b v e × (u ≡ noting (line p k) (unitLines h k) t)
+Taking h k p s a w d t Done b v e u = TookShare h k p a w d b v e × (u ≡ noting (line p k) (unit_lines h k) t)
 Taking h k p s a w d t Unsure b v e u = (b ≡ a) × (v ≡ w) × (e ≡ d) × (u ≡ t)
 Taking h k p s a w d t Stopped b v e u = (b ≡ a) × (v ≡ w) × (e ≡ d) × (u ≡ t) × (s ≡ true)
 
 -- ---- what was sorted or weighed
-abbrev pub takenSorted : Sorted → Taken
-takenSorted sorted.Unsure = Unsure
-takenSorted (sorted.Sure x) = Done
+abbrev pub taken_sorted : Sorted → Taken
+taken_sorted sorted.Unsure = Unsure
+taken_sorted (sorted.Sure x) = Done
 
 abbrev pub RoomFor : Sorted → List ℕ → Type 0
 RoomFor sorted.Unsure d = Unit {0}
@@ -100,30 +100,30 @@ abbrev pub Co2For : Sorted → Type 0
 Co2For sorted.Unsure = Unit {0}
 Co2For (sorted.Sure x) = x.co2.0 < full
 
-abbrev pub sharedBy : Sorted → List ℕ → List ℕ
-sharedBy sorted.Unsure d = d
-sharedBy (sorted.Sure x) d = shared d x
+abbrev pub shared_by : Sorted → List ℕ → List ℕ
+shared_by sorted.Unsure d = d
+shared_by (sorted.Sure x) d = shared d x
 
-abbrev pub addedBy : Sorted → List ℕ → List ℕ
-addedBy sorted.Unsure w = w
-addedBy (sorted.Sure x) w = added w fossil x.co2.0
+abbrev pub added_by : Sorted → List ℕ → List ℕ
+added_by sorted.Unsure w = w
+added_by (sorted.Sure x) w = added w fossil x.co2.0
 
-abbrev pub takenWeighed : Weighed → Taken
-takenWeighed weighed.Unsure = Unsure
-takenWeighed weighed.Repeated = Done
-takenWeighed (weighed.Fossil x) = Done
+abbrev pub taken_weighed : Weighed → Taken
+taken_weighed weighed.Unsure = Unsure
+taken_weighed weighed.Repeated = Done
+taken_weighed (weighed.Fossil x) = Done
 
 abbrev pub LightFor : ℕ → Weighed → Type 0
 LightFor g weighed.Unsure = Unit {0}
 LightFor g weighed.Repeated = Unit {0}
 LightFor g (weighed.Fossil x) = g * x.0 < full
 
-abbrev pub weighedBy : ℕ → Weighed → List ℕ → List ℕ
-weighedBy g weighed.Unsure w = w
-weighedBy g weighed.Repeated w = w
-weighedBy g (weighed.Fossil x) w = added w fossil (g * x.0)
+abbrev pub weighed_by : ℕ → Weighed → List ℕ → List ℕ
+weighed_by g weighed.Unsure w = w
+weighed_by g weighed.Repeated w = w
+weighed_by g (weighed.Fossil x) w = added w fossil (g * x.0)
 
 abbrev pub AsideBy : ℕ → Weighed → List ℕ → List ℕ → Type 0
 AsideBy p weighed.Unsure a b = b ≡ a
-AsideBy p weighed.Repeated a b = countsAt (p + 1) b ≡ counted (countsAt p a) (SetAside 8)
+AsideBy p weighed.Repeated a b = counts_at (p + 1) b ≡ counted (counts_at p a) (SetAside 8)
 AsideBy p (weighed.Fossil x) a b = b ≡ a

@@ -1,7 +1,7 @@
 -- Replies in the numbers of RULES, "Numbers": a number, 0 if the call was accepted, and its values.
 --
 --     Reply                  a number and the values that it gives back
---     refusalNumber x        the number of a refusal
+--     refusal_number x        the number of a refusal
 --     started r              the reply that a fresh start's answer stands for
 --     woken r                the reply that a wake's answer stands for: records gone through
 --     reported r             the reply that a report's answer stands for: 40 with the records done; 41 with
@@ -12,7 +12,7 @@
 use Rattle.std.specs.Prelude.{ℕ, List, [], ◌∷◌}
 use Rattle.choice.specs.Tests.{choose}
 use Rattle.mass.specs.declared.figures.Figures.{Figures}
-use Rattle.rules.specs.Book.{faultNumber}
+use Rattle.rules.specs.Book.{fault_number}
 use Rattle.job.specs.declared.reply.Refusal.{Refusal}
 use Rattle.job.specs.declared.reply.Refusal.TheVariants.{Book, CheckpointLength, CheckpointUnsound, BufferLength}
 use Rattle.job.specs.declared.reply.Started.{Started}
@@ -27,30 +27,30 @@ use Rattle.job.specs.declared.reply.Remaining.TheVariants.{Unknown, Left}
 pub data Reply : Type 0 where
   reply : ℕ → List ℕ → Reply
 
-abbrev pub refusalNumber : Refusal → ℕ
-refusalNumber (Book x) = faultNumber x
-refusalNumber CheckpointLength = 30
-refusalNumber CheckpointUnsound = 31
-refusalNumber BufferLength = 32
+abbrev pub refusal_number : Refusal → ℕ
+refusal_number (Book x) = fault_number x
+refusal_number CheckpointLength = 30
+refusal_number CheckpointUnsound = 31
+refusal_number BufferLength = 32
 
-unfoldable pub figureValues : Figures → List ℕ
-figureValues f =
+unfoldable pub figure_values : Figures → List ℕ
+figure_values f =
     f.fossil.0 ∷ f.biomass.0 ∷ f.ch4.0 ∷ f.n2o.0 ∷ f.co2e.0 ∷ choose f.reportable 1 0 ∷ []
 
 unfoldable pub started : Started → Reply
-started (NotStarted x) = reply (refusalNumber x) []
+started (NotStarted x) = reply (refusal_number x) []
 started Fresh = reply 0 []
 
 unfoldable pub woken : Woken → Reply
-woken (NotWoken x) = reply (refusalNumber x) []
+woken (NotWoken x) = reply (refusal_number x) []
 woken (Moved m) = reply 0 (m ∷ [])
 
 unfoldable pub reported : Reported → Reply
-reported (NotReported x) = reply (refusalNumber x) []
+reported (NotReported x) = reply (refusal_number x) []
 reported (Unfinished d) = reply 40 (d ∷ [])
 reported (RecordAside i k) = reply 41 (i ∷ k ∷ [])
-reported (Given f) = reply 0 (figureValues f)
+reported (Given f) = reply 0 (figure_values f)
 
 unfoldable pub remaining : Remaining → Reply
-remaining (Unknown x) = reply (refusalNumber x) []
+remaining (Unknown x) = reply (refusal_number x) []
 remaining (Left m) = reply 0 (m ∷ [])

@@ -1,25 +1,25 @@
 -- How the code holds what the fuel records of a leg add, in words by fuel line and way. This serves the code; the
 -- definitions of the calls don't need it.
 --
---     legRecords               the most records of a leg
+--     leg_records               the most records of a leg
 --     coarse                   a sum is held by what it has of this and by the rest
---     unitsEach, restEach      the most that a fuel gives of either to a ledger
---     fullUnits                how many coarse units a high digit of the ledgers' words counts
---     pourEach, pourMost       the most by which a high digit grows by one sum, and where a leg is settled
+--     units_each, rest_each      the most that a fuel gives of either to a ledger
+--     full_units                how many coarse units a high digit of the ledgers' words counts
+--     pour_each, pour_most       the most by which a high digit grows by one sum, and where a leg is settled
 --     raised d p x             d with x more at place p
 --     shared d x               d with the share x more
---     co2PlaceOf b             where CO2 goes, which is biomass or not
---     co2Ledger f              where that of the fuel f goes
---     worthOf f v i            what one unit of word v of the fuel f is worth at the ledger i, in ng
---     fuelShares f d k i       what the words of fuel line k, which is f, come to at the ledger i
---     sharesAt fs d i          what the words of all fuel lines fs come to there
---     countedIn x d k          of fuel line k, with the default heat x, the heat from which CO2 comes
---     otherIn x d k            and the heat whose CO2 comes from the carbon or is a monitor's
+--     co2_place_of b             where CO2 goes, which is biomass or not
+--     co2_ledger f              where that of the fuel f goes
+--     worth_of f v i            what one unit of word v of the fuel f is worth at the ledger i, in ng
+--     fuel_shares f d k i       what the words of fuel line k, which is f, come to at the ledger i
+--     shares_at fs d i          what the words of all fuel lines fs come to there
+--     counted_in x d k          of fuel line k, with the default heat x, the heat from which CO2 comes
+--     other_in x d k            and the heat whose CO2 comes from the carbon or is a monitor's
 --     weighed s i x y          the sums s with x × y more at place i
 --     gathered f k d s         with all that fuel line k gives, whose factors are f
 --     sum_at s i                what the sums s come to at the ledger i, in ng
 --     poured w i u r           the ledgers' words w with u coarse units and r more at place i
---     mostIn v                 the most that a record adds to the word v of a fuel
+--     most_in v                 the most that a record adds to the word v of a fuel
 --     Held n d                 d is what n records add at most
 --     Modest f                 the heat and the factors are those of a right fuel line
 --     Summed m s               s is what m fuel lines give at most
@@ -31,35 +31,35 @@ use Rattle.choice.specs.Tests.{choose}
 use Rattle.rules.specs.declared.factors.Factors.{Factors}
 use Rattle.rules.specs.declared.sorting.Share.{Share}
 use Rattle.rules.specs.Bytes.{line}
-use Rattle.rules.specs.Fields.{fuelClass, ch4Factor, n2oFactor}
-use Rattle.rules.specs.Sorting.{heat_of, co2Of, mostBurned}
+use Rattle.rules.specs.Fields.{fuel_class, ch4_factor, n2o_factor}
+use Rattle.rules.specs.Sorting.{heat_of, co2_of, most_burned}
 use Rattle.job.specs.State.{ledgers, fossil, biomass, ch4, n2o, sum_to}
 use Rattle.job.specs.Words.{unit_at, added}
 
--- Few enough for 64 bits: 64 fuels give a ledger at most 64 × unitsEach, which is 8.4 × 10^18.
-abbrev pub legRecords : ℕ
-legRecords = 4096
+-- Few enough for 64 bits: 64 fuels give a ledger at most 64 × units_each, which is 8.4 × 10^18.
+abbrev pub leg_records : ℕ
+leg_records = 4096
 
 abbrev pub coarse : ℕ
 coarse = 1000000
 
 -- The heat of 8 words, each of at most 10^8 units × 200,000 kJ a record, times a factor of at most 200,000.
-abbrev pub unitsEach : ℕ
-unitsEach = 32000000000000 * legRecords
+abbrev pub units_each : ℕ
+units_each = 32000000000000 * leg_records
 
 -- The rests of two products, by the heat and by the carbon.
-abbrev pub restEach : ℕ
-restEach = 2 * coarse * 200000
+abbrev pub rest_each : ℕ
+rest_each = 2 * coarse * 200000
 
-abbrev pub fullUnits : ℕ
-fullUnits = 9000000000000
+abbrev pub full_units : ℕ
+full_units = 9000000000000
 
--- 64 × unitsEach has fullUnits 932,067 times, and the low digit carries at most twice.
-abbrev pub pourEach : ℕ
-pourEach = 1000000
+-- 64 × units_each has full_units 932,067 times, and the low digit carries at most twice.
+abbrev pub pour_each : ℕ
+pour_each = 1000000
 
-abbrev pub pourMost : ℕ
-pourMost = ledgers * pourEach
+abbrev pub pour_most : ℕ
+pour_most = ledgers * pour_each
 
 abbrev pub raised : List ℕ → ℕ → ℕ → List ℕ
 raised d p x = set d p (get_or d p 0 + x)
@@ -67,30 +67,30 @@ raised d p x = set d p (get_or d p 0 + x)
 unfoldable pub shared : List ℕ → Share → List ℕ
 shared d x = raised (raised d (x.at + x.way) x.burned) (x.at + 8) x.carbon
 
-abbrev pub co2PlaceOf : Bool → ℕ
-co2PlaceOf b = choose b biomass fossil
+abbrev pub co2_place_of : Bool → ℕ
+co2_place_of b = choose b biomass fossil
 
-unfoldable pub co2Ledger : List ℕ → ℕ
-co2Ledger f = co2PlaceOf (eqb (fuelClass f) 3)
+unfoldable pub co2_ledger : List ℕ → ℕ
+co2_ledger f = co2_place_of (eqb (fuel_class f) 3)
 
-unfoldable pub worthOf : List ℕ → ℕ → ℕ → ℕ
-worthOf f v i =
-    choose (eqb i ch4) (choose (ltb v 8) (ch4Factor f * heat_of f v) 0)
-    (choose (eqb i n2o) (choose (ltb v 8) (n2oFactor f * heat_of f v) 0)
-    (choose (eqb i (co2Ledger f)) (1000 * choose (ltb v 8) (co2Of f v) (choose (eqb v 8) 3664 0)) 0))
+unfoldable pub worth_of : List ℕ → ℕ → ℕ → ℕ
+worth_of f v i =
+    choose (eqb i ch4) (choose (ltb v 8) (ch4_factor f * heat_of f v) 0)
+    (choose (eqb i n2o) (choose (ltb v 8) (n2o_factor f * heat_of f v) 0)
+    (choose (eqb i (co2_ledger f)) (1000 * choose (ltb v 8) (co2_of f v) (choose (eqb v 8) 3664 0)) 0))
 
-unfoldable pub fuelShares : List ℕ → List ℕ → ℕ → ℕ → ℕ
-fuelShares f d k i = sum_to (λ v. get_or d (16 * k + v) 0 * worthOf f v i) 16
+unfoldable pub fuel_shares : List ℕ → List ℕ → ℕ → ℕ → ℕ
+fuel_shares f d k i = sum_to (λ v. get_or d (16 * k + v) 0 * worth_of f v i) 16
 
-unfoldable pub sharesAt : List ℕ → List ℕ → ℕ → ℕ
-sharesAt fs d i = sum_to (λ k. fuelShares (line k fs) d k i) (length fs / 32)
+unfoldable pub shares_at : List ℕ → List ℕ → ℕ → ℕ
+shares_at fs d i = sum_to (λ k. fuel_shares (line k fs) d k i) (length fs / 32)
 
 -- ---- how the code sums them up
-unfoldable pub countedIn : ℕ → List ℕ → ℕ → ℕ
-countedIn heat d k = get_or d (16 * k + 1) 0 + heat * get_or d (16 * k) 0
+unfoldable pub counted_in : ℕ → List ℕ → ℕ → ℕ
+counted_in heat d k = get_or d (16 * k + 1) 0 + heat * get_or d (16 * k) 0
 
-unfoldable pub otherIn : ℕ → List ℕ → ℕ → ℕ
-otherIn heat d k =
+unfoldable pub other_in : ℕ → List ℕ → ℕ → ℕ
+other_in heat d k =
     get_or d (16 * k + 3) 0 + get_or d (16 * k + 5) 0 + get_or d (16 * k + 7) 0
     + heat * (get_or d (16 * k + 2) 0 + get_or d (16 * k + 4) 0 + get_or d (16 * k + 6) 0)
 
@@ -99,39 +99,39 @@ weighed s i x y = raised (raised s i (x / coarse * y)) (ledgers + i) (x % coarse
 
 unfoldable pub gathered : Factors → ℕ → List ℕ → List ℕ → List ℕ
 gathered f k d s =
-    let co2 = co2PlaceOf f.biomass in
-    let counted = countedIn f.heat d k in
-    let all = counted + otherIn f.heat d k in
-    let by-heat = weighed s co2 counted f.co2 in
-    let by-carbon = weighed by-heat co2 (get_or d (16 * k + 8) 0) 3664 in
-    weighed (weighed by-carbon ch4 all f.ch4) n2o all f.n2o
+    let co2 = co2_place_of f.biomass in
+    let counted = counted_in f.heat d k in
+    let all = counted + other_in f.heat d k in
+    let by_heat = weighed s co2 counted f.co2 in
+    let by_carbon = weighed by_heat co2 (get_or d (16 * k + 8) 0) 3664 in
+    weighed (weighed by_carbon ch4 all f.ch4) n2o all f.n2o
 
 unfoldable pub sum_at : List ℕ → ℕ → ℕ
 sum_at s i = unit_at i * (coarse * get_or s i 0 + get_or s (ledgers + i) 0)
 
 unfoldable pub poured : List ℕ → ℕ → ℕ → ℕ → List ℕ
 poured w i units rest =
-    added (added (raised w (ledgers + i) (units / fullUnits)) i (units % fullUnits * coarse)) i rest
+    added (added (raised w (ledgers + i) (units / full_units)) i (units % full_units * coarse)) i rest
 
 -- ---- what is known of words and sums
-unfoldable pub mostIn : ℕ → ℕ
-mostIn v = choose (ltb v 8) (mostBurned v) 400000000000000
+unfoldable pub most_in : ℕ → ℕ
+most_in v = choose (ltb v 8) (most_burned v) 400000000000000
 
 pub record Held (n : ℕ) (d : List ℕ) : Type 0 where
   pub whole : length d ≡ 1024
-  pub few : (k v : ℕ) → k < 64 → v < 16 → get_or d (16 * k + v) 0 ≤ mostIn v * n
+  pub few : (k v : ℕ) → k < 64 → v < 16 → get_or d (16 * k + v) 0 ≤ most_in v * n
 
 pub record Modest (f : Factors) : Type 0 where
-  pub heat-le : f.heat ≤ 200000
-  pub co2-le : f.co2 ≤ 200000
-  pub ch4-le : f.ch4 ≤ 200000
-  pub n2o-le : f.n2o ≤ 200000
+  pub heat_le : f.heat ≤ 200000
+  pub co2_le : f.co2 ≤ 200000
+  pub ch4_le : f.ch4 ≤ 200000
+  pub n2o_le : f.n2o ≤ 200000
 
 pub record Summed (m : ℕ) (s : List ℕ) : Type 0 where
   pub whole : length s ≡ 8
-  pub units-le : (i : ℕ) → i < ledgers → get_or s i 0 ≤ unitsEach * m
-  pub rest_le : (i : ℕ) → i < ledgers → get_or s (ledgers + i) 0 ≤ restEach * m
+  pub units_le : (i : ℕ) → i < ledgers → get_or s i 0 ≤ units_each * m
+  pub rest_le : (i : ℕ) → i < ledgers → get_or s (ledgers + i) 0 ≤ rest_each * m
 
 pub record Gathered (fs d s : List ℕ) : Type 0 where
   pub few : Summed 64 s
-  pub sums : (i : ℕ) → i < ledgers → sum_at s i ≡ sharesAt fs d i
+  pub sums : (i : ℕ) → i < ledgers → sum_at s i ≡ shares_at fs d i

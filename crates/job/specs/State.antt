@@ -8,7 +8,7 @@
 --                          of the first of these (0 if none), and the mass of each ledger in ng
 --     ledgers, fossil ..   how many ledgers there are, and their places, in the order of a checkpoint
 --     gives o              what an outcome gives to the ledgers, in ng
---     asideOf o            1 if the record was set aside, else 0
+--     aside_of o            1 if the record was set aside, else 0
 --     fresh                the state with nothing done
 --     counted c o, after s o    the counts and the state after one record more, whose outcome is o
 --     run h k s n          the state after the next n records of the book k, from the place of s
@@ -23,7 +23,7 @@ use Rattle.rules.specs.declared.entry.Destination.{Destination}
 use Rattle.rules.specs.declared.entry.Destination.TheVariants.{Fossil, Biomass, Nowhere}
 use Rattle.rules.specs.declared.record.Outcome.{Outcome}
 use Rattle.rules.specs.declared.record.Outcome.TheVariants.{SetAside, Counted}
-use Rattle.rules.specs.Record.{outcomeAt}
+use Rattle.rules.specs.Record.{outcome_at}
 use Rattle.job.specs.declared.counts.Counts.{Counts}
 
 -- ---- masses by their places
@@ -61,18 +61,18 @@ abbrev pub n2o : ℕ
 n2o = 3
 
 -- ---- what one outcome gives: CO2 is counted in µg, which is 1,000 ng
-abbrev pub co2To : Destination → ℕ → List ℕ
-co2To Fossil v = v to fossil
-co2To Biomass v = v to biomass
-co2To Nowhere v = []
+abbrev pub co2_to : Destination → ℕ → List ℕ
+co2_to Fossil v = v to fossil
+co2_to Biomass v = v to biomass
+co2_to Nowhere v = []
 
 abbrev pub gives : Outcome → List ℕ
 gives (SetAside k) = []
-gives (Counted e) = co2To e.destination (1000 * e.co2.0) plus e.ch4.0 to ch4 plus e.n2o.0 to n2o
+gives (Counted e) = co2_to e.destination (1000 * e.co2.0) plus e.ch4.0 to ch4 plus e.n2o.0 to n2o
 
-abbrev pub asideOf : Outcome → ℕ
-asideOf (SetAside k) = 1
-asideOf (Counted e) = 0
+abbrev pub aside_of : Outcome → ℕ
+aside_of (SetAside k) = 1
+aside_of (Counted e) = 0
 
 -- ---- states
 pub record State : Type 0 where
@@ -97,11 +97,11 @@ after s o = record { counts = counted s.counts o; masses = s.masses plus gives o
 
 unfoldable pub run : Head → List ℕ → State → ℕ → State
 run h k s zero = s
-run h k s (suc n) = after (run h k s n) (outcomeAt h k (run h k s n).counts.done)
+run h k s (suc n) = after (run h k s n) (outcome_at h k (run h k s n).counts.done)
 
 unfoldable pub first : Head → List ℕ → ℕ → State
 first h k zero = fresh
-first h k (suc n) = after (first h k n) (outcomeAt h k n)
+first h k (suc n) = after (first h k n) (outcome_at h k n)
 
 unfoldable pub sum_to : (ℕ → ℕ) → ℕ → ℕ
 sum_to f zero = 0

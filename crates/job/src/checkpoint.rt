@@ -2,8 +2,8 @@
 ghost use Rattle.std.specs.Prelude.{◌++◌, ◌≡◌, ◌+◌, ◌*◌, ◌<◌, length, get_or, take, drop};
 ghost use Rattle.choice.specs.Tests.{◌also◌};
 ghost use Rattle.job.specs.State as state;
-ghost use Rattle.job.specs.Checkpoint.{checkpointSize, ledgerPlace, gapIn, firstSound, ledgerSound, every, sound, laid, encode, countsIn};
-ghost use Rattle.job.specs.Words.{words, countsAt, ledgerIn, massesOn, stateOn, Light};
+ghost use Rattle.job.specs.Checkpoint.{checkpoint_size, ledger_place, gap_in, first_sound, ledger_sound, every, sound, laid, encode, counts_in};
+ghost use Rattle.job.specs.Words.{words, counts_at, ledger_in, masses_on, state_on, Light};
 
 use crate::counts::Counts;
 use crate::ledgers;
@@ -48,14 +48,14 @@ const FOUR_BYTES: u64 = 4_294_967_296;
 
 fn find_ledger(k: usize) -> usize
     requires place { k < state.ledgers }
-    ensures place { result ≡ ledgerPlace k }
+    ensures place { result ≡ ledger_place k }
 {
     LEDGERS + LEDGER_SIZE * k
 }
 
 pub(crate) fn read_counts(c: &[u8]) -> Counts
-    requires whole { length c.now ≡ checkpointSize }
-    ensures counts { result ≡ countsIn c.now }
+    requires whole { length c.now ≡ checkpoint_size }
+    ensures counts { result ≡ counts_in c.now }
 {
     let done = read_word(c, DONE, 4) as u32;
     let aside = read_word(c, ASIDE, 4) as u32;
@@ -71,8 +71,8 @@ pub(crate) fn read_counts(c: &[u8]) -> Counts
 
 // The ledger at place k.
 pub(crate) fn read_ledger(c: &[u8], k: usize) -> Ledger
-    requires whole { (length c.now ≡ checkpointSize) × (k < state.ledgers) }
-    ensures ledger { result ≡ ledgerIn c.now k }
+    requires whole { (length c.now ≡ checkpoint_size) × (k < state.ledgers) }
+    ensures ledger { result ≡ ledger_in c.now k }
 {
     let at = find_ledger(k);
     let tonnes = read_word(c, at, 8);
@@ -85,7 +85,7 @@ pub(crate) fn read_ledger(c: &[u8], k: usize) -> Ledger
 
 // Whether a checkpoint is sound for a book.
 pub(crate) fn is_sound(h: Head, c: &[u8]) -> bool
-    requires whole { length c.now ≡ checkpointSize }
+    requires whole { length c.now ≡ checkpoint_size }
     ensures sound { result ≡ sound h c.now }
 {
     let length = read_word(c, LENGTH, 4) as usize;
@@ -106,8 +106,8 @@ pub(crate) fn is_sound(h: Head, c: &[u8]) -> bool
 
 // The reason is read with the bytes behind it that must be 0, as one number.
 fn is_first_sound(c: &[u8]) -> bool
-    requires whole { length c.now ≡ checkpointSize }
-    ensures first { result ≡ (firstSound c.now also gapIn c.now) }
+    requires whole { length c.now ≡ checkpoint_size }
+    ensures first { result ≡ (first_sound c.now also gap_in c.now) }
 {
     let index = read_word(c, INDEX, 4);
     let reason = read_word(c, REASON, 4);
@@ -119,8 +119,8 @@ fn is_first_sound(c: &[u8]) -> bool
 }
 
 fn are_ledgers_sound(c: &[u8]) -> bool
-    requires whole { length c.now ≡ checkpointSize }
-    ensures ledgers { result ≡ every (ledgerSound c.now) state.ledgers }
+    requires whole { length c.now ≡ checkpoint_size }
+    ensures ledgers { result ≡ every (ledger_sound c.now) state.ledgers }
 {
     let mut all = true;
     let mut k = 0;
@@ -132,8 +132,8 @@ fn are_ledgers_sound(c: &[u8]) -> bool
 }
 
 fn is_ledger_sound(c: &[u8], k: usize) -> bool
-    requires whole { (length c.now ≡ checkpointSize) × (k < state.ledgers) }
-    ensures ledger { result ≡ ledgerSound c.now k }
+    requires whole { (length c.now ≡ checkpoint_size) × (k < state.ledgers) }
+    ensures ledger { result ≡ ledger_sound c.now k }
 {
     let g = read_ledger(c, k);
     let done = read_word(c, DONE, 4);
@@ -143,7 +143,7 @@ fn is_ledger_sound(c: &[u8], k: usize) -> bool
 
 // Writes the checkpoint `from` once more.
 pub(crate) fn copy(from: &[u8], out: &mut [u8])
-    requires whole { (length from.now ≡ checkpointSize) × (length out.old ≡ checkpointSize) }
+    requires whole { (length from.now ≡ checkpoint_size) × (length out.old ≡ checkpoint_size) }
     ensures copied { out.new ≡ from.now }
 {
     let mut i = 0;
@@ -157,10 +157,10 @@ pub(crate) fn copy(from: &[u8], out: &mut [u8])
 // index and reason of the first; each ledger is what `from` says and w gives. The fields go two in a word: of eight
 // bytes the compiler makes one store, of fewer one for each byte.
 pub(crate) fn write(h: Head, place: u32, aside: &[u32; 3], from: &[u8], w: &[u64], out: &mut [u8])
-    requires whole { (length from.now ≡ checkpointSize) × (length w.now ≡ words) × (length out.old ≡ checkpointSize) }
+    requires whole { (length from.now ≡ checkpoint_size) × (length w.now ≡ words) × (length out.old ≡ checkpoint_size) }
     requires fits { (h.length < 4294967296) × (h.year < 65536) × (get_or aside.now 2 0 < 256) }
     requires light { Light from.now w.now }
-    ensures written { out.new ≡ encode h (stateOn (countsAt place aside.now) from.now w.now) }
+    ensures written { out.new ≡ encode h (state_on (counts_at place aside.now) from.now w.now) }
 {
     put(out, DONE, 8, join(place, aside[0]));
     // With the reason go the three bytes of 0 behind it.
@@ -179,9 +179,9 @@ fn join(low: u32, high: u32) -> u64
 }
 
 fn write_ledgers(from: &[u8], w: &[u64], out: &mut [u8])
-    requires whole { (length from.now ≡ checkpointSize) × (length w.now ≡ words) × (length out.old ≡ checkpointSize) }
+    requires whole { (length from.now ≡ checkpoint_size) × (length w.now ≡ words) × (length out.old ≡ checkpoint_size) }
     requires light { Light from.now w.now }
-    ensures written { out.new ≡ laid (take 16 out.old) (massesOn from.now w.now) ++ drop 80 out.old }
+    ensures written { out.new ≡ laid (take 16 out.old) (masses_on from.now w.now) ++ drop 80 out.old }
 {
     let mut k = 0;
     while k < ledgers::COUNT {

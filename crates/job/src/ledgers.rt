@@ -2,11 +2,11 @@
 // µg of CO2 or in ng of another gas, first the low digits of all places and then the high ones. To add to a ledger
 // takes divisions, and the masses of many records fit 64 bits: so they are summed, and a ledger gets them once.
 ghost use Rattle.std.specs.Prelude.{◌≡◌, ◌+◌, ◌*◌, ◌/◌, ◌<◌, ◌≤◌, length};
-ghost use Rattle.mass.specs.Ledger.{tonne, mostTonnes, total, Canonical, Sound, ledgerOf};
+ghost use Rattle.mass.specs.Ledger.{tonne, most_tonnes, total, Canonical, Sound, ledger_of};
 ghost use Rattle.rules.specs.declared.record.Outcome.TheVariants.{Counted};
 ghost use Rattle.rules.specs.Bounds.{Bounded};
 ghost use Rattle.job.specs.State as state;
-ghost use Rattle.job.specs.Words.{words, carries, full, half, lowAt, highAt, massAt, added, given, co2Place, co2Kept, Kept};
+ghost use Rattle.job.specs.Words.{words, carries, full, half, low_at, high_at, mass_at, added, given, co2_place, co2_kept, Kept};
 
 use mass::ledger::Ledger;
 use mass::{Ng, Ug, ledger};
@@ -54,7 +54,7 @@ pub(crate) fn give(w: &mut [u64], e: Entry)
 
 // Where CO2 goes. For that which goes nowhere any place will do.
 fn find_place(d: Destination) -> usize
-    ensures place { result ≡ co2Place d }
+    ensures place { result ≡ co2_place d }
 {
     match d {
         Destination::Fossil => FOSSIL,
@@ -65,7 +65,7 @@ fn find_place(d: Destination) -> usize
 
 // How much of it.
 fn keep(d: Destination, x: Ug) -> u64
-    ensures kept { result ≡ co2Kept d x.0 }
+    ensures kept { result ≡ co2_kept d x.0 }
 {
     match d {
         Destination::Fossil => x.0,
@@ -77,7 +77,7 @@ fn keep(d: Destination, x: Ug) -> u64
 // x more at place k.
 pub(crate) fn add(w: &mut [u64], k: usize, x: u64)
     requires whole { (length w.old ≡ words) × (k < state.ledgers) }
-    requires room { (lowAt w.old k < half) × (x < full) × (highAt w.old k ≤ carries + 2) }
+    requires room { (low_at w.old k < half) × (x < full) × (high_at w.old k ≤ carries + 2) }
     ensures added { w.new ≡ added w.old k x }
 {
     let sum = w[k] + x;
@@ -92,8 +92,8 @@ pub(crate) fn add(w: &mut [u64], k: usize, x: u64)
 // The ledger g of place k with what the records give.
 pub(crate) fn gather(g: Ledger, k: usize, w: &[u64]) -> Ledger
     requires whole { (length w.now ≡ words) × (k < state.ledgers) }
-    requires light { Canonical g × ((total g + massAt w.now k) / tonne ≤ mostTonnes) × (lowAt w.now k < half) }
-    ensures gathered { result ≡ ledgerOf (total g + massAt w.now k) }
+    requires light { Canonical g × ((total g + mass_at w.now k) / tonne ≤ most_tonnes) × (low_at w.now k < half) }
+    ensures gathered { result ≡ ledger_of (total g + mass_at w.now k) }
 {
     let low = w[k];
     let high = w[HIGH + k];
@@ -111,7 +111,7 @@ pub(crate) fn gather(g: Ledger, k: usize, w: &[u64]) -> Ledger
 
 // The ledger g with so many tonnes more for each of `times`.
 fn raise(g: Ledger, tonnes: u64, times: u64) -> Ledger
-    requires light { Canonical g × (g.tonnes + tonnes * times ≤ mostTonnes) }
+    requires light { Canonical g × (g.tonnes + tonnes * times ≤ most_tonnes) }
     ensures raised { (total result ≡ total g + tonnes * times * tonne) × Sound result }
 {
     let rest = g.rest;

@@ -2,17 +2,17 @@
 // others are judged by these. What fuel gives is kept in shares, which go to the ledgers' words where the leg ends.
 ghost use Rattle.std.specs.Prelude.{◌≡◌, ℕ, ◌+◌, ◌-◌, ◌*◌, ◌<◌, ◌≤◌, get_or};
 ghost use Rattle.rules.specs.Bytes.{line, lines};
-ghost use Rattle.rules.specs.Book.{unitLines, fuelLines, opened, accepted};
+ghost use Rattle.rules.specs.Book.{unit_lines, fuel_lines, opened, accepted};
 ghost use Rattle.rules.specs.Index.{UnitsNoted, FuelsNoted, Small};
-ghost use Rattle.rules.specs.Sorting.{heatLimits};
+ghost use Rattle.rules.specs.Sorting.{heat_limits};
 ghost use Rattle.rules.specs.Table.{noting, Known};
 ghost use Rattle.rules.specs.declared.record.Outcome.TheVariants as outcome;
 ghost use Rattle.job.specs.State.{counted};
 ghost use Rattle.job.specs.State as state;
 ghost use Rattle.job.specs.Bounds.{CountsFit};
-ghost use Rattle.job.specs.Words.{carries, carriesEach, massAt, countsAt, Kept};
-ghost use Rattle.job.specs.Shares.{legRecords, sharesAt, Held};
-ghost use Rattle.job.specs.Leg.{Before, Went, takenSorted, RoomFor, Co2For, sharedBy, addedBy, takenWeighed, LightFor, weighedBy, AsideBy, Took, Taking};
+ghost use Rattle.job.specs.Words.{carries, carries_each, mass_at, counts_at, Kept};
+ghost use Rattle.job.specs.Shares.{leg_records, shares_at, Held};
+ghost use Rattle.job.specs.Leg.{Before, Went, taken_sorted, RoomFor, Co2For, shared_by, added_by, taken_weighed, LightFor, weighed_by, AsideBy, Took, Taking};
 
 use crate::{ledgers, shares};
 use mass::hour;
@@ -47,9 +47,9 @@ pub(crate) fn go_on(
 ) -> u32
     requires opened { opened book.now ≡ accepted h }
     requires before { Before h book.now place until aside.old w.old table.old }
-    requires leg { (place < until) × (until ≤ place + legRecords) }
+    requires leg { (place < until) × (until ≤ place + leg_records) }
     ensures went { Went h book.now place until stop aside.old w.old result aside.new w.new }
-    ensures known { Known (lines result book.now) (unitLines h book.now) table.new }
+    ensures known { Known (lines result book.now) (unit_lines h book.now) table.new }
 {
     let mut units = [index::BLANK; index::UNITS];
     let mut by_unit = [0u8; hints::COUNT];
@@ -104,11 +104,11 @@ pub(crate) fn find_end(place: u32, until: u32, most: u32) -> u32
 // The shares of a leg from `place` to `at` go to the ledgers' words.
 fn end_leg(book: &[u8], h: Head, place: u32, at: u32, shares: &[u64; 1024], w: &mut [u64])
     requires opened { opened book.now ≡ accepted h }
-    requires on { (place ≤ at) × (at ≤ h.n) × (at ≤ place + legRecords) }
+    requires on { (place ≤ at) × (at ≤ h.n) × (at ≤ place + leg_records) }
     requires held { Held (at - place) shares.now }
-    requires kept { Kept (carriesEach * place + 3 * (at - place)) w.old }
-    ensures settled { (i : ℕ) → i < state.ledgers → massAt w.new i ≡ massAt w.old i + sharesAt (fuelLines h book.now) shares.now i }
-    ensures kept { Kept (carriesEach * at) w.new }
+    requires kept { Kept (carries_each * place + 3 * (at - place)) w.old }
+    ensures settled { (i : ℕ) → i < state.ledgers → mass_at w.new i ≡ mass_at w.old i + shares_at (fuel_lines h book.now) shares.now i }
+    ensures kept { Kept (carries_each * at) w.new }
 {
     // A leg of no records may come after many, and is not to raise high digits.
     if place < at {
@@ -133,11 +133,11 @@ fn take_quickly(
     limits: &[u32; 8],
 ) -> Taken
     requires opened { opened book.now ≡ accepted h }
-    requires there { (place < h.n) × CountsFit h (countsAt place aside.old) }
-    requires units { UnitsNoted (unitLines h book.now) units.now × Small by_unit.now }
-    requires fuels { FuelsNoted (fuelLines h book.now) fuels.now × Small by_fuel.now × (limits.now ≡ heatLimits) }
-    requires known { Known (lines place book.now) (unitLines h book.now) table.old }
-    requires room { Held (legRecords - 1) shares.old × Kept carries w.old }
+    requires there { (place < h.n) × CountsFit h (counts_at place aside.old) }
+    requires units { UnitsNoted (unit_lines h book.now) units.now × Small by_unit.now }
+    requires fuels { FuelsNoted (fuel_lines h book.now) fuels.now × Small by_fuel.now × (limits.now ≡ heat_limits) }
+    requires known { Known (lines place book.now) (unit_lines h book.now) table.old }
+    requires room { Held (leg_records - 1) shares.old × Kept carries w.old }
     ensures taking { Taking h book.now place stop aside.old w.old shares.old table.old result aside.new w.new shares.new table.new }
 {
     let i = place as usize;
@@ -170,8 +170,8 @@ fn take_quickly(
 // What was sorted goes to the shares.
 fn take_fuel(sorted: Sorted, shares: &mut [u64; 1024]) -> Taken
     requires room { RoomFor sorted shares.old }
-    ensures taken { result ≡ takenSorted sorted }
-    ensures shared { shares.new ≡ sharedBy sorted shares.old }
+    ensures taken { result ≡ taken_sorted sorted }
+    ensures shared { shares.new ≡ shared_by sorted shares.old }
 {
     match sorted {
         Sorted::Unsure => Taken::Unsure,
@@ -185,8 +185,8 @@ fn take_fuel(sorted: Sorted, shares: &mut [u64; 1024]) -> Taken
 // The same of analysed gas, whose CO2 is worked out by itself.
 fn take_gas(sorted: Sorted, shares: &mut [u64; 1024], w: &mut [u64]) -> Taken
     requires room { RoomFor sorted shares.old × Kept carries w.old × Co2For sorted }
-    ensures taken { result ≡ takenSorted sorted }
-    ensures shared { (shares.new ≡ sharedBy sorted shares.old) × (w.new ≡ addedBy sorted w.old) }
+    ensures taken { result ≡ taken_sorted sorted }
+    ensures shared { (shares.new ≡ shared_by sorted shares.old) × (w.new ≡ added_by sorted w.old) }
 {
     match sorted {
         Sorted::Unsure => Taken::Unsure,
@@ -208,8 +208,8 @@ fn take_weighed(
     w: &mut [u64],
 ) -> Taken
     requires room { (get_or aside.old 0 0 < 4294967295) × Kept carries w.old × LightFor grain weighed }
-    ensures taken { result ≡ takenWeighed weighed }
-    ensures words { (w.new ≡ weighedBy grain weighed w.old) × AsideBy place weighed aside.old aside.new }
+    ensures taken { result ≡ taken_weighed weighed }
+    ensures words { (w.new ≡ weighed_by grain weighed w.old) × AsideBy place weighed aside.old aside.new }
 {
     match weighed {
         Weighed::Unsure => Taken::Unsure,
@@ -236,11 +236,11 @@ pub(crate) fn take_slowly(
     w: &mut [u64],
 )
     requires opened { opened book.now ≡ accepted h }
-    requires there { (place < h.n) × CountsFit h (countsAt place aside.old) }
-    requires known { Known (lines place book.now) (unitLines h book.now) table.old }
+    requires there { (place < h.n) × CountsFit h (counts_at place aside.old) }
+    requires known { Known (lines place book.now) (unit_lines h book.now) table.old }
     requires room { Kept carries w.old }
     ensures took { Took h book.now place aside.old w.old aside.new w.new }
-    ensures noted { table.new ≡ noting (line place book.now) (unitLines h book.now) table.old }
+    ensures noted { table.new ≡ noting (line place book.now) (unit_lines h book.now) table.old }
 {
     let judged = record::judge_next(book, h, place as usize, by_unit, by_fuel, table);
     match judged {
@@ -252,7 +252,7 @@ pub(crate) fn take_slowly(
 // One record more is set aside, that at this place. Only the first such is told by its index and its reason.
 pub(crate) fn set_aside(aside: &mut [u32; 3], place: u32, reason: u8)
     requires room { get_or aside.old 0 0 < 4294967295 }
-    ensures counted { countsAt (place + 1) aside.new ≡ counted (countsAt place aside.old) (outcome.SetAside reason) }
+    ensures counted { counts_at (place + 1) aside.new ≡ counted (counts_at place aside.old) (outcome.SetAside reason) }
 {
     if aside[0] == 0 {
         *aside = [1, place, reason as u32];

@@ -1,6 +1,6 @@
 // What the calls answer. specs/Reply.antt gives the number and the values of each case.
 ghost use Rattle.std.specs.Prelude.{◌≡◌};
-ghost use Rattle.job.specs.Reply.{refusalNumber};
+ghost use Rattle.job.specs.Reply.{refusal_number};
 
 use mass::figures::Figures;
 use rules::book;
@@ -21,7 +21,7 @@ pub enum Refusal {
 
 // The number of a refusal.
 pub fn number_refusal(x: Refusal) -> u8
-    ensures number { result ≡ refusalNumber x }
+    ensures number { result ≡ refusal_number x }
 {
     match x {
         Refusal::Book(fault) => book::number_fault(fault),

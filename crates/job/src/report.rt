@@ -1,14 +1,14 @@
 // The report: figures once every record was counted, and until then why they are withheld. Beside it
 // the count of the records left.
 ghost use Rattle.std.specs.Prelude.{◌≡◌, ◌≤◌, length};
-ghost use Rattle.mass.specs.Ledger.{recordsForeseen};
+ghost use Rattle.mass.specs.Ledger.{records_foreseen};
 ghost use Rattle.rules.specs.Book.{accepted};
-ghost use Rattle.job.specs.Checkpoint.{checkpointSize, decode};
-ghost use Rattle.job.specs.Words.{totalsIn};
+ghost use Rattle.job.specs.Checkpoint.{checkpoint_size, decode};
+ghost use Rattle.job.specs.Words.{totals_in};
 ghost use Rattle.job.specs.Reply.{reported, remaining};
-ghost use Rattle.job.specs.Wake.{admittedFor};
-ghost use Rattle.job.specs.Report.{warmingOf, replyAt, reportReply, leftReply};
-ghost use Rattle.job.specs.Admission.{reportFor, leftFor};
+ghost use Rattle.job.specs.Wake.{admitted_for};
+ghost use Rattle.job.specs.Report.{warming_of, reply_at, report_reply, left_reply};
+ghost use Rattle.job.specs.Admission.{report_for, left_for};
 
 use crate::admission::Admission;
 use crate::reply::{Refusal, Remaining, Reported};
@@ -20,7 +20,7 @@ use rules::book;
 use rules::book::{Head, Opened};
 
 pub fn report(book: &[u8], from: &[u8]) -> Reported
-    ensures reply { reported result ≡ reportReply book.now from.now }
+    ensures reply { reported result ≡ report_reply book.now from.now }
 {
     match book::open(book) {
         Opened::Wrong(fault) => Reported::NotReported(Refusal::Book(fault)),
@@ -29,8 +29,8 @@ pub fn report(book: &[u8], from: &[u8]) -> Reported
 }
 
 fn report_open(h: Head, from: &[u8]) -> Reported
-    requires few { h.n ≤ recordsForeseen }
-    ensures reply { reported result ≡ reportFor h from.now }
+    requires few { h.n ≤ records_foreseen }
+    ensures reply { reported result ≡ report_for h from.now }
 {
     match admission::admit(h, from) {
         Admission::Refused(x) => Reported::NotReported(x),
@@ -40,9 +40,9 @@ fn report_open(h: Head, from: &[u8]) -> Reported
 
 // A report of a checkpoint that is sound.
 fn report_sound(h: Head, from: &[u8]) -> Reported
-    requires few { h.n ≤ recordsForeseen }
-    requires sound { admittedFor h from.now ≡ accepted h }
-    ensures reply { reported result ≡ replyAt h (decode from.now) }
+    requires few { h.n ≤ records_foreseen }
+    requires sound { admitted_for h from.now ≡ accepted h }
+    ensures reply { reported result ≡ reply_at h (decode from.now) }
 {
     let t = checkpoint::read_counts(from);
     if (t.done as usize) < h.n {
@@ -56,8 +56,8 @@ fn report_sound(h: Head, from: &[u8]) -> Reported
 
 // The four masses of which a report tells.
 fn find_totals(from: &[u8]) -> Ledgers
-    requires whole { length from.now ≡ checkpointSize }
-    ensures totals { result ≡ totalsIn from.now }
+    requires whole { length from.now ≡ checkpoint_size }
+    ensures totals { result ≡ totals_in from.now }
 {
     Ledgers {
         fossil: checkpoint::read_ledger(from, ledgers::FOSSIL),
@@ -69,7 +69,7 @@ fn find_totals(from: &[u8]) -> Ledgers
 
 // The first set is the TSD's, the second that of Part 98's Table A-1 as amended in 2013.
 fn find_warming(set: u8) -> Warming
-    ensures pair { result ≡ warmingOf set }
+    ensures pair { result ≡ warming_of set }
 {
     if set == 0 {
         return Warming { ch4: 21, n2o: 310 };
@@ -79,7 +79,7 @@ fn find_warming(set: u8) -> Warming
 
 // How many records of the book are left.
 pub fn count_left(book: &[u8], from: &[u8]) -> Remaining
-    ensures reply { remaining result ≡ leftReply book.now from.now }
+    ensures reply { remaining result ≡ left_reply book.now from.now }
 {
     match book::open(book) {
         Opened::Wrong(fault) => Remaining::Unknown(Refusal::Book(fault)),
@@ -88,8 +88,8 @@ pub fn count_left(book: &[u8], from: &[u8]) -> Remaining
 }
 
 fn count_left_open(h: Head, from: &[u8]) -> Remaining
-    requires few { h.n ≤ recordsForeseen }
-    ensures reply { remaining result ≡ leftFor h from.now }
+    requires few { h.n ≤ records_foreseen }
+    ensures reply { remaining result ≡ left_for h from.now }
 {
     match admission::admit(h, from) {
         Admission::Refused(x) => Remaining::Unknown(x),

@@ -1,10 +1,10 @@
 // What the fuel records of a leg add, in words that it lends: 16 for each fuel line. The factors of a fuel enter once,
 // when all are added, so that a record takes two products and no factor is looked up.
 ghost use Rattle.std.specs.Prelude.{◌≡◌, ℕ, ◌+◌, ◌-◌, ◌*◌, ◌/◌, ◌%◌, ◌<◌, ◌≤◌, get_or, replicate};
-ghost use Rattle.rules.specs.Book.{fuelLines, opened, accepted};
+ghost use Rattle.rules.specs.Book.{fuel_lines, opened, accepted};
 ghost use Rattle.job.specs.State as state;
-ghost use Rattle.job.specs.Words.{carries, massAt, Kept};
-ghost use Rattle.job.specs.Shares.{legRecords, coarse, unitsEach, restEach, pourEach, pourMost, shared, sharesAt, co2PlaceOf, countedIn, otherIn, weighed, gathered, sum_at, poured, Held, Modest, Summed, Gathered};
+ghost use Rattle.job.specs.Words.{carries, mass_at, Kept};
+ghost use Rattle.job.specs.Shares.{leg_records, coarse, units_each, rest_each, pour_each, pour_most, shared, shares_at, co2_place_of, counted_in, other_in, weighed, gathered, sum_at, poured, Held, Modest, Summed, Gathered};
 
 use crate::ledgers;
 use rules::book::Head;
@@ -39,10 +39,10 @@ pub(crate) fn add(d: &mut [u64; 1024], x: Share)
 // Gives the ledgers' words what all shares come to.
 pub(crate) fn settle(book: &[u8], h: Head, d: &[u64; 1024], w: &mut [u64])
     requires opened { opened book.now ≡ accepted h }
-    requires held { Held legRecords d.now }
-    requires kept { Kept (carries - pourMost) w.old }
-    ensures settled { (i : ℕ) → i < state.ledgers → massAt w.new i ≡ massAt w.old i + sharesAt (fuelLines h book.now) d.now i }
-    ensures kept { (m : ℕ) → Kept m w.old → Kept (m + pourMost) w.new }
+    requires held { Held leg_records d.now }
+    requires kept { Kept (carries - pour_most) w.old }
+    ensures settled { (i : ℕ) → i < state.ledgers → mass_at w.new i ≡ mass_at w.old i + shares_at (fuel_lines h book.now) d.now i }
+    ensures kept { (m : ℕ) → Kept m w.old → Kept (m + pour_most) w.new }
 {
     let mut sums = [0u64; 8];
     gather(book, h, d, &mut sums);
@@ -52,9 +52,9 @@ pub(crate) fn settle(book: &[u8], h: Head, d: &[u64; 1024], w: &mut [u64])
 // Adds up what the shares of all fuel lines come to: for each ledger how many coarse units, and then the rests.
 fn gather(book: &[u8], h: Head, d: &[u64; 1024], sums: &mut [u64; 8])
     requires opened { opened book.now ≡ accepted h }
-    requires held { Held legRecords d.now }
+    requires held { Held leg_records d.now }
     requires blank { sums.old ≡ replicate 8 0 }
-    ensures gathered { Gathered (fuelLines h book.now) d.now sums.new }
+    ensures gathered { Gathered (fuel_lines h book.now) d.now sums.new }
 {
     let n = (h.length - 32 - h.fuels) / 32;
     let mut k = 0;
@@ -67,7 +67,7 @@ fn gather(book: &[u8], h: Head, d: &[u64; 1024], sums: &mut [u64; 8])
 // Those of fuel line k.
 fn gather_line(f: Factors, k: usize, d: &[u64; 1024], sums: &mut [u64; 8])
     requires there { (k < 64) × Modest f }
-    requires held { Held legRecords d.now }
+    requires held { Held leg_records d.now }
     requires room { Summed k sums.old }
     ensures gathered { sums.new ≡ gathered f k d.now sums.old }
 {
@@ -84,8 +84,8 @@ fn gather_line(f: Factors, k: usize, d: &[u64; 1024], sums: &mut [u64; 8])
 // The heat from which CO2 comes.
 fn find_counted(heat: u64, k: usize, d: &[u64; 1024]) -> u64
     requires there { (k < 64) × (heat ≤ 200000) }
-    requires held { Held legRecords d.now }
-    ensures counted { result ≡ countedIn heat d.now k }
+    requires held { Held leg_records d.now }
+    ensures counted { result ≡ counted_in heat d.now k }
 {
     let at = 16 * k;
     d[at + 1] + heat * d[at]
@@ -94,8 +94,8 @@ fn find_counted(heat: u64, k: usize, d: &[u64; 1024]) -> u64
 // The heat whose CO2 comes from the carbon, or is a monitor's.
 fn find_other(heat: u64, k: usize, d: &[u64; 1024]) -> u64
     requires there { (k < 64) × (heat ≤ 200000) }
-    requires held { Held legRecords d.now }
-    ensures other { result ≡ otherIn heat d.now k }
+    requires held { Held leg_records d.now }
+    ensures other { result ≡ other_in heat d.now k }
 {
     let at = 16 * k;
     let measured = d[at + 3] + d[at + 5] + d[at + 7];
@@ -103,7 +103,7 @@ fn find_other(heat: u64, k: usize, d: &[u64; 1024]) -> u64
 }
 
 fn find_co2(biomass: bool) -> usize
-    ensures place { result ≡ co2PlaceOf biomass }
+    ensures place { result ≡ co2_place_of biomass }
 {
     if biomass {
         return ledgers::BIOMASS;
@@ -125,9 +125,9 @@ fn weigh(sums: &mut [u64; 8], i: usize, x: u64, factor: u64)
 // Gives all sums to the ledgers' words.
 fn pour(w: &mut [u64], sums: &[u64; 8])
     requires few { Summed 64 sums.now }
-    requires kept { Kept (carries - pourMost) w.old }
-    ensures poured { (i : ℕ) → i < state.ledgers → massAt w.new i ≡ massAt w.old i + sum_at sums.now i }
-    ensures kept { (m : ℕ) → Kept m w.old → Kept (m + pourMost) w.new }
+    requires kept { Kept (carries - pour_most) w.old }
+    ensures poured { (i : ℕ) → i < state.ledgers → mass_at w.new i ≡ mass_at w.old i + sum_at sums.now i }
+    ensures kept { (m : ℕ) → Kept m w.old → Kept (m + pour_most) w.new }
 {
     let mut i = 0;
     while i < ledgers::COUNT {
@@ -139,8 +139,8 @@ fn pour(w: &mut [u64], sums: &[u64; 8])
 // So many coarse units and so much more at place i.
 fn pour_at(w: &mut [u64], i: usize, units: u64, rest: u64)
     requires there { i < state.ledgers }
-    requires few { (units ≤ 64 * unitsEach) × (rest ≤ 64 * restEach) }
-    requires kept { Kept (carries - pourEach) w.old }
+    requires few { (units ≤ 64 * units_each) × (rest ≤ 64 * rest_each) }
+    requires kept { Kept (carries - pour_each) w.old }
     ensures poured { w.new ≡ poured w.old i units rest }
 {
     let high = ledgers::COUNT + i;

@@ -2,7 +2,7 @@
 ghost use Rattle.std.specs.Prelude.{◌≡◌, min};
 ghost use Rattle.rules.specs.Book.{opened, accepted};
 ghost use Rattle.job.specs.Reply.{started, woken};
-ghost use Rattle.job.specs.Wake.{freshReply, freshBytes, admittedFor, wakeReply, wakeBytes};
+ghost use Rattle.job.specs.Wake.{fresh_reply, fresh_bytes, admitted_for, wake_reply, wake_bytes};
 
 use crate::admission::Admission;
 use crate::reply::{Refusal, Started, Woken};
@@ -12,8 +12,8 @@ use rules::book::{Head, Opened};
 
 // A checkpoint of the book with nothing done.
 pub fn fresh(book: &[u8], out: &mut [u8]) -> Started
-    ensures reply { started result ≡ freshReply book.now out.old }
-    ensures bytes { out.new ≡ freshBytes book.now out.old }
+    ensures reply { started result ≡ fresh_reply book.now out.old }
+    ensures bytes { out.new ≡ fresh_bytes book.now out.old }
 {
     match book::open(book) {
         Opened::Wrong(fault) => Started::NotStarted(Refusal::Book(fault)),
@@ -23,8 +23,8 @@ pub fn fresh(book: &[u8], out: &mut [u8]) -> Started
 
 fn fresh_open(book: &[u8], h: Head, out: &mut [u8]) -> Started
     requires opened { opened book.now ≡ accepted h }
-    ensures reply { started result ≡ freshReply book.now out.old }
-    ensures bytes { out.new ≡ freshBytes book.now out.old }
+    ensures reply { started result ≡ fresh_reply book.now out.old }
+    ensures bytes { out.new ≡ fresh_bytes book.now out.old }
 {
     if out.len() != checkpoint::SIZE {
         return Started::NotStarted(Refusal::BufferLength);
@@ -38,8 +38,8 @@ fn fresh_open(book: &[u8], h: Head, out: &mut [u8]) -> Started
 
 // The checkpoint after at most `budget` records more, from where `from` stands.
 pub fn wake(book: &[u8], from: &[u8], budget: u32, out: &mut [u8]) -> Woken
-    ensures reply { woken result ≡ wakeReply book.now from.now budget out.old }
-    ensures bytes { out.new ≡ wakeBytes book.now from.now budget out.old }
+    ensures reply { woken result ≡ wake_reply book.now from.now budget out.old }
+    ensures bytes { out.new ≡ wake_bytes book.now from.now budget out.old }
 {
     match book::open(book) {
         Opened::Wrong(fault) => Woken::NotWoken(Refusal::Book(fault)),
@@ -49,8 +49,8 @@ pub fn wake(book: &[u8], from: &[u8], budget: u32, out: &mut [u8]) -> Woken
 
 fn wake_open(book: &[u8], h: Head, from: &[u8], budget: u32, out: &mut [u8]) -> Woken
     requires opened { opened book.now ≡ accepted h }
-    ensures reply { woken result ≡ wakeReply book.now from.now budget out.old }
-    ensures bytes { out.new ≡ wakeBytes book.now from.now budget out.old }
+    ensures reply { woken result ≡ wake_reply book.now from.now budget out.old }
+    ensures bytes { out.new ≡ wake_bytes book.now from.now budget out.old }
 {
     match admission::admit(h, from) {
         Admission::Refused(x) => Woken::NotWoken(x),
@@ -60,9 +60,9 @@ fn wake_open(book: &[u8], h: Head, from: &[u8], budget: u32, out: &mut [u8]) -> 
 
 fn wake_sound(book: &[u8], h: Head, from: &[u8], budget: u32, out: &mut [u8]) -> Woken
     requires opened { opened book.now ≡ accepted h }
-    requires sound { admittedFor h from.now ≡ accepted h }
-    ensures reply { woken result ≡ wakeReply book.now from.now budget out.old }
-    ensures bytes { out.new ≡ wakeBytes book.now from.now budget out.old }
+    requires sound { admitted_for h from.now ≡ accepted h }
+    ensures reply { woken result ≡ wake_reply book.now from.now budget out.old }
+    ensures bytes { out.new ≡ wake_bytes book.now from.now budget out.old }
 {
     if out.len() != checkpoint::SIZE {
         return Woken::NotWoken(Refusal::BufferLength);

@@ -1,4 +1,4 @@
--- `nearestTo` case by case, of a fraction and of a mixed number; it depends on the fraction alone and grows
+-- `nearest_to` case by case, of a fraction and of a mixed number; it depends on the fraction alone and grows
 -- with it. Assumes nothing.
 use Prim.Native.Nat.{ℕ, ◌+◌, ◌*◌, ◌/◌, ◌%◌, ◌<◌, ◌≤◌, compare, Ordering}
 use mathlib.Core.Bool.{not}
@@ -10,70 +10,70 @@ use lib.Dec.{T, is_le, compare_is_eq, eqb, eqb_refl, eqb→eq, leb→le, nleb→
 use lib.Ieee.{nearest}
 use lib.Ieee.Nearest.{closest, closest_same, closest_mono}
 use borrow.Author.Tests.{lt-ltb, le-ltb}
-use Rattle.choice.proofs.TestsLaws.{choose-t, choose-f}
-use Rattle.choice.proofs.Splitting.{if-lt}
-use Rattle.mass.specs.Rounding.{nearestTo}
+use Rattle.choice.proofs.TestsLaws.{choose_t, choose_f}
+use Rattle.choice.proofs.Splitting.{if_lt}
+use Rattle.mass.specs.Rounding.{nearest_to}
 
 -- ---- the three cases
 module _ (n d : ℕ) where
-  pub nearestTo-below : 2 * (n % d) < d → nearestTo n d ≡ n / d
-  unfolding nearestTo
-  nearestTo-below h = choose-t _ (lt-ltb (2 * (n % d)) d h) refl
+  pub nearest_to-below : 2 * (n % d) < d → nearest_to n d ≡ n / d
+  unfolding nearest_to
+  nearest_to-below h = choose_t _ (lt-ltb (2 * (n % d)) d h) refl
 
-  pub nearestTo-above : d < 2 * (n % d) → nearestTo n d ≡ n / d + 1
-  unfolding nearestTo
-  nearestTo-above h =
-      choose-f _ (le-ltb (2 * (n % d)) d (le_of_lt h)) (choose-t _ (lt-ltb d (2 * (n % d)) h) refl)
+  pub nearest_to-above : d < 2 * (n % d) → nearest_to n d ≡ n / d + 1
+  unfolding nearest_to
+  nearest_to-above h =
+      choose_f _ (le-ltb (2 * (n % d)) d (le_of_lt h)) (choose_t _ (lt-ltb d (2 * (n % d)) h) refl)
 
-  pub nearestTo-half : 2 * (n % d) ≡ d → nearestTo n d ≡ n / d + n / d % 2
-  unfolding nearestTo
-  nearestTo-half h =
-      choose-f _ (le-ltb (2 * (n % d)) d (le_of_eq (sym h)))
-      (choose-f _ (le-ltb d (2 * (n % d)) (le_of_eq h)) refl)
+  pub nearest_to-half : 2 * (n % d) ≡ d → nearest_to n d ≡ n / d + n / d % 2
+  unfolding nearest_to
+  nearest_to-half h =
+      choose_f _ (le-ltb (2 * (n % d)) d (le_of_eq (sym h)))
+      (choose_f _ (le-ltb d (2 * (n % d)) (le_of_eq h)) refl)
 
   -- Any statement on the rounded number is proved case by case.
-  pub nearestTo-cases : {G : Type 0} → (2 * (n % d) < d → G) → (d < 2 * (n % d) → G) → (2 * (n % d) ≡ d → G)
+  pub nearest_to_cases : {G : Type 0} → (2 * (n % d) < d → G) → (d < 2 * (n % d) → G) → (2 * (n % d) ≡ d → G)
       → G
-  nearestTo-cases below above half =
-      if-lt (2 * (n % d)) d below (λ h. if-lt d (2 * (n % d)) above (λ k. half (omega arith)))
+  nearest_to_cases below above half =
+      if_lt (2 * (n % d)) d below (λ h. if_lt d (2 * (n % d)) above (λ k. half (omega arith)))
 
-pub nearestTo-zero : (n d : ℕ) → 2 * n < d → nearestTo n d ≡ 0
-nearestTo-zero n d h =
+pub nearest_to-zero : (n d : ℕ) → 2 * n < d → nearest_to n d ≡ 0
+nearest_to-zero n d h =
     let l : n < d = omega arith in
-    nearestTo-below n d (subst (λ (m : ℕ). 2 * m < d) (sym (mod-eq_of_lt l)) h) ∙ div-eq_of_lt l
+    nearest_to-below n d (subst (λ (m : ℕ). 2 * m < d) (sym (mod-eq_of_lt l)) h) ∙ div-eq_of_lt l
 
 -- ---- a mixed number: q, and r / d below 1
 module _ (q r d : ℕ) (proper : r < d) where
   D : 0 < d
   D = omega arith
 
-  div-mixed : (q * d + r) / d ≡ q
-  div-mixed = mul-add-div_right D q r ∙ omega (arith, div-eq_of_lt proper)
+  div_mixed : (q * d + r) / d ≡ q
+  div_mixed = mul-add-div_right D q r ∙ omega (arith, div-eq_of_lt proper)
 
-  mod-mixed : (q * d + r) % d ≡ r
-  mod-mixed = mul-add-mod_self_right q d r ∙ mod-eq_of_lt proper
+  mod_mixed : (q * d + r) % d ≡ r
+  mod_mixed = mul-add-mod_self_right q d r ∙ mod-eq_of_lt proper
 
-  nearestTo-mixed-below : 2 * r < d → nearestTo (q * d + r) d ≡ q
-  nearestTo-mixed-below h = nearestTo-below (q * d + r) d (omega (arith, mod-mixed)) ∙ div-mixed
+  nearest_to_mixed_below : 2 * r < d → nearest_to (q * d + r) d ≡ q
+  nearest_to_mixed_below h = nearest_to-below (q * d + r) d (omega (arith, mod_mixed)) ∙ div_mixed
 
-  nearestTo-mixed-above : d < 2 * r → nearestTo (q * d + r) d ≡ q + 1
-  nearestTo-mixed-above h =
-      nearestTo-above (q * d + r) d (omega (arith, mod-mixed)) ∙ ap (λ (x : ℕ). x + 1) div-mixed
+  nearest_to_mixed_above : d < 2 * r → nearest_to (q * d + r) d ≡ q + 1
+  nearest_to_mixed_above h =
+      nearest_to-above (q * d + r) d (omega (arith, mod_mixed)) ∙ ap (λ (x : ℕ). x + 1) div_mixed
 
-  nearestTo-mixed-half : 2 * r ≡ d → nearestTo (q * d + r) d ≡ q + q % 2
-  nearestTo-mixed-half h =
-      nearestTo-half (q * d + r) d (omega (arith, mod-mixed)) ∙ ap (λ (x : ℕ). x + x % 2) div-mixed
+  nearest_to_mixed_half : 2 * r ≡ d → nearest_to (q * d + r) d ≡ q + q % 2
+  nearest_to_mixed_half h =
+      nearest_to-half (q * d + r) d (omega (arith, mod_mixed)) ∙ ap (λ (x : ℕ). x + x % 2) div_mixed
 
   -- Both tests at once: at just half an odd q goes up.
-  pub nearestTo-mixed-up : d < 2 * r + q % 2 → nearestTo (q * d + r) d ≡ q + 1
-  nearestTo-mixed-up h = if-lt d (2 * r) nearestTo-mixed-above (λ k. nearestTo-mixed-half (omega arith) ∙ omega arith)
+  pub nearest_to_mixed_up : d < 2 * r + q % 2 → nearest_to (q * d + r) d ≡ q + 1
+  nearest_to_mixed_up h = if_lt d (2 * r) nearest_to_mixed_above (λ k. nearest_to_mixed_half (omega arith) ∙ omega arith)
 
-  pub nearestTo-mixed-down : 2 * r + q % 2 ≤ d → nearestTo (q * d + r) d ≡ q
-  nearestTo-mixed-down h = if-lt (2 * r) d nearestTo-mixed-below (λ k. nearestTo-mixed-half (omega arith) ∙ omega arith)
+  pub nearest_to_mixed_down : 2 * r + q % 2 ≤ d → nearest_to (q * d + r) d ≡ q
+  nearest_to_mixed_down h = if_lt (2 * r) d nearest_to_mixed_below (λ k. nearest_to_mixed_half (omega arith) ∙ omega arith)
 
 -- A product of a as a mixed number: b / d times a, and what is left of b.
-pub product-mixed : (a b d : ℕ) → (a * (b / d) + a * (b % d) / d) * d + a * (b % d) % d ≡ a * b
-product-mixed a b d =
+pub product_mixed : (a b d : ℕ) → (a * (b / d) + a * (b % d) / d) * d + a * (b % d) % d ≡ a * b
+product_mixed a b d =
     let left = a * (b % d) in
     let parts : (a * (b / d) + left / d) * d ≡ a * (b / d * d) + left / d * d =
     add-mul (a * (b / d)) (left / d) d ∙ ap (λ (x : ℕ). x + left / d * d) (mul_assoc a (b / d) d) in
@@ -82,11 +82,11 @@ product-mixed a b d =
     omega (arith, div-add-mod' left d)
 
 -- Neither part of it passes its bound.
-pub product-left-lt : (a b d : ℕ) {m : ℕ} → 0 < d → a * d < m → a * (b % d) < m
-product-left-lt a b d D h = omega (arith, mul-le-mul_left a (le_of_lt (mod-lt b D)), h)
+pub product_left_lt : (a b d : ℕ) {m : ℕ} → 0 < d → a * d < m → a * (b % d) < m
+product_left_lt a b d D h = omega (arith, mul-le-mul_left a (le_of_lt (mod-lt b D)), h)
 
-pub product-whole-lt : (a b d : ℕ) {m : ℕ} → a * b < m * d → a * (b / d) + a * (b % d) / d < m
-product-whole-lt a b d h = lt_of_mul-lt-mul_right d (omega (arith, product-mixed a b d, h))
+pub product_whole-lt : (a b d : ℕ) {m : ℕ} → a * b < m * d → a * (b / d) + a * (b % d) / d < m
+product_whole-lt a b d h = lt_of_mul-lt-mul_right d (omega (arith, product_mixed a b d, h))
 
 -- ---- equal and larger fractions, by the kit's `closest`
 module _ (a b : ℕ) where
@@ -114,24 +114,24 @@ module _ (a b : ℕ) where
       go Ordering.eq t = refl
       go Ordering.gt t = absurd t
 
-nearestTo-closest : (n d : ℕ) → nearestTo n d ≡ closest n d
-nearestTo-closest n d = nearestTo-cases n d
-    (λ l. nearestTo-below n d l ∙ by Ordering.lt (is_lt (n % d * 2) d (omega arith)))
-    (λ g. nearestTo-above n d g ∙ add-one (n / d) ∙ by Ordering.gt (is_gt (n % d * 2) d (omega arith)))
-    (λ e. nearestTo-half n d e ∙ by Ordering.eq (is_eq (n % d * 2) d (omega arith)))
+nearest_to_closest : (n d : ℕ) → nearest_to n d ≡ closest n d
+nearest_to_closest n d = nearest_to_cases n d
+    (λ l. nearest_to-below n d l ∙ by Ordering.lt (is_lt (n % d * 2) d (omega arith)))
+    (λ g. nearest_to-above n d g ∙ add-one (n / d) ∙ by Ordering.gt (is_gt (n % d * 2) d (omega arith)))
+    (λ e. nearest_to-half n d e ∙ by Ordering.eq (is_eq (n % d * 2) d (omega arith)))
   where
     by : (o : Ordering) → compare (n % d * 2) d ≡ o → nearest (n / d) o ≡ closest n d
     by o h = ap (λ (k : Ordering). nearest (n / d) k) (sym h)
 
-pub nearestTo-same : (a b c d : ℕ) → 0 < b → 0 < d → a * d ≡ c * b → nearestTo a b ≡ nearestTo c d
-nearestTo-same a b c d B D e =
-    nearestTo-closest a b
+pub nearest_to-same : (a b c d : ℕ) → 0 < b → 0 < d → a * d ≡ c * b → nearest_to a b ≡ nearest_to c d
+nearest_to-same a b c d B D e =
+    nearest_to_closest a b
     ∙ closest_same a b c d B D e
-    ∙ sym (nearestTo-closest c d)
+    ∙ sym (nearest_to_closest c d)
 
 -- A common factor goes out of both parts of the fraction.
-pub nearestTo-scaled : (k n w d : ℕ) → 0 < w → 0 < d → nearestTo (k * (n * w)) (w * d) ≡ nearestTo (k * n) d
-nearestTo-scaled k n w d W D = nearestTo-same (k * (n * w)) (w * d) (k * n) d (mul-pos W D) D (simp mul_assoc)
+pub nearest_to_scaled : (k n w d : ℕ) → 0 < w → 0 < d → nearest_to (k * (n * w)) (w * d) ≡ nearest_to (k * n) d
+nearest_to_scaled k n w d W D = nearest_to-same (k * (n * w)) (w * d) (k * n) d (mul-pos W D) D (simp mul_assoc)
 
-pub nearestTo-mono : (a b c d : ℕ) → 0 < b → 0 < d → a * d ≤ c * b → nearestTo a b ≤ nearestTo c d
-nearestTo-mono a b c d B D h = rw (nearestTo-closest a b, nearestTo-closest c d) (closest_mono a b c d B D h)
+pub nearest_to_mono : (a b c d : ℕ) → 0 < b → 0 < d → a * d ≤ c * b → nearest_to a b ≤ nearest_to c d
+nearest_to_mono a b c d B D h = rw (nearest_to_closest a b, nearest_to_closest c d) (closest_mono a b c d B D h)

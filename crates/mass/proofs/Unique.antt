@@ -14,45 +14,45 @@ use Rattle.mass.proofs.ledger.add_ug.Reads as add-ug
 use Rattle.mass.proofs.ledger.add_ng.Reads as add-ng
 use Rattle.mass.proofs.figures.work_out.Reads as work-out
 
-pub weigh-by-heat-unique : (κs : _) (a : _) (r s : _) (x y : _) → weigh-by-heat.Post κs a r x
+pub weigh_by_heat_unique : (κs : _) (a : _) (r s : _) (x y : _) → weigh-by-heat.Post κs a r x
     → weigh-by-heat.Post κs a s y → r ≡ s
-weigh-by-heat-unique κs a r s x y p q = p ∙ sym q
+weigh_by_heat_unique κs a r s x y p q = p ∙ sym q
 
-pub weigh-by-carbon-unique : (κs : _) (a : _) (r s : _) (x y : _) → weigh-by-carbon.Post κs a r x
+pub weigh_by_carbon_unique : (κs : _) (a : _) (r s : _) (x y : _) → weigh-by-carbon.Post κs a r x
     → weigh-by-carbon.Post κs a s y → r ≡ s
-weigh-by-carbon-unique κs a r s x y p q = p ∙ sym q
+weigh_by_carbon_unique κs a r s x y p q = p ∙ sym q
 
-pub weigh-trace-unique : (κs : _) (a : _) (r s : _) (x y : _) → weigh-trace.Post κs a r x
+pub weigh_trace_unique : (κs : _) (a : _) (r s : _) (x y : _) → weigh-trace.Post κs a r x
     → weigh-trace.Post κs a s y → r ≡ s
-weigh-trace-unique κs a r s x y p q = p ∙ sym q
+weigh_trace_unique κs a r s x y p q = p ∙ sym q
 
-pub find-high-unique : (κs : _) (a : _) (r s : _) (x y : _) → find-high.Post κs a r x → find-high.Post κs a s y
+pub find_high_unique : (κs : _) (a : _) (r s : _) (x y : _) → find-high.Post κs a r x → find-high.Post κs a s y
     → r ≡ s
-find-high-unique κs a r s x y p q = p ∙ sym q
+find_high_unique κs a r s x y p q = p ∙ sym q
 
-pub weigh-gas-unique : (κs : _) (a : _) (r s : _) (x y : _) → weigh-gas.Post κs a r x → weigh-gas.Post κs a s y
+pub weigh_gas_unique : (κs : _) (a : _) (r s : _) (x y : _) → weigh-gas.Post κs a r x → weigh-gas.Post κs a s y
     → r ≡ s
-weigh-gas-unique κs a r s x y p q = p ∙ sym q
+weigh_gas_unique κs a r s x y p q = p ∙ sym q
 
-pub weigh-anodes-unique : (κs : _) (a : _) (r s : _) (x y : _) → weigh-anodes.Post κs a r x
+pub weigh_anodes_unique : (κs : _) (a : _) (r s : _) (x y : _) → weigh-anodes.Post κs a r x
     → weigh-anodes.Post κs a s y → r ≡ s
-weigh-anodes-unique κs a r s x y p q = p ∙ sym q
+weigh_anodes_unique κs a r s x y p q = p ∙ sym q
 
-pub judge-unique : (κs : _) (a : _) (r s : _) (x y : _) → judge.Post κs a r x → judge.Post κs a s y → r ≡ s
-judge-unique κs a r s x y p q = p ∙ sym q
+pub judge_unique : (κs : _) (a : _) (r s : _) (x y : _) → judge.Post κs a r x → judge.Post κs a s y → r ≡ s
+judge_unique κs a r s x y p q = p ∙ sym q
 
-pub weigh-unique : (κs : _) (a : _) (r s : _) (x y : _) → weigh.Post κs a r x → weigh.Post κs a s y → r ≡ s
-weigh-unique κs a r s x y p q = p ∙ sym q
+pub weigh_unique : (κs : _) (a : _) (r s : _) (x y : _) → weigh.Post κs a r x → weigh.Post κs a s y → r ≡ s
+weigh_unique κs a r s x y p q = p ∙ sym q
 
-pub round-unique : (κs : _) (a : _) (r s : _) (x y : _) → round.Post κs a r x → round.Post κs a s y → r ≡ s
-round-unique κs a r s x y p q = p ∙ sym q
+pub round_unique : (κs : _) (a : _) (r s : _) (x y : _) → round.Post κs a r x → round.Post κs a s y → r ≡ s
+round_unique κs a r s x y p q = p ∙ sym q
 
-pub add-ug-unique : (κs : _) (a : _) (r s : _) (x y : _) → add-ug.Post κs a r x → add-ug.Post κs a s y → r ≡ s
-add-ug-unique κs a r s x y p q = p ∙ sym q
+pub add_ug_unique : (κs : _) (a : _) (r s : _) (x y : _) → add-ug.Post κs a r x → add-ug.Post κs a s y → r ≡ s
+add_ug_unique κs a r s x y p q = p ∙ sym q
 
-pub add-ng-unique : (κs : _) (a : _) (r s : _) (x y : _) → add-ng.Post κs a r x → add-ng.Post κs a s y → r ≡ s
-add-ng-unique κs a r s x y p q = p ∙ sym q
+pub add_ng_unique : (κs : _) (a : _) (r s : _) (x y : _) → add-ng.Post κs a r x → add-ng.Post κs a s y → r ≡ s
+add_ng_unique κs a r s x y p q = p ∙ sym q
 
-pub work-out-unique : (κs : _) (a : _) (r s : _) (x y : _) → work-out.Post κs a r x → work-out.Post κs a s y
+pub work_out_unique : (κs : _) (a : _) (r s : _) (x y : _) → work-out.Post κs a r x → work-out.Post κs a s y
     → r ≡ s
-work-out-unique κs a r s x y p q = p ∙ sym q
+work_out_unique κs a r s x y p q = p ∙ sym q

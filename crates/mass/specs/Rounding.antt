@@ -1,27 +1,27 @@
 -- A fraction to a whole number. RULES, "Rounding".
 --
---     nearestTo n d    the whole number nearest to n / d, a half going to the even one
---     halfUp n d       the whole number nearest to n / d, a half going up
+--     nearest_to n d    the whole number nearest to n / d, a half going to the even one
+--     half_up n d       the whole number nearest to n / d, a half going up
 --     Nearest n d r    r × d is within half of d from n, and where it is just half, r is even
 --
--- `nearestTo` is the one number that `Nearest` allows: proofs/NearestLaws.antt. Other laws:
+-- `nearest_to` is the one number that `Nearest` allows: proofs/NearestLaws.antt. Other laws:
 -- proofs/RoundingLaws.antt. Definitions only.
 use Rattle.std.specs.Prelude.{ℕ, ◌+◌, ◌*◌, ◌/◌, ◌%◌, ◌≤◌, ◌≡◌, ltb}
 use Rattle.choice.specs.Tests.{choose}
 
 -- It is the quotient where the remainder is below half the divisor, and one more where it is above.
-unfoldable pub nearestTo : ℕ → ℕ → ℕ
-nearestTo n d =
+unfoldable pub nearest_to : ℕ → ℕ → ℕ
+nearest_to n d =
     choose (ltb (2 * (n % d)) d) (n / d)
     (choose (ltb d (2 * (n % d))) (n / d + 1)
     (n / d + n / d % 2))
 
 -- It is n / d + 1 / 2 without its fraction.
-unfoldable pub halfUp : ℕ → ℕ → ℕ
-halfUp n d = (2 * n + d) / (2 * d)
+unfoldable pub half_up : ℕ → ℕ → ℕ
+half_up n d = (2 * n + d) / (2 * d)
 
 pub record Nearest (n d r : ℕ) : Type 0 where
-  pub not-below : 2 * n ≤ 2 * (r * d) + d
-  pub not-above : 2 * (r * d) ≤ 2 * n + d
-  pub even-below : 2 * n ≡ 2 * (r * d) + d → r % 2 ≡ 0
-  pub even-above : 2 * (r * d) ≡ 2 * n + d → r % 2 ≡ 0
+  pub not_below : 2 * n ≤ 2 * (r * d) + d
+  pub not_above : 2 * (r * d) ≤ 2 * n + d
+  pub even_below : 2 * n ≡ 2 * (r * d) + d → r % 2 ≡ 0
+  pub even_above : 2 * (r * d) ≡ 2 * n + d → r % 2 ≡ 0

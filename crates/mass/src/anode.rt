@@ -1,6 +1,6 @@
 // The CO2 of prebaked anodes that a smelter uses up: their carbon leaves as CO2.
 ghost use Rattle.std.specs.Prelude.{◌≡◌};
-ghost use Rattle.mass.specs.Anode.{AnodesInReach, co2OfAnodes};
+ghost use Rattle.mass.specs.Anode.{AnodesInReach, co2_of_anodes};
 
 use crate::{Ug, fuel, rounding};
 
@@ -23,7 +23,7 @@ const TENTHS: u64 = 10;
 
 pub fn weigh(m: Metal, w: AnodeUse, x: Impurities) -> Ug
     requires reach { AnodesInReach m.0 w.0 x.0 }
-    ensures exact { result ≡ co2OfAnodes m w x }
+    ensures exact { result ≡ co2_of_anodes m w x }
 {
     let anodes = m.0 as u64 * w.0 as u64;
     let carbon = anodes * (HUNDREDTHS - x.0 as u64);

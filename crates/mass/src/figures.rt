@@ -1,7 +1,7 @@
 // What a report says of a site's ledgers: five figures in kilograms, and whether it must report.
 ghost use Rattle.std.specs.Prelude.{◌≡◌, ◌+◌, ◌*◌, ◌≤◌, min};
-ghost use Rattle.mass.specs.Ledger.{tonne, total, Canonical, ledgerOf};
-ghost use Rattle.mass.specs.Figures.{kgOf, AllSound, Mild, co2eOf, decisive, mustReport, figuresOf};
+ghost use Rattle.mass.specs.Ledger.{tonne, total, Canonical, ledger_of};
+ghost use Rattle.mass.specs.Figures.{kg_of, AllSound, Mild, co2e_of, decisive, must_report, figures_of};
 
 use crate::ledger::{Ledger, Ledgers};
 use crate::{Kg, Ng, ledger};
@@ -42,7 +42,7 @@ const LEAVE_OUT_MOST: u64 = 15000;
 pub fn work_out(t: Ledgers, w: Warming) -> Figures
     requires sound { AllSound t }
     requires mild { Mild w }
-    ensures exact { result ≡ figuresOf t w }
+    ensures exact { result ≡ figures_of t w }
 {
     let fossil = t.fossil;
     let biomass = t.biomass;
@@ -63,7 +63,7 @@ pub fn work_out(t: Ledgers, w: Warming) -> Figures
 fn round_to_kg(g: Ledger) -> Kg
     requires canonical { Canonical g }
     requires room { g.tonnes ≤ 10000000000000000 }
-    ensures rounded { result ≡ kgOf (total g) }
+    ensures rounded { result ≡ kg_of (total g) }
 {
     let kg = g.tonnes * KG_PER_TONNE + (g.rest.0 + HALF_KG) / NG_PER_KG;
     Kg(kg)
@@ -73,7 +73,7 @@ fn round_to_kg(g: Ledger) -> Kg
 fn sum_co2e(t: Ledgers, w: Warming) -> Ledger
     requires sound { AllSound t }
     requires mild { Mild w }
-    ensures exact { result ≡ ledgerOf (co2eOf t w) }
+    ensures exact { result ≡ ledger_of (co2e_of t w) }
 {
     let tonnes = weigh_up(
         t.fossil.tonnes,
@@ -105,7 +105,7 @@ fn weigh_up(fossil: u64, biomass: u64, ch4: u64, n2o: u64, w: Warming) -> u64
 fn must_report(all: Ledger, biomass: Ledger) -> bool
     requires canonical { Canonical all × Canonical biomass }
     requires part { total biomass ≤ total all }
-    ensures decided { result ≡ mustReport (total all) (total biomass) }
+    ensures decided { result ≡ must_report (total all) (total biomass) }
 {
     let left = leave_out(all, biomass);
     REPORT_FROM <= left.tonnes
@@ -115,7 +115,7 @@ fn must_report(all: Ledger, biomass: Ledger) -> bool
 fn leave_out(all: Ledger, biomass: Ledger) -> Ledger
     requires canonical { Canonical all × Canonical biomass }
     requires part { total biomass ≤ total all }
-    ensures exact { result ≡ ledgerOf (decisive (total all) (total biomass)) }
+    ensures exact { result ≡ ledger_of (decisive (total all) (total biomass)) }
 {
     if REPORT_ALL_FROM <= all.tonnes {
         return all;
@@ -126,7 +126,7 @@ fn leave_out(all: Ledger, biomass: Ledger) -> Ledger
 // At most 15,000 t of it.
 fn cap(g: Ledger) -> Ledger
     requires canonical { Canonical g }
-    ensures capped { result ≡ ledgerOf (min (total g) (15000 * tonne)) }
+    ensures capped { result ≡ ledger_of (min (total g) (15000 * tonne)) }
 {
     if LEAVE_OUT_MOST <= g.tonnes {
         return Ledger {

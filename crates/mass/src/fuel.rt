@@ -1,7 +1,7 @@
 // Masses from fuel burned. No function adds two amounts, so kilograms, litres and cubic metres of
 // fuel never meet.
 ghost use Rattle.std.specs.Prelude.{◌≡◌, ◌*◌, ◌≤◌};
-ghost use Rattle.mass.specs.Fuel.{HeatInReach, CarbonInReach, co2OfHeat, co2OfCarbon, traceOfHeat, high_of};
+ghost use Rattle.mass.specs.Fuel.{HeatInReach, CarbonInReach, co2_of_heat, co2_of_carbon, trace_of_heat, high_of};
 
 use crate::{Ng, Ug};
 
@@ -43,7 +43,7 @@ const HALF_KJ: u32 = 50;
 // CO2 by methods 1 and 2.
 pub fn weigh_by_heat(a: Amount, h: Heat, x: Co2Factor) -> Ug
     requires reach { HeatInReach a.0 h.0 x.0 }
-    ensures exact { result ≡ co2OfHeat a h x }
+    ensures exact { result ≡ co2_of_heat a h x }
 {
     let co2 = multiply(a.0, h.0, x.0);
     Ug(co2)
@@ -52,7 +52,7 @@ pub fn weigh_by_heat(a: Amount, h: Heat, x: Co2Factor) -> Ug
 // CO2 by method 3.
 pub fn weigh_by_carbon(a: Amount, c: Carbon) -> Ug
     requires reach { CarbonInReach a.0 c.0 }
-    ensures exact { result ≡ co2OfCarbon a c }
+    ensures exact { result ≡ co2_of_carbon a c }
 {
     let carbon = a.0 as u64 * c.0 as u64;
     let co2 = carbon * CO2_OF_CARBON;
@@ -62,7 +62,7 @@ pub fn weigh_by_carbon(a: Amount, c: Carbon) -> Ug
 // CH4 or N2O, whose factors are a thousandth of a CO2 factor's unit: hence ng.
 pub fn weigh_trace(a: Amount, h: Heat, x: TraceFactor) -> Ng
     requires reach { HeatInReach a.0 h.0 x.0 }
-    ensures exact { result ≡ traceOfHeat a h x }
+    ensures exact { result ≡ trace_of_heat a h x }
 {
     let trace = multiply(a.0, h.0, x.0);
     Ng(trace)

@@ -1,7 +1,7 @@
 // The CO2 of gas whose carbon a laboratory tells by weight: its molecular weight, held against the room that a
 // kmol takes, says what a cubic metre of it weighs.
 ghost use Rattle.std.specs.Prelude.{◌≡◌};
-ghost use Rattle.mass.specs.Gas.{GasInReach, co2OfGas};
+ghost use Rattle.mass.specs.Gas.{GasInReach, co2_of_gas};
 
 use crate::fuel::Amount;
 use crate::{Ug, fuel, rounding};
@@ -20,7 +20,7 @@ pub struct MolarVolume(pub u32);
 
 pub fn weigh(a: Amount, c: CarbonShare, w: MolecularWeight, v: MolarVolume) -> Ug
     requires reach { GasInReach a.0 c.0 w.0 v.0 }
-    ensures exact { result ≡ co2OfGas a c w v }
+    ensures exact { result ≡ co2_of_gas a c w v }
 {
     let carbon = a.0 as u64 * c.0 as u64;
     let weight = w.0 * fuel::CO2_OF_CARBON as u32;

@@ -1,6 +1,6 @@
 // A ledger: whole tonnes and a rest in ng, so that a year's mass is exact in two words.
 ghost use Rattle.std.specs.Prelude.{◌≡◌, ◌+◌, ◌-◌, ◌*◌, ◌<◌, ◌≤◌};
-ghost use Rattle.mass.specs.Ledger.{tonne, total, Canonical, Sound, ledgerOf, added};
+ghost use Rattle.mass.specs.Ledger.{tonne, total, Canonical, Sound, ledger_of, added};
 
 use crate::{Ng, Ug};
 
@@ -47,7 +47,7 @@ pub fn add_ng(g: Ledger, x: Ng) -> Ledger
 // The ledger of so many tonnes and ng, which may pass a tonne many times over.
 pub(crate) fn carry(tonnes: u64, rest: u64) -> Ledger
     requires room { tonnes ≤ 1000000000000000000 }
-    ensures exact { result ≡ ledgerOf (tonnes * tonne + rest) }
+    ensures exact { result ≡ ledger_of (tonnes * tonne + rest) }
 {
     Ledger {
         tonnes: tonnes + rest / NG_PER_TONNE,
@@ -58,7 +58,7 @@ pub(crate) fn carry(tonnes: u64, rest: u64) -> Ledger
 pub(crate) fn subtract(g: Ledger, x: Ledger) -> Ledger
     requires canonical { Canonical g × Canonical x }
     requires part { total x ≤ total g }
-    ensures exact { result ≡ ledgerOf (total g - total x) }
+    ensures exact { result ≡ ledger_of (total g - total x) }
 {
     if x.rest.0 <= g.rest.0 {
         return Ledger {

@@ -1,8 +1,8 @@
 // Rounding to the nearest whole number, a half going to the even one: fractions, and multiples of a double.
 ghost use Rattle.std.specs.Prelude.{◌≡◌, ◌+◌, ◌*◌, ◌^◌, ◌<◌, ◌≤◌, T};
 ghost use Rattle.std.specs.Float.{binary64};
-ghost use Rattle.mass.specs.Rounding.{nearestTo};
-ghost use Rattle.mass.specs.Units.{unitsIn, natural};
+ghost use Rattle.mass.specs.Rounding.{nearest_to};
+ghost use Rattle.mass.specs.Units.{units_in, natural};
 
 // The weight of a double's exponent field, and how many exponents that has.
 const LEADING: u64 = 0x10_0000_0000_0000;
@@ -20,8 +20,8 @@ const WHOLE: u64 = 1075;
 pub(crate) fn round_multiple(k: u64, p: f64) -> u64
     requires few { k ≤ 1000 }
     requires natural { T (natural p) }
-    requires small { unitsIn binary64 p ≤ 100000000000 * 2 ^ 1074 }
-    ensures nearest { result ≡ nearestTo (k * unitsIn binary64 p) (2 ^ 1074) }
+    requires small { units_in binary64 p ≤ 100000000000 * 2 ^ 1074 }
+    ensures nearest { result ≡ nearest_to (k * units_in binary64 p) (2 ^ 1074) }
 {
     let bits = f64::to_bits(p);
     // Only a zero has a sign here, which the remainder leaves out.
@@ -37,7 +37,7 @@ pub(crate) fn round_multiple(k: u64, p: f64) -> u64
 pub(crate) fn round_fraction(n: u64, d: u64) -> u64
     requires room { n < 2 ^ 63 }
     requires some { 0 < d }
-    ensures nearest { result ≡ nearestTo n d }
+    ensures nearest { result ≡ nearest_to n d }
 {
     round_mixed(n / d, n % d, d)
 }
@@ -48,7 +48,7 @@ pub(crate) fn round_product(a: u64, b: u32, d: u32) -> u64
     requires some { 0 < d }
     requires room { a * d < 2 ^ 63 }
     requires small { a * b < 2 ^ 63 * d }
-    ensures nearest { result ≡ nearestTo (a * b) d }
+    ensures nearest { result ≡ nearest_to (a * b) d }
 {
     let whole = a * (b / d) as u64;
     let left = a * (b % d) as u64;
@@ -62,7 +62,7 @@ pub(crate) fn round_product(a: u64, b: u32, d: u32) -> u64
 fn round_mixed(q: u64, r: u64, d: u64) -> u64
     requires room { (q < 2 ^ 63) × (r < 2 ^ 63) }
     requires proper { r < d }
-    ensures nearest { result ≡ nearestTo (q * d + r) d }
+    ensures nearest { result ≡ nearest_to (q * d + r) d }
 {
     let odd = q % 2;
     if d < 2 * r + odd {

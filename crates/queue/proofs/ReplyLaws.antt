@@ -4,9 +4,9 @@ use mathlib.Core.List.{List}
 use mathlib.Core.Path.{◌≡◌, sym, ap, ◌∙◌}
 use Rattle.job.specs.Reply.{Reply, reply}
 
-replyNumber : Reply → ℕ
-replyNumber (reply n vs) = n
+reply_number : Reply → ℕ
+reply_number (reply n vs) = n
 
 pub reply-apart : {r : Reply} {m n : ℕ} {us vs : List ℕ} → r ≡ reply m us → r ≡ reply n vs → (m ≡ n → ⊥) → ⊥
-unfolding replyNumber
-reply-apart p q apart = apart (sym (ap replyNumber p) ∙ ap replyNumber q)
+unfolding reply_number
+reply-apart p q apart = apart (sym (ap reply_number p) ∙ ap reply_number q)

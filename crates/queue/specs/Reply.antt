@@ -1,9 +1,9 @@
 -- Replies in the numbers of RULES, "Queue": a number, 0 if the call was accepted, and its values.
 --
---     queueNumber x          the number of a refusal
---     addReply a             the reply that an add's answer stands for: the slot
---     removeReply a          the reply that a removal's answer stands for
---     turnReply a            the reply that a turn's answer stands for: the slot, and the records moved
+--     queue_number x          the number of a refusal
+--     add_reply a             the reply that an add's answer stands for: the slot
+--     remove_reply a          the reply that a removal's answer stands for
+--     turn_reply a            the reply that a turn's answer stands for: the slot, and the records moved
 --
 -- Laws: proofs/ReplyLaws.antt. Definitions only.
 use Rattle.std.specs.Prelude.{ℕ, [], ◌∷◌}
@@ -17,20 +17,20 @@ use Rattle.queue.specs.declared.reply.Removed.TheVariants.{NotRemoved, Gone}
 use Rattle.queue.specs.declared.reply.Turned.{Turned}
 use Rattle.queue.specs.declared.reply.Turned.TheVariants.{NotTurned, Served}
 
-abbrev pub queueNumber : Refusal → ℕ
-queueNumber Full = 50
-queueNumber Empty = 51
-queueNumber NoBudget = 52
-queueNumber NothingLeft = 53
+abbrev pub queue_number : Refusal → ℕ
+queue_number Full = 50
+queue_number Empty = 51
+queue_number NoBudget = 52
+queue_number NothingLeft = 53
 
-unfoldable pub addReply : Added → Reply
-addReply (NotAdded x) = reply (queueNumber x) []
-addReply (At i) = reply 0 (i ∷ [])
+unfoldable pub add_reply : Added → Reply
+add_reply (NotAdded x) = reply (queue_number x) []
+add_reply (At i) = reply 0 (i ∷ [])
 
-unfoldable pub removeReply : Removed → Reply
-removeReply (NotRemoved x) = reply (queueNumber x) []
-removeReply Gone = reply 0 []
+unfoldable pub remove_reply : Removed → Reply
+remove_reply (NotRemoved x) = reply (queue_number x) []
+remove_reply Gone = reply 0 []
 
-unfoldable pub turnReply : Turned → Reply
-turnReply (NotTurned x) = reply (queueNumber x) []
-turnReply (Served i m) = reply 0 (i ∷ m ∷ [])
+unfoldable pub turn_reply : Turned → Reply
+turn_reply (NotTurned x) = reply (queue_number x) []
+turn_reply (Served i m) = reply 0 (i ∷ m ∷ [])

@@ -10,14 +10,14 @@ use Rattle.job.specs.History.{Starts, Wakes}
 use Rattle.queue.specs.declared.slots.Queue.{Queue}
 use Rattle.queue.specs.declared.reply.Added.TheVariants.{At}
 use Rattle.queue.specs.declared.reply.Turned.TheVariants.{Served}
-use Rattle.queue.specs.Slots.{slotCount}
+use Rattle.queue.specs.Slots.{slot_count}
 use Rattle.queue.specs.Books.{added}
 use Rattle.queue.specs.Round.{turned}
-use Rattle.queue.specs.Calls.{Call, remove, cutShort, after, servedBy}
+use Rattle.queue.specs.Calls.{Call, remove, cut_short, after, served_by}
 
 pub data Stay (k : List ℕ) (n s : ℕ) : Queue → ℕ → List ℕ → Type 0 where
   -- After a fresh start the book is added with its n, to a queue of 16 slots, as all of the code's are.
-  begun : {c : List ℕ} → Starts k c → (q : Queue) → length q.slots ≡ slotCount → (added q n).answer ≡ At s
+  begun : {c : List ℕ} → Starts k c → (q : Queue) → length q.slots ≡ slot_count → (added q n).answer ≡ At s
       → Stay k n s (added q n).queue 0 c
   -- Its turn, matched by one saved wake with that turn's budget from its latest checkpoint.
   woken : {q : Queue} {t : ℕ} {c : List ℕ} {b m j : ℕ} {d : List ℕ}
@@ -27,8 +27,8 @@ pub data Stay (k : List ℕ) (n s : ℕ) : Queue → ℕ → List ℕ → Type 0
   -- queue before it.
   undone : {q : Queue} {t : ℕ} {c : List ℕ} → Stay k n s q t c → (b : ℕ) → Stay k n s q t c
   -- A turn that is cut after the place in the round was kept: the round goes on.
-  cut : {q : Queue} {t : ℕ} {c : List ℕ} → Stay k n s q t c → (b : ℕ) → Stay k n s (cutShort q b) t c
+  cut : {q : Queue} {t : ℕ} {c : List ℕ} → Stay k n s q t c → (b : ℕ) → Stay k n s (cut_short q b) t c
   -- Any other call: it doesn't remove the book, and doesn't serve it.
   passed : {q : Queue} {t : ℕ} {c : List ℕ} → Stay k n s q t c
-      → (x : Call) → (x ≡ remove s → ⊥) → (Memᴰ s (servedBy q x) → ⊥)
+      → (x : Call) → (x ≡ remove s → ⊥) → (Memᴰ s (served_by q x) → ⊥)
       → Stay k n s (after q x) t c

@@ -1,6 +1,6 @@
 // Books come and go.
 ghost use Rattle.std.specs.Prelude.{◌≡◌};
-ghost use Rattle.queue.specs.Books.{lowestFree, added, removed};
+ghost use Rattle.queue.specs.Books.{lowest_free, added, removed};
 
 use crate::reply::{Added, AfterAdd, AfterRemove, Refusal, Removed};
 use crate::slots;
@@ -26,7 +26,7 @@ pub fn add(q: Queue, n: u32) -> AfterAdd
 
 // The lowest free slot, or 16.
 fn find_free(q: Queue) -> usize
-    ensures lowest { result ≡ lowestFree q }
+    ensures lowest { result ≡ lowest_free q }
 {
     let mut i = 0;
     while i < slots::SLOT_COUNT {

@@ -1,7 +1,7 @@
 // What the calls answer, each with the queue after it. specs/Reply.antt gives the number and the values
 // of each case.
 ghost use Rattle.std.specs.Prelude.{◌≡◌};
-ghost use Rattle.queue.specs.Reply.{queueNumber};
+ghost use Rattle.queue.specs.Reply.{queue_number};
 
 use crate::slots::Queue;
 
@@ -20,7 +20,7 @@ pub enum Refusal {
 
 // The number of a refusal.
 pub fn number_refusal(x: Refusal) -> u8
-    ensures number { result ≡ queueNumber x }
+    ensures number { result ≡ queue_number x }
 {
     match x {
         Refusal::Full => 50,

@@ -1,7 +1,7 @@
 // Turns go round the slots.
 ghost use Rattle.std.specs.Prelude.{◌≡◌, ◌<◌, min};
-ghost use Rattle.queue.specs.Slots.{slotCount};
-ghost use Rattle.queue.specs.Round.{onward, due_at, passedOver, served, turned};
+ghost use Rattle.queue.specs.Slots.{slot_count};
+ghost use Rattle.queue.specs.Round.{onward, due_at, passed_over, served, turned};
 
 use crate::reply::{AfterTurn, Refusal, Turned};
 use crate::slots;
@@ -29,7 +29,7 @@ pub fn turn(q: Queue, budget: u32) -> AfterTurn
 
 // How many places of the round have nothing to serve before one that has, or 16.
 fn pass_over(q: Queue) -> usize
-    ensures passed { result ≡ passedOver q }
+    ensures passed { result ≡ passed_over q }
 {
     let mut k = 0;
     while k < slots::SLOT_COUNT {
@@ -42,7 +42,7 @@ fn pass_over(q: Queue) -> usize
 }
 
 fn is_due(q: Queue, k: usize) -> bool
-    requires within { k < slotCount }
+    requires within { k < slot_count }
     ensures due { result ≡ due_at q k }
 {
     0 < slots::count_left(slots::look(q, go_on(q, k)))
@@ -50,14 +50,14 @@ fn is_due(q: Queue, k: usize) -> bool
 
 // The slot k places on from the one after the last served.
 fn go_on(q: Queue, k: usize) -> usize
-    requires within { k < slotCount }
+    requires within { k < slot_count }
     ensures onward { result ≡ onward q k }
 {
     (q.last as usize + 1 + k) % slots::SLOT_COUNT
 }
 
 fn serve(q: Queue, i: usize, budget: u32) -> AfterTurn
-    requires within { i < slotCount }
+    requires within { i < slot_count }
     ensures served { result ≡ served q i budget }
 {
     let left = slots::count_left(slots::look(q, i));

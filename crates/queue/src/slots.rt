@@ -1,6 +1,6 @@
 // A queue and its slots. Every value of `Queue` is one: the slot served last is read modulo 16.
 ghost use Rattle.std.specs.Prelude.{◌≡◌, ◌<◌};
-ghost use Rattle.queue.specs.Slots.{slotCount, emptyQueue, slot_at, isFree, leftIn, stored, freeAt};
+ghost use Rattle.queue.specs.Slots.{slot_count, empty_queue, slot_at, is_free, left_in, stored, free_at};
 
 pub const SLOT_COUNT: usize = 16;
 
@@ -30,7 +30,7 @@ pub struct Queue {
 
 // A queue with every slot free.
 pub fn begin() -> Queue
-    ensures empty { result ≡ emptyQueue }
+    ensures empty { result ≡ empty_queue }
 {
     let p = Held { slot: Slot::Free };
     let slots = [p; SLOT_COUNT];
@@ -52,7 +52,7 @@ pub(crate) fn look(q: Queue, i: usize) -> Slot
 }
 
 pub(crate) fn store(q: Queue, i: usize, s: Slot) -> Queue
-    requires within { i < slotCount }
+    requires within { i < slot_count }
     ensures stored { result ≡ stored q i s }
 {
     let mut r = q;
@@ -62,7 +62,7 @@ pub(crate) fn store(q: Queue, i: usize, s: Slot) -> Queue
 }
 
 pub(crate) fn count_left(s: Slot) -> u32
-    ensures left { result ≡ leftIn s }
+    ensures left { result ≡ left_in s }
 {
     match s {
         Slot::Free => 0,
@@ -71,7 +71,7 @@ pub(crate) fn count_left(s: Slot) -> u32
 }
 
 fn judge_free(s: Slot) -> bool
-    ensures free { result ≡ isFree s }
+    ensures free { result ≡ is_free s }
 {
     match s {
         Slot::Free => true,
@@ -80,7 +80,7 @@ fn judge_free(s: Slot) -> bool
 }
 
 pub(crate) fn is_free(q: Queue, i: usize) -> bool
-    ensures free { result ≡ freeAt q i }
+    ensures free { result ≡ free_at q i }
 {
     judge_free(look(q, i))
 }

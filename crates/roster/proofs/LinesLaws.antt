@@ -7,34 +7,34 @@ use native.Mathlib.Omega.{arith}
 use lib.ListN.{length, get_or, take, drop, length-append, length-drop, take-append-drop}
 use lib.Seq.{drop-nil, get_or-drop, take-append_seam}
 use borrow.Author.Tests.{eq-eqb, ne_eqb}
-use Rattle.choice.proofs.Splitting.{if-test, if-lt, if-eq}
-use Rattle.choice.proofs.TestsLaws.{choose-t, choose-f}
+use Rattle.choice.proofs.Splitting.{if_test, if_lt, if_eq}
+use Rattle.choice.proofs.TestsLaws.{choose_t, choose_f}
 use Rattle.roster.specs.Bytes.{span, front, rest}
 use Rattle.roster.specs.Search.{has}
 use Rattle.roster.specs.Lines.{newline, Split, led, split, lines_of, line_at, after, through}
 use Rattle.roster.proofs.BytesLaws.{length_none, has→le, has→lt, rest-none, span-nil, span-suc, span-zero}
 
 -- ---- a text by its first line
-abbrev withLine : List ℕ → Split → Split
-withLine l s = record { lines = l ∷ s.lines; unended = s.unended }
+abbrev with_line : List ℕ → Split → Split
+with_line l s = record { lines = l ∷ s.lines; unended = s.unended }
 
-abbrev noLine : List ℕ → Split
-noLine u = record { lines = []; unended = u }
+abbrev no_line : List ℕ → Split
+no_line u = record { lines = []; unended = u }
 
-split-newline : (x : ℕ) (u : List ℕ) → x ≡ newline → split (x ∷ u) ≡ withLine [] (split u)
+split-newline : (x : ℕ) (u : List ℕ) → x ≡ newline → split (x ∷ u) ≡ with_line [] (split u)
 unfolding split
-split-newline x u e = choose-t _ (eq-eqb x newline e) refl
+split-newline x u e = choose_t _ (eq-eqb x newline e) refl
 
 split-byte : (x : ℕ) (u : List ℕ) → (x ≡ newline → ⊥) → split (x ∷ u) ≡ led x (split u).lines (split u).unended
 unfolding split
-split-byte x u n = choose-f _ (ne_eqb x newline n) refl
+split-byte x u n = choose_f _ (ne_eqb x newline n) refl
 
 -- The line of t up to its first newline, and any text u after it.
 split-line : (t u : List ℕ) → span newline t < length t
-    → split (take (suc (span newline t)) t ++ u) ≡ withLine (take (span newline t) t) (split u)
+    → split (take (suc (span newline t)) t ++ u) ≡ with_line (take (span newline t) t) (split u)
 split-line [] u l = absurd (omega (arith, span-nil newline))
 split-line (x ∷ t) u l =
-    if-eq x newline
+    if_eq x newline
     (λ e. subst Line (sym (span-zero newline x t e)) (split-newline x u e))
     (λ n.
     let on = span-suc newline x t n in
@@ -44,23 +44,23 @@ split-line (x ∷ t) u l =
     ∙ begun x (take (span newline t) t) (split u)))
   where
     Line : ℕ → Type 0
-    Line n = split (take (suc n) (x ∷ t) ++ u) ≡ withLine (take n (x ∷ t)) (split u)
+    Line n = split (take (suc n) (x ∷ t) ++ u) ≡ with_line (take n (x ∷ t)) (split u)
 
-    begun : (x : ℕ) (l : List ℕ) (s : Split) → led x (l ∷ s.lines) s.unended ≡ withLine (x ∷ l) s
+    begun : (x : ℕ) (l : List ℕ) (s : Split) → led x (l ∷ s.lines) s.unended ≡ with_line (x ∷ l) s
     begun x l s = unfold led in refl
 
-pub split-ended : (t : List ℕ) → span newline t < length t
+pub split_ended : (t : List ℕ) → span newline t < length t
     → split t ≡ record { lines = front newline t ∷ lines_of (rest newline t); unended = (split (rest newline t)).unended }
 unfolding front rest
-split-ended t l =
+split_ended t l =
     ap split (sym (take-append-drop (suc (span newline t)) t))
     ∙ split-line t (drop (suc (span newline t)) t) l
 
-pub split-unended : (t : List ℕ) → length t ≤ span newline t → split t ≡ noLine t
+pub split-unended : (t : List ℕ) → length t ≤ span newline t → split t ≡ no_line t
 unfolding split led
 split-unended [] l = refl
 split-unended (x ∷ t) l =
-    if-eq x newline
+    if_eq x newline
     (λ e. absurd (omega (arith, span-zero newline x t e)))
     (λ n.
     split-byte x t n
@@ -74,8 +74,8 @@ Whole t = (split t).unended ≡ []
 
 lines_rest : (t : List ℕ) → lines_of (rest newline t) ≡ drop 1 (lines_of t)
 lines_rest t =
-    if-lt (span newline t) (length t)
-    (λ l. sym (ap (λ (s : Split). drop 1 s.lines) (split-ended t l)))
+    if_lt (span newline t) (length t)
+    (λ l. sym (ap (λ (s : Split). drop 1 s.lines) (split_ended t l)))
     (λ l.
     ap lines_of (rest-none newline t l)
     ∙ none
@@ -101,9 +101,9 @@ pub unended-after : (i : ℕ) (t : List ℕ) → i ≤ length (lines_of t) → (
 unfolding after
 unended-after zero t l = refl
 unended-after (suc i) t l =
-    if-lt (span newline t) (length t)
+    if_lt (span newline t) (length t)
     (λ h.
-    let whole = split-ended t h in
+    let whole = split_ended t h in
     unended-after i (rest newline t) (omega (arith, ap (λ (s : Split). length s.lines) whole))
     ∙ sym (ap (λ (s : Split). s.unended) whole))
     (λ h.
@@ -117,24 +117,24 @@ after-suc (suc i) t = after-suc i (rest newline t)
 
 pub has-after : (i : ℕ) (t : List ℕ) → i < length (lines_of t) → has newline (after i t) ≡ true
 has-after i t l =
-    if-test (has newline (after i t))
+    if_test (has newline (after i t))
     (λ h. h)
     (λ h.
     let none = ap (λ (s : Split). length s.lines) (split-unended (after i t) (has→le newline (after i t) h)) in
     absurd (omega (arith, ap length (lines_after i t), length-drop i (lines_of t))))
 
-pub lines-some : (i : ℕ) (t : List ℕ) → has newline (after i t) ≡ true → i < length (lines_of t)
-lines-some i t h =
-    let some = ap (λ (s : Split). length s.lines) (split-ended (after i t) (has→lt newline (after i t) h)) in
+pub lines_some : (i : ℕ) (t : List ℕ) → has newline (after i t) ≡ true → i < length (lines_of t)
+lines_some i t h =
+    let some = ap (λ (s : Split). length s.lines) (split_ended (after i t) (has→lt newline (after i t) h)) in
     omega (arith, ap length (lines_after i t), length-drop i (lines_of t))
 
 pub lines-through : (i : ℕ) (t : List ℕ) → i ≤ length (lines_of t) → lines_of (through i t) ≡ take i (lines_of t)
 unfolding through
 lines-through zero t l = unfold split in refl
 lines-through (suc i) t l =
-    if-lt (span newline t) (length t)
+    if_lt (span newline t) (length t)
     (λ h.
-    let whole = ap (λ (s : Split). s.lines) (split-ended t h) in
+    let whole = ap (λ (s : Split). s.lines) (split_ended t h) in
     ap (λ (s : Split). s.lines) (split-line t (through i (rest newline t)) h)
     ∙ ap (λ (ls : List (List ℕ)). take (span newline t) t ∷ ls)
     (lines-through i (rest newline t) (omega (arith, ap length whole)))
@@ -151,7 +151,7 @@ lines-through (suc i) t l =
 pub lines-append : (t u : List ℕ) → Whole t → lines_of (t ++ u) ≡ lines_of t ++ lines_of u
 lines-append [] u w = unfold split in refl
 lines-append (x ∷ t) u w =
-    if-eq x newline
+    if_eq x newline
     (λ e.
     let here = split-newline x t e in
     ap (λ (s : Split). s.lines) (split-newline x (t ++ u) e)
@@ -215,14 +215,14 @@ module _ {r : List ℕ} (n : ℕ) (t : List ℕ) (whole : after n t ≡ r) where
       one : (i : ℕ) (t : List ℕ) → after i (rest newline t) ≡ after (suc i) t
       one i t = unfold after in refl
 
-  pub after-end : n ≤ 0 → t ≡ r
+  pub after_end : n ≤ 0 → t ≡ r
   unfolding after
-  after-end l =
+  after_end l =
       let none : 0 ≡ n = omega arith in
       ap (λ (k : ℕ). after k t) none ∙ whole
 
-  pub after-empty : length t ≡ 0 → t ≡ r
-  after-empty z =
+  pub after_empty : length t ≡ 0 → t ≡ r
+  after_empty z =
       let none = length_none t (omega arith) in
       none ∙ sym (after-nil n) ∙ ap (after n) (sym none) ∙ whole
 
@@ -235,16 +235,16 @@ first i t =
     ∙ ap (λ (j : ℕ). get_or (lines_of t) j []) there
 
 module _ {u : List ℕ} (i : ℕ) (t : List ℕ) (e : u ≡ after i t) where
-  pub lineAt-ended : has newline u ≡ true → front newline u ≡ line_at i t
+  pub line_at_ended : has newline u ≡ true → front newline u ≡ line_at i t
   unfolding line_at
-  lineAt-ended h =
-      sym (ap (λ (s : Split). get_or s.lines 0 []) (split-ended u (has→lt newline u h)))
+  line_at_ended h =
+      sym (ap (λ (s : Split). get_or s.lines 0 []) (split_ended u (has→lt newline u h)))
       ∙ ap (λ (v : List ℕ). get_or (lines_of v) 0 []) e
       ∙ first i t
 
-  pub lineAt-none : has newline u ≡ false → [] ≡ line_at i t
+  pub line_at-none : has newline u ≡ false → [] ≡ line_at i t
   unfolding line_at
-  lineAt-none h =
+  line_at-none h =
       sym (ap (λ (s : Split). get_or s.lines 0 []) (split-unended u (has→le newline u h)))
       ∙ ap (λ (v : List ℕ). get_or (lines_of v) 0 []) e
       ∙ first i t

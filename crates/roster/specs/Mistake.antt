@@ -1,35 +1,35 @@
 -- What is told of a line that isn't a plant's. RULES, "List of plants".
 --
 --     return           the byte that some systems put before a newline
---     lastByte l       the last byte of the line l; 0, if it has none
+--     last_byte l       the last byte of the line l; 0, if it has none
 --     spaces l         how many spaces l has
---     isLong l         its BOOK or its CHECKPOINT is longer than a plant's may be
---     mistakeIn l      the first mistake in l that has a name, or Form
+--     is_long l         its BOOK or its CHECKPOINT is longer than a plant's may be
+--     mistake_in l      the first mistake in l that has a name, or Form
 --
 -- Laws: proofs/MistakeLaws.antt. Definitions only.
 use Rattle.std.specs.Prelude.{ℕ, suc, ◌-◌, Bool, List, [], ◌∷◌, eqb, ltb, leb, length, get_or}
 use Rattle.choice.specs.Tests.{◌either◌, choose}
 use Rattle.roster.specs.declared.mistake.Mistake.{Mistake}
 use Rattle.roster.specs.declared.mistake.Mistake.TheVariants.{Comment, Return, Space, Long, Form}
-use Rattle.roster.specs.Plants.{longestBookPath, longestCheckpointPath, space, bookOf, checkpointOf, isComment}
+use Rattle.roster.specs.Plants.{longest_book_path, longest_checkpoint_path, space, book_of, checkpoint_of, is_comment}
 
 abbrev pub return : ℕ
 return = 13
 
-abbrev pub lastByte : List ℕ → ℕ
-lastByte l = get_or l (length l - 1) 0
+abbrev pub last_byte : List ℕ → ℕ
+last_byte l = get_or l (length l - 1) 0
 
 unfoldable pub spaces : List ℕ → ℕ
 spaces [] = 0
 spaces (b ∷ l) = choose (eqb b space) (suc (spaces l)) (spaces l)
 
-unfoldable pub isLong : List ℕ → Bool
-isLong l = ltb longestBookPath (length (bookOf l)) either ltb longestCheckpointPath (length (checkpointOf l))
+unfoldable pub is_long : List ℕ → Bool
+is_long l = ltb longest_book_path (length (book_of l)) either ltb longest_checkpoint_path (length (checkpoint_of l))
 
-unfoldable pub mistakeIn : List ℕ → Mistake
-mistakeIn l =
-    choose (isComment l) Comment
-    (choose (eqb (lastByte l) return) Return
+unfoldable pub mistake_in : List ℕ → Mistake
+mistake_in l =
+    choose (is_comment l) Comment
+    (choose (eqb (last_byte l) return) Return
     (choose (leb 2 (spaces l)) Space
-    (choose (isLong l) Long
+    (choose (is_long l) Long
     Form)))

@@ -1,21 +1,21 @@
 -- What makes a list of plants right, and which fault is told. RULES, "List of plants".
 --
---     mostPlants                 16
---     longestBookPath            4,095
---     longestCheckpointPath      4,083
+--     most_plants                 16
+--     longest_book_path            4,095
+--     longest_checkpoint_path      4,083
 --     space                      the byte between BOOK and CHECKPOINT
 --     hash                       the byte `#`
 --     visible w                  every byte of w is above 32
---     isWord m w                 w is a word of at most m bytes
---     bookOf l                   the BOOK that the line l names
---     checkpointOf l             the CHECKPOINT that the line l names
---     isComment l                l begins with `#`
---     isPlant l                  l is a plant's line
---     indexFrom j n w ws         where w first stands in ws, whose first is number j; n, if it doesn't
---     namedBefore cs i l         a line before line i names the CHECKPOINT of l, cs being those of the whole list
---     verdictFrom cs i ls u      what is told of the lines ls, the first of them line i of the list, and of the
+--     is_word m w                 w is a word of at most m bytes
+--     book_of l                   the BOOK that the line l names
+--     checkpoint_of l             the CHECKPOINT that the line l names
+--     is_comment l                l begins with `#`
+--     is_plant l                  l is a plant's line
+--     index_from j n w ws         where w first stands in ws, whose first is number j; n, if it doesn't
+--     named_before cs i l         a line before line i names the CHECKPOINT of l, cs being those of the whole list
+--     verdict_from cs i ls u      what is told of the lines ls, the first of them line i of the list, and of the
 --                                unended u after them, cs being the CHECKPOINTs of the whole list
---     verdictOn t                what is told of the list t
+--     verdict_on t                what is told of the list t
 --
 -- Laws: proofs/PlantsLaws.antt, proofs/VerdictLaws.antt, proofs/ToldLaws.antt. Definitions only.
 use Rattle.std.specs.Prelude.{ℕ, suc, Bool, true, not, List, [], ◌∷◌, map, eqb, ltb, leb, length, get_or}
@@ -25,14 +25,14 @@ use Rattle.roster.specs.declared.plants.Listed.TheVariants.{Plants, Wrong, Again
 use Rattle.roster.specs.Bytes.{front, rest, same}
 use Rattle.roster.specs.Lines.{split, lines_of}
 
-abbrev pub mostPlants : ℕ
-mostPlants = 16
+abbrev pub most_plants : ℕ
+most_plants = 16
 
-abbrev pub longestBookPath : ℕ
-longestBookPath = 4095
+abbrev pub longest_book_path : ℕ
+longest_book_path = 4095
 
-abbrev pub longestCheckpointPath : ℕ
-longestCheckpointPath = 4083
+abbrev pub longest_checkpoint_path : ℕ
+longest_checkpoint_path = 4083
 
 abbrev pub space : ℕ
 space = 32
@@ -44,42 +44,42 @@ unfoldable pub visible : List ℕ → Bool
 visible [] = true
 visible (b ∷ w) = ltb 32 b also visible w
 
-unfoldable pub isWord : ℕ → List ℕ → Bool
-isWord m w = leb 1 (length w) also leb (length w) m also visible w
+unfoldable pub is_word : ℕ → List ℕ → Bool
+is_word m w = leb 1 (length w) also leb (length w) m also visible w
 
-unfoldable pub bookOf : List ℕ → List ℕ
-bookOf l = front space l
+unfoldable pub book_of : List ℕ → List ℕ
+book_of l = front space l
 
-unfoldable pub checkpointOf : List ℕ → List ℕ
-checkpointOf l = rest space l
+unfoldable pub checkpoint_of : List ℕ → List ℕ
+checkpoint_of l = rest space l
 
-unfoldable pub isComment : List ℕ → Bool
-isComment l = eqb (get_or l 0 0) hash
+unfoldable pub is_comment : List ℕ → Bool
+is_comment l = eqb (get_or l 0 0) hash
 
 -- A line with no space names an empty CHECKPOINT, and one with a second space has it in its CHECKPOINT: neither
 -- is a plant's.
-unfoldable pub isPlant : List ℕ → Bool
-isPlant l =
-    isWord longestBookPath (bookOf l)
-    also isWord longestCheckpointPath (checkpointOf l)
-    also not (isComment l)
+unfoldable pub is_plant : List ℕ → Bool
+is_plant l =
+    is_word longest_book_path (book_of l)
+    also is_word longest_checkpoint_path (checkpoint_of l)
+    also not (is_comment l)
 
-unfoldable pub indexFrom : ℕ → ℕ → List ℕ → List (List ℕ) → ℕ
-indexFrom j n w [] = n
-indexFrom j n w (x ∷ ws) = choose (same x w) j (indexFrom (suc j) n w ws)
+unfoldable pub index_from : ℕ → ℕ → List ℕ → List (List ℕ) → ℕ
+index_from j n w [] = n
+index_from j n w (x ∷ ws) = choose (same x w) j (index_from (suc j) n w ws)
 
-unfoldable pub namedBefore : List (List ℕ) → ℕ → List ℕ → Bool
-namedBefore cs i l = ltb (indexFrom 0 i (checkpointOf l) cs) i
+unfoldable pub named_before : List (List ℕ) → ℕ → List ℕ → Bool
+named_before cs i l = ltb (index_from 0 i (checkpoint_of l) cs) i
 
-unfoldable pub verdictFrom : List (List ℕ) → ℕ → List (List ℕ) → List ℕ → Listed
-verdictFrom cs i [] [] = Plants i
-verdictFrom cs i [] (x ∷ u) = choose (ltb i mostPlants) (Wrong i) Many
-verdictFrom cs i (l ∷ ls) u =
-    choose (ltb i mostPlants)
-    (choose (isPlant l)
-    (choose (namedBefore cs i l) (Again i) (verdictFrom cs (suc i) ls u))
+unfoldable pub verdict_from : List (List ℕ) → ℕ → List (List ℕ) → List ℕ → Listed
+verdict_from cs i [] [] = Plants i
+verdict_from cs i [] (x ∷ u) = choose (ltb i most_plants) (Wrong i) Many
+verdict_from cs i (l ∷ ls) u =
+    choose (ltb i most_plants)
+    (choose (is_plant l)
+    (choose (named_before cs i l) (Again i) (verdict_from cs (suc i) ls u))
     (Wrong i))
     Many
 
-unfoldable pub verdictOn : List ℕ → Listed
-verdictOn t = verdictFrom (map checkpointOf (lines_of t)) 0 (lines_of t) (split t).unended
+unfoldable pub verdict_on : List ℕ → Listed
+verdict_on t = verdict_from (map checkpoint_of (lines_of t)) 0 (lines_of t) (split t).unended

@@ -9,11 +9,11 @@ use Rattle.std.specs.Prelude.{ℕ, Bool, List, ltb, length}
 use Rattle.roster.specs.declared.plants.Part.{Part}
 use Rattle.roster.specs.declared.plants.Part.TheVariants.{Line, Checkpoint}
 use Rattle.roster.specs.Bytes.{span}
-use Rattle.roster.specs.Plants.{checkpointOf}
+use Rattle.roster.specs.Plants.{checkpoint_of}
 
 unfoldable pub has : ℕ → List ℕ → Bool
 has b xs = ltb (span b xs) (length xs)
 
 abbrev pub part_of : Part → List ℕ → List ℕ
 part_of Line l = l
-part_of Checkpoint l = checkpointOf l
+part_of Checkpoint l = checkpoint_of l

@@ -1,6 +1,6 @@
 // What is wrong with a line that isn't a plant's.
 ghost use Rattle.std.specs.Prelude.{◌≡◌};
-ghost use Rattle.roster.specs.Mistake.{isLong, mistakeIn};
+ghost use Rattle.roster.specs.Mistake.{is_long, mistake_in};
 
 use crate::{bytes, plants};
 
@@ -22,7 +22,7 @@ const RETURN: u8 = 13;
 
 // The first mistake that a line shows. One that is a plant's may be asked too: it shows none that has a name.
 pub fn find(line: &[u8]) -> Mistake
-    ensures mistake { result ≡ mistakeIn line.now }
+    ensures mistake { result ≡ mistake_in line.now }
 {
     let n = line.len();
     if n == 0 {
@@ -45,7 +45,7 @@ pub fn find(line: &[u8]) -> Mistake
 }
 
 fn is_long(line: &[u8]) -> bool
-    ensures long { result ≡ isLong line.now }
+    ensures long { result ≡ is_long line.now }
 {
     let book = plants::take_book(line);
     let checkpoint = plants::take_checkpoint(line);

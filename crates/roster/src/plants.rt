@@ -1,7 +1,7 @@
 // What a list of plants says, line by line.
 ghost use Rattle.std.specs.Prelude.{◌≡◌, map};
 ghost use Rattle.roster.specs.Lines.{lines_of};
-ghost use Rattle.roster.specs.Plants.{visible, isWord, bookOf, checkpointOf, isComment, isPlant, indexFrom, namedBefore, verdictOn};
+ghost use Rattle.roster.specs.Plants.{visible, is_word, book_of, checkpoint_of, is_comment, is_plant, index_from, named_before, verdict_on};
 ghost use Rattle.roster.specs.Search.{part_of};
 
 use crate::{bytes, lines};
@@ -38,7 +38,7 @@ const HASH: u8 = 35;
 
 // The verdict on a list: how many plants it names, or its first fault.
 pub fn judge(list: &[u8]) -> Listed
-    ensures verdict { result ≡ verdictOn list.now }
+    ensures verdict { result ≡ verdict_on list.now }
 {
     let mut left = list;
     let mut i: u8 = 0;
@@ -65,21 +65,21 @@ pub fn judge(list: &[u8]) -> Listed
 
 // The BOOK that a line names: what stands before its first space.
 pub fn take_book(line: &[u8]) -> &[u8]
-    ensures book { result.now ≡ bookOf line.now }
+    ensures book { result.now ≡ book_of line.now }
 {
     bytes::take_front(line, SPACE)
 }
 
 // The CHECKPOINT that a line names: what stands after its first space.
 pub fn take_checkpoint(line: &[u8]) -> &[u8]
-    ensures checkpoint { result.now ≡ checkpointOf line.now }
+    ensures checkpoint { result.now ≡ checkpoint_of line.now }
 {
     bytes::take_rest(line, SPACE)
 }
 
 // Whether one of the lines before line i names this line's CHECKPOINT.
 fn is_named_before(list: &[u8], i: u8, line: &[u8]) -> bool
-    ensures named { result ≡ namedBefore (map checkpointOf (lines_of list.now)) i line.now }
+    ensures named { result ≡ named_before (map checkpoint_of (lines_of list.now)) i line.now }
 {
     let n = i as usize;
     find(list, Part::Checkpoint, take_checkpoint(line), n) < n
@@ -87,7 +87,7 @@ fn is_named_before(list: &[u8], i: u8, line: &[u8]) -> bool
 
 // The first line of the list whose part is the word, or n if there is none.
 pub(crate) fn find(list: &[u8], part: Part, word: &[u8], n: usize) -> usize
-    ensures index { result ≡ indexFrom 0 n word.now (map (part_of part) (lines_of list.now)) }
+    ensures index { result ≡ index_from 0 n word.now (map (part_of part) (lines_of list.now)) }
 {
     let mut left = list;
     let mut j = 0;
@@ -113,7 +113,7 @@ fn take_part(line: &[u8], part: Part) -> &[u8]
 }
 
 fn is_plant(line: &[u8]) -> bool
-    ensures plant { result ≡ isPlant line.now }
+    ensures plant { result ≡ is_plant line.now }
 {
     let book = is_word(take_book(line), LONGEST_BOOK_PATH);
     let checkpoint = is_word(take_checkpoint(line), LONGEST_CHECKPOINT_PATH);
@@ -123,7 +123,7 @@ fn is_plant(line: &[u8]) -> bool
 
 // Whether a line begins with `#`: whoever wrote it meant no plant.
 pub(crate) fn is_comment(line: &[u8]) -> bool
-    ensures comment { result ≡ isComment line.now }
+    ensures comment { result ≡ is_comment line.now }
 {
     if line.len() == 0 {
         return false;
@@ -132,7 +132,7 @@ pub(crate) fn is_comment(line: &[u8]) -> bool
 }
 
 fn is_word(w: &[u8], most: usize) -> bool
-    ensures word { result ≡ isWord most w.now }
+    ensures word { result ≡ is_word most w.now }
 {
     let n = w.len();
     let visible = is_visible(w);

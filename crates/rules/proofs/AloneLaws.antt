@@ -3,71 +3,71 @@
 use Rattle.std.proofs.Common.{◌≡◌, ℕ, ◌+◌, ◌<◌, ◌≤◌, Bool, true, false, T, eqb, ltb, List, sym, refl, ap, ◌∙◌, subst, ap₂, arith, lit≤, ltb-false, ltb-true, eqb-true}
 use lib.Ieee.{Float}
 use borrow.Author.Tests.{eqb-false}
-use Rattle.choice.proofs.TestsLaws.{if-choose}
-use Rattle.choice.proofs.Splitting.{if-lt}
+use Rattle.choice.proofs.TestsLaws.{if_choose}
+use Rattle.choice.proofs.Splitting.{if_lt}
 use Rattle.mass.specs.declared.hour.Readings.{Readings}
 use Rattle.mass.specs.declared.hour.Hour.{Hour}
 use Rattle.mass.specs.declared.hour.Hour.TheVariants.{Usable, Unusable}
-use Rattle.mass.specs.Hour.{hourOf}
+use Rattle.mass.specs.Hour.{hour_of}
 use Rattle.rules.specs.declared.entry.Entry.{Entry}
 use Rattle.rules.specs.declared.record.Outcome.{Outcome}
 use Rattle.rules.specs.declared.record.Outcome.TheVariants.{SetAside, Counted}
-use Rattle.rules.specs.Fields.{monitored, kind, unitNumber, fuelNumber, fuelled, percentBits, flowBits}
-use Rattle.rules.specs.Method.{methodOf}
-use Rattle.rules.specs.Entry.{heatInUse, fuelEntry, hourEntry, anodesEntry}
-use Rattle.rules.specs.Record.{lastReason, check, fuelForm, hourForm, anodesForm, moistureForm, fuelRanges, hourRange, anodesRanges, fuelJudged, fuelOutcome, hourRead, hourJudged, hourOutcome, anodesOutcome, unfuelledOutcome, outcomeOf}
+use Rattle.rules.specs.Fields.{monitored, kind, unit_number, fuel_number, fuelled, percent_bits, flow_bits}
+use Rattle.rules.specs.Method.{method_of}
+use Rattle.rules.specs.Entry.{heat_in_use, fuel_entry, hour_entry, anodes_entry}
+use Rattle.rules.specs.Record.{last_reason, check, fuel_form, hour_form, anodes_form, moisture_form, fuel_ranges, hour_range, anodes_ranges, fuel_judged, fuel_outcome, hour_read, hour_judged, hour_outcome, anodes_outcome, unfuelled_outcome, outcome_of}
 use Rattle.rules.specs.Reason.{FuelRecord, MonitorHour, Anodes, Listed, Applies}
-use Rattle.rules.proofs.KindLaws.{fuelled-not-hour, fuelled-not-anodes}
-use Rattle.rules.proofs.ListedLaws.{if-listed, Once}
+use Rattle.rules.proofs.KindLaws.{fuelled-not-hour, fuelled-not_anodes}
+use Rattle.rules.proofs.ListedLaws.{if_listed, Once}
 
 pub clash : {t : Bool} → t ≡ true → t ≡ false → ⊥
 clash p q = subst T (sym p ∙ q) tt
 
-ltb-zero : (n : ℕ) → ltb 0 n ≡ false → n ≡ 0
-ltb-zero n e = let none = ltb-false 0 n e in omega arith
+ltb_zero : (n : ℕ) → ltb 0 n ≡ false → n ≡ 0
+ltb_zero n e = let none = ltb-false 0 n e in omega arith
 
 unusable : (r : Readings) (x : Float) → Usable r ≡ Unusable x → ⊥
 unusable r x q = let never : ◌≡◌ {A = ℕ} 0 1 = cc in absurd (omega arith)
 
 -- ---- one record
 module _ (before : List (List ℕ)) (l : List ℕ) (units fuels : List (List ℕ)) where
-  pub applies-within : (k : ℕ) → Applies before l units fuels k → (1 ≤ k) × (k ≤ lastReason)
-  applies-within k (Applies.wrongKind p q r) = (lit≤ tt, lit≤ tt)
-  applies-within k (Applies.wrongFuelForm p t) = (lit≤ tt, lit≤ tt)
-  applies-within k (Applies.wrongHourForm p t) = (lit≤ tt, lit≤ tt)
-  applies-within k (Applies.wrongAnodesForm p t) = (lit≤ tt, lit≤ tt)
-  applies-within k (Applies.wetMoisture u p i t) = (lit≤ tt, lit≤ tt)
-  applies-within k (Applies.noUnit n) = (lit≤ tt, lit≤ tt)
-  applies-within k (Applies.noFuel p n) = (lit≤ tt, lit≤ tt)
-  applies-within k (Applies.fuelOutside f p i t) = (lit≤ tt, lit≤ tt)
-  applies-within k (Applies.hourOutside p t) = (lit≤ tt, lit≤ tt)
-  applies-within k (Applies.readingOutside x p t) = (lit≤ tt, lit≤ tt)
-  applies-within k (Applies.anodesOutside p t) = (lit≤ tt, lit≤ tt)
-  applies-within k (Applies.noMonitor u p i t) = (lit≤ tt, lit≤ tt)
-  applies-within k (Applies.noMethod u f p i j t) = (lit≤ tt, lit≤ tt)
-  applies-within k (Applies.noHeat f p i t) = (lit≤ tt, lit≤ tt)
-  applies-within k (Applies.sentBefore e p i q u w) = (lit≤ tt, lit≤ tt)
+  pub applies_within : (k : ℕ) → Applies before l units fuels k → (1 ≤ k) × (k ≤ last_reason)
+  applies_within k (Applies.wrong_kind p q r) = (lit≤ tt, lit≤ tt)
+  applies_within k (Applies.wrong_fuel_form p t) = (lit≤ tt, lit≤ tt)
+  applies_within k (Applies.wrong_hour_form p t) = (lit≤ tt, lit≤ tt)
+  applies_within k (Applies.wrong_anodes_form p t) = (lit≤ tt, lit≤ tt)
+  applies_within k (Applies.wet_moisture u p i t) = (lit≤ tt, lit≤ tt)
+  applies_within k (Applies.no_unit n) = (lit≤ tt, lit≤ tt)
+  applies_within k (Applies.no_fuel p n) = (lit≤ tt, lit≤ tt)
+  applies_within k (Applies.fuel_outside f p i t) = (lit≤ tt, lit≤ tt)
+  applies_within k (Applies.hour_outside p t) = (lit≤ tt, lit≤ tt)
+  applies_within k (Applies.reading_outside x p t) = (lit≤ tt, lit≤ tt)
+  applies_within k (Applies.anodes_outside p t) = (lit≤ tt, lit≤ tt)
+  applies_within k (Applies.no_monitor u p i t) = (lit≤ tt, lit≤ tt)
+  applies_within k (Applies.no_method u f p i j t) = (lit≤ tt, lit≤ tt)
+  applies_within k (Applies.no_heat f p i t) = (lit≤ tt, lit≤ tt)
+  applies_within k (Applies.sent_before e p i q u w) = (lit≤ tt, lit≤ tt)
 
   -- No reason below k applies.
   abbrev pub Clear : ℕ → Type 0
   Clear k = (j : ℕ) → j < k → Applies before l units fuels j → ⊥
 
-  clear-one : Clear 1
-  clear-one j m a = let least = (applies-within j a).0 in omega arith
+  clear_one : Clear 1
+  clear_one j m a = let least = (applies_within j a).0 in omega arith
 
   pub clear_next : (k : ℕ) → Clear k → (Applies before l units fuels k → ⊥) → Clear (k + 1)
   clear_next k clear not j m a =
-      if-lt j k
+      if_lt j k
       (λ below. clear j below a)
       (λ up. let same : j ≡ k = omega arith in not (subst (Applies before l units fuels) same a))
 
   -- ---- what an outcome says of the reasons below m, and what an entry is made of
   pub record Due (m : ℕ) (e : Entry) : Type 0 where
     pub clear : Clear m
-    pub by-fuel : (u f : List ℕ) → FuelRecord l → Listed (unitNumber l) units u → Listed (fuelNumber l) fuels f
-        → e ≡ fuelEntry l u f
-    pub by-hour : (r : Readings) → MonitorHour l → hourOf (percentBits l) (flowBits l) ≡ Usable r → e ≡ hourEntry l r
-    pub by-anodes : Anodes l → e ≡ anodesEntry l
+    pub by_fuel : (u f : List ℕ) → FuelRecord l → Listed (unit_number l) units u → Listed (fuel_number l) fuels f
+        → e ≡ fuel_entry l u f
+    pub by_hour : (r : Readings) → MonitorHour l → hour_of (percent_bits l) (flow_bits l) ≡ Usable r → e ≡ hour_entry l r
+    pub by_anodes : Anodes l → e ≡ anodes_entry l
 
   abbrev pub Decided : ℕ → Outcome → Type 0
   Decided m (SetAside k) = Applies before l units fuels k × Clear k
@@ -75,215 +75,215 @@ module _ (before : List (List ℕ)) (l : List ℕ) (units fuels : List (List ℕ
 
   -- By the record's own line, every reason but the last.
   abbrev pub Alone : Outcome → Type 0
-  Alone o = Decided lastReason o
+  Alone o = Decided last_reason o
 
   -- A test that fails is a ground for its reason.
   alone_check : (t : Bool) (k : ℕ) (x : Outcome) → (t ≡ false → Applies before l units fuels k) → Clear k
       → (t ≡ true → Alone x) → Alone (check t k x)
   unfolding check
-  alone_check t k x ground clear passed = if-choose Alone t passed (λ failed. (ground failed, clear))
+  alone_check t k x ground clear passed = if_choose Alone t passed (λ failed. (ground failed, clear))
 
-  not-2 : (u : List ℕ) → Listed (unitNumber l) units u → Applies before l units fuels 2 → ⊥
-  not-2 u i (Applies.noUnit n) = n u i
+  not_2 : (u : List ℕ) → Listed (unit_number l) units u → Applies before l units fuels 2 → ⊥
+  not_2 u i (Applies.no_unit n) = n u i
 
   -- ---- a fuel record
   module _ (p : FuelRecord l) (U : Once units) (F : Once fuels) where
-    no-hour : MonitorHour l → ⊥
-    no-hour q = fuelled-not-hour l p q
+    no_hour : MonitorHour l → ⊥
+    no_hour q = fuelled-not-hour l p q
 
-    no-anodes : Anodes l → ⊥
-    no-anodes q = fuelled-not-anodes l p q
+    no_anodes : Anodes l → ⊥
+    no_anodes q = fuelled-not_anodes l p q
 
-    fuel-not-1 : fuelForm l ≡ true → Applies before l units fuels 1 → ⊥
-    fuel-not-1 h (Applies.wrongKind q r s) = q p
-    fuel-not-1 h (Applies.wrongFuelForm q t) = clash h t
-    fuel-not-1 h (Applies.wrongHourForm q t) = no-hour q
-    fuel-not-1 h (Applies.wrongAnodesForm q t) = no-anodes q
-    fuel-not-1 h (Applies.wetMoisture v q a t) = no-hour q
+    fuel-not_1 : fuel_form l ≡ true → Applies before l units fuels 1 → ⊥
+    fuel-not_1 h (Applies.wrong_kind q r s) = q p
+    fuel-not_1 h (Applies.wrong_fuel_form q t) = clash h t
+    fuel-not_1 h (Applies.wrong_hour_form q t) = no_hour q
+    fuel-not_1 h (Applies.wrong_anodes_form q t) = no_anodes q
+    fuel-not_1 h (Applies.wet_moisture v q a t) = no_hour q
 
     -- The unit's line u and the fuel's line f.
-    module _ (u f : List ℕ) (i : Listed (unitNumber l) units u) (j : Listed (fuelNumber l) fuels f) where
-      fuel-not-3 : Applies before l units fuels 3 → ⊥
-      fuel-not-3 (Applies.noFuel q n) = n f j
+    module _ (u f : List ℕ) (i : Listed (unit_number l) units u) (j : Listed (fuel_number l) fuels f) where
+      fuel-not_3 : Applies before l units fuels 3 → ⊥
+      fuel-not_3 (Applies.no_fuel q n) = n f j
 
-      fuel-not-4 : fuelRanges l f ≡ true → Applies before l units fuels 4 → ⊥
-      fuel-not-4 h (Applies.fuelOutside g q b t) = clash h (ap (fuelRanges l) (F _ f g j b) ∙ t)
-      fuel-not-4 h (Applies.hourOutside q t) = no-hour q
-      fuel-not-4 h (Applies.readingOutside x q t) = no-hour q
-      fuel-not-4 h (Applies.anodesOutside q t) = no-anodes q
+      fuel-not_4 : fuel_ranges l f ≡ true → Applies before l units fuels 4 → ⊥
+      fuel-not_4 h (Applies.fuel_outside g q b t) = clash h (ap (fuel_ranges l) (F _ f g j b) ∙ t)
+      fuel-not_4 h (Applies.hour_outside q t) = no_hour q
+      fuel-not_4 h (Applies.reading_outside x q t) = no_hour q
+      fuel-not_4 h (Applies.anodes_outside q t) = no_anodes q
 
-      fuel-not-5 : Applies before l units fuels 5 → ⊥
-      fuel-not-5 (Applies.noMonitor v q a t) = no-hour q
+      fuel-not_5 : Applies before l units fuels 5 → ⊥
+      fuel-not_5 (Applies.no_monitor v q a t) = no_hour q
 
-      fuel-not-6 : 0 < methodOf l u f → Applies before l units fuels 6 → ⊥
-      fuel-not-6 h (Applies.noMethod v g q a b t) =
-          let same : methodOf l u f ≡ methodOf l v g = ap₂ (methodOf l) (U _ u v i a) (F _ f g j b) in
+      fuel-not_6 : 0 < method_of l u f → Applies before l units fuels 6 → ⊥
+      fuel-not_6 h (Applies.no_method v g q a b t) =
+          let same : method_of l u f ≡ method_of l v g = ap₂ (method_of l) (U _ u v i a) (F _ f g j b) in
           omega arith
 
-      fuel-not-7 : 0 < (heatInUse l f).0 → Applies before l units fuels 7 → ⊥
-      fuel-not-7 h (Applies.noHeat g q b t) =
-          let same : (heatInUse l f).0 ≡ (heatInUse l g).0 = ap (λ (y : List ℕ). (heatInUse l y).0) (F _ f g j b) in
+      fuel-not_7 : 0 < (heat_in_use l f).0 → Applies before l units fuels 7 → ⊥
+      fuel-not_7 h (Applies.no_heat g q b t) =
+          let same : (heat_in_use l f).0 ≡ (heat_in_use l g).0 = ap (λ (y : List ℕ). (heat_in_use l y).0) (F _ f g j b) in
           omega arith
 
-      due-fuelEntry : Clear lastReason → Due lastReason (fuelEntry l u f)
-      due-fuelEntry clear = record {
+      due_fuel_entry : Clear last_reason → Due last_reason (fuel_entry l u f)
+      due_fuel_entry clear = record {
         clear = clear;
-        by-fuel = λ v g q a b. ap₂ (fuelEntry l) (U _ u v i a) (F _ f g j b);
-        by-hour = λ r q. absurd (no-hour q);
-        by-anodes = λ q. absurd (no-anodes q);
+        by_fuel = λ v g q a b. ap₂ (fuel_entry l) (U _ u v i a) (F _ f g j b);
+        by_hour = λ r q. absurd (no_hour q);
+        by_anodes = λ q. absurd (no_anodes q);
       }
 
-      alone-fuelJudged : Clear 4 → Alone (fuelJudged l u f)
-      unfolding fuelJudged
-      alone-fuelJudged to-4 =
-          alone_check (fuelRanges l f) 4 _ (λ t. Applies.fuelOutside f p j t) to-4 (λ inside.
-          let to-6 = clear_next 5 (clear_next 4 to-4 (fuel-not-4 inside)) fuel-not-5 in
-          alone_check (ltb 0 (methodOf l u f)) 6 _ (λ t. Applies.noMethod u f p i j (ltb-zero _ t)) to-6 (λ permitted.
-          let to-7 = clear_next 6 to-6 (fuel-not-6 (ltb-true _ _ permitted)) in
-          alone_check (ltb 0 (heatInUse l f).0) 7 _ (λ t. Applies.noHeat f p j (ltb-zero _ t)) to-7 (λ heated.
-          due-fuelEntry (clear_next 7 to-7 (fuel-not-7 (ltb-true _ _ heated))))))
+      alone_fuel_judged : Clear 4 → Alone (fuel_judged l u f)
+      unfolding fuel_judged
+      alone_fuel_judged to-4 =
+          alone_check (fuel_ranges l f) 4 _ (λ t. Applies.fuel_outside f p j t) to-4 (λ inside.
+          let to-6 = clear_next 5 (clear_next 4 to-4 (fuel-not_4 inside)) fuel-not_5 in
+          alone_check (ltb 0 (method_of l u f)) 6 _ (λ t. Applies.no_method u f p i j (ltb_zero _ t)) to-6 (λ permitted.
+          let to-7 = clear_next 6 to-6 (fuel-not_6 (ltb-true _ _ permitted)) in
+          alone_check (ltb 0 (heat_in_use l f).0) 7 _ (λ t. Applies.no_heat f p j (ltb_zero _ t)) to-7 (λ heated.
+          due_fuel_entry (clear_next 7 to-7 (fuel-not_7 (ltb-true _ _ heated))))))
 
-    alone-fuelOutcome : Alone (fuelOutcome l units fuels)
-    unfolding fuelOutcome
-    alone-fuelOutcome =
-        alone_check (fuelForm l) 1 _ (λ t. Applies.wrongFuelForm p t) clear-one (λ formed.
-        let to-2 = clear_next 1 clear-one (fuel-not-1 formed) in
-        if-listed Alone (unitNumber l) 2 units _ (λ n. (Applies.noUnit n, to-2)) (λ u i.
-        let to-3 = clear_next 2 to-2 (not-2 u i) in
-        if-listed Alone (fuelNumber l) 3 fuels _ (λ n. (Applies.noFuel p n, to-3)) (λ f j.
-        alone-fuelJudged u f i j (clear_next 3 to-3 (fuel-not-3 u f i j)))))
+    alone_fuel_outcome : Alone (fuel_outcome l units fuels)
+    unfolding fuel_outcome
+    alone_fuel_outcome =
+        alone_check (fuel_form l) 1 _ (λ t. Applies.wrong_fuel_form p t) clear_one (λ formed.
+        let to-2 = clear_next 1 clear_one (fuel-not_1 formed) in
+        if_listed Alone (unit_number l) 2 units _ (λ n. (Applies.no_unit n, to-2)) (λ u i.
+        let to-3 = clear_next 2 to-2 (not_2 u i) in
+        if_listed Alone (fuel_number l) 3 fuels _ (λ n. (Applies.no_fuel p n, to-3)) (λ f j.
+        alone_fuel_judged u f i j (clear_next 3 to-3 (fuel-not_3 u f i j)))))
 
   -- ---- a record of no fuel
   module _ (no_fuel : FuelRecord l → ⊥) where
-    unfuelled-not-3 : Applies before l units fuels 3 → ⊥
-    unfuelled-not-3 (Applies.noFuel q n) = no_fuel q
+    unfuelled_not_3 : Applies before l units fuels 3 → ⊥
+    unfuelled_not_3 (Applies.no_fuel q n) = no_fuel q
 
-    unfuelled-not-6 : Applies before l units fuels 6 → ⊥
-    unfuelled-not-6 (Applies.noMethod v g q a b t) = no_fuel q
+    unfuelled_not_6 : Applies before l units fuels 6 → ⊥
+    unfuelled_not_6 (Applies.no_method v g q a b t) = no_fuel q
 
-    unfuelled-not-7 : Applies before l units fuels 7 → ⊥
-    unfuelled-not-7 (Applies.noHeat g q b t) = no_fuel q
+    unfuelled_not_7 : Applies before l units fuels 7 → ⊥
+    unfuelled_not_7 (Applies.no_heat g q b t) = no_fuel q
 
     -- Reasons 6 and 7 are of fuel alone.
-    clear-last : Clear 6 → Clear lastReason
-    clear-last to-6 = clear_next 7 (clear_next 6 to-6 unfuelled-not-6) unfuelled-not-7
+    clear_last : Clear 6 → Clear last_reason
+    clear_last to-6 = clear_next 7 (clear_next 6 to-6 unfuelled_not_6) unfuelled_not_7
 
   -- ---- a monitor hour
   module _ (p : MonitorHour l) (U : Once units) where
-    hour-no-fuel : FuelRecord l → ⊥
-    hour-no-fuel q = fuelled-not-hour l q p
+    hour_no_fuel : FuelRecord l → ⊥
+    hour_no_fuel q = fuelled-not-hour l q p
 
-    hour-no-anodes : Anodes l → ⊥
-    hour-no-anodes q = absurd (omega arith)
+    hour_no_anodes : Anodes l → ⊥
+    hour_no_anodes q = absurd (omega arith)
 
     -- Where the form is right, reason 1 has no ground but moisture that a line of the unit doesn't permit.
-    hour-not-1 : hourForm l ≡ true → ((u : List ℕ) → Listed (unitNumber l) units u → moistureForm l u ≡ true)
+    hour-not_1 : hour_form l ≡ true → ((u : List ℕ) → Listed (unit_number l) units u → moisture_form l u ≡ true)
         → Applies before l units fuels 1 → ⊥
-    hour-not-1 h m (Applies.wrongKind q r s) = r p
-    hour-not-1 h m (Applies.wrongFuelForm q t) = hour-no-fuel q
-    hour-not-1 h m (Applies.wrongHourForm q t) = clash h t
-    hour-not-1 h m (Applies.wrongAnodesForm q t) = hour-no-anodes q
-    hour-not-1 h m (Applies.wetMoisture v q a t) = clash (m v a) t
+    hour-not_1 h m (Applies.wrong_kind q r s) = r p
+    hour-not_1 h m (Applies.wrong_fuel_form q t) = hour_no_fuel q
+    hour-not_1 h m (Applies.wrong_hour_form q t) = clash h t
+    hour-not_1 h m (Applies.wrong_anodes_form q t) = hour_no_anodes q
+    hour-not_1 h m (Applies.wet_moisture v q a t) = clash (m v a) t
 
     -- The unit's line u.
-    module _ (u : List ℕ) (i : Listed (unitNumber l) units u) where
-      hour-not-4 : (r : Readings) → hourRange l ≡ true → hourOf (percentBits l) (flowBits l) ≡ Usable r
+    module _ (u : List ℕ) (i : Listed (unit_number l) units u) where
+      hour-not_4 : (r : Readings) → hour_range l ≡ true → hour_of (percent_bits l) (flow_bits l) ≡ Usable r
           → Applies before l units fuels 4 → ⊥
-      hour-not-4 r h e (Applies.fuelOutside g q b t) = hour-no-fuel q
-      hour-not-4 r h e (Applies.hourOutside q t) = clash h t
-      hour-not-4 r h e (Applies.readingOutside x q t) = unusable r x (sym e ∙ t)
-      hour-not-4 r h e (Applies.anodesOutside q t) = hour-no-anodes q
+      hour-not_4 r h e (Applies.fuel_outside g q b t) = hour_no_fuel q
+      hour-not_4 r h e (Applies.hour_outside q t) = clash h t
+      hour-not_4 r h e (Applies.reading_outside x q t) = unusable r x (sym e ∙ t)
+      hour-not_4 r h e (Applies.anodes_outside q t) = hour_no_anodes q
 
-      hour-not-5 : monitored u ≡ true → Applies before l units fuels 5 → ⊥
-      hour-not-5 h (Applies.noMonitor v q a t) = clash h (ap monitored (U _ u v i a) ∙ t)
+      hour-not_5 : monitored u ≡ true → Applies before l units fuels 5 → ⊥
+      hour-not_5 h (Applies.no_monitor v q a t) = clash h (ap monitored (U _ u v i a) ∙ t)
 
-      due-hourEntry : (r : Readings) → hourOf (percentBits l) (flowBits l) ≡ Usable r → Clear 6 → Due lastReason (hourEntry l r)
-      due-hourEntry r e to-6 = record {
-        clear = clear-last hour-no-fuel to-6;
-        by-fuel = λ v g q. absurd (hour-no-fuel q);
-        by-hour = λ x q h. let same : Usable r ≡ Usable x = sym e ∙ h in ap (hourEntry l) cc;
-        by-anodes = λ q. absurd (hour-no-anodes q);
+      due_hour_entry : (r : Readings) → hour_of (percent_bits l) (flow_bits l) ≡ Usable r → Clear 6 → Due last_reason (hour_entry l r)
+      due_hour_entry r e to-6 = record {
+        clear = clear_last hour_no_fuel to-6;
+        by_fuel = λ v g q. absurd (hour_no_fuel q);
+        by_hour = λ x q h. let same : Usable r ≡ Usable x = sym e ∙ h in ap (hour_entry l) cc;
+        by_anodes = λ q. absurd (hour_no_anodes q);
       }
 
-      alone-hourRead : (x : Hour) → hourOf (percentBits l) (flowBits l) ≡ x → hourRange l ≡ true → Clear 4
-          → Alone (hourRead l u x)
-      unfolding hourRead
-      alone-hourRead (Usable r) e inside to-4 =
-          let to-5 = clear_next 4 to-4 (hour-not-4 r inside e) in
-          alone_check (monitored u) 5 _ (λ t. Applies.noMonitor u p i t) to-5 (λ measured.
-          due-hourEntry r e (clear_next 5 to-5 (hour-not-5 measured)))
-      alone-hourRead (Unusable x) e inside to-4 = (Applies.readingOutside x p e, to-4)
+      alone_hour_read : (x : Hour) → hour_of (percent_bits l) (flow_bits l) ≡ x → hour_range l ≡ true → Clear 4
+          → Alone (hour_read l u x)
+      unfolding hour_read
+      alone_hour_read (Usable r) e inside to-4 =
+          let to-5 = clear_next 4 to-4 (hour-not_4 r inside e) in
+          alone_check (monitored u) 5 _ (λ t. Applies.no_monitor u p i t) to-5 (λ measured.
+          due_hour_entry r e (clear_next 5 to-5 (hour-not_5 measured)))
+      alone_hour_read (Unusable x) e inside to-4 = (Applies.reading_outside x p e, to-4)
 
       -- The unit has no other line.
-      moistureForm-once : moistureForm l u ≡ true → (v : List ℕ) → Listed (unitNumber l) units v
-          → moistureForm l v ≡ true
-      moistureForm-once told v a = ap (moistureForm l) (sym (U _ u v i a)) ∙ told
+      moisture_form_once : moisture_form l u ≡ true → (v : List ℕ) → Listed (unit_number l) units v
+          → moisture_form l v ≡ true
+      moisture_form_once told v a = ap (moisture_form l) (sym (U _ u v i a)) ∙ told
 
-      alone-hourJudged : hourForm l ≡ true → Alone (hourJudged l u)
-      unfolding hourJudged
-      alone-hourJudged formed =
-          alone_check (moistureForm l u) 1 _ (λ t. Applies.wetMoisture u p i t) clear-one (λ told.
-          let to-2 = clear_next 1 clear-one (hour-not-1 formed (moistureForm-once told)) in
-          let to-4 = clear_next 3 (clear_next 2 to-2 (not-2 u i)) (unfuelled-not-3 hour-no-fuel) in
-          alone_check (hourRange l) 4 _ (λ t. Applies.hourOutside p t) to-4 (λ inside.
-          alone-hourRead _ refl inside to-4))
+      alone_hour_judged : hour_form l ≡ true → Alone (hour_judged l u)
+      unfolding hour_judged
+      alone_hour_judged formed =
+          alone_check (moisture_form l u) 1 _ (λ t. Applies.wet_moisture u p i t) clear_one (λ told.
+          let to-2 = clear_next 1 clear_one (hour-not_1 formed (moisture_form_once told)) in
+          let to-4 = clear_next 3 (clear_next 2 to-2 (not_2 u i)) (unfuelled_not_3 hour_no_fuel) in
+          alone_check (hour_range l) 4 _ (λ t. Applies.hour_outside p t) to-4 (λ inside.
+          alone_hour_read _ refl inside to-4))
 
-    alone-hourOutcome : Alone (hourOutcome l units)
-    unfolding hourOutcome
-    alone-hourOutcome =
-        alone_check (hourForm l) 1 _ (λ t. Applies.wrongHourForm p t) clear-one (λ formed.
-        if-listed Alone (unitNumber l) 2 units _
-        (λ n. (Applies.noUnit n, clear_next 1 clear-one (hour-not-1 formed (λ v a. absurd (n v a)))))
-        (λ u i. alone-hourJudged u i formed))
+    alone_hour_outcome : Alone (hour_outcome l units)
+    unfolding hour_outcome
+    alone_hour_outcome =
+        alone_check (hour_form l) 1 _ (λ t. Applies.wrong_hour_form p t) clear_one (λ formed.
+        if_listed Alone (unit_number l) 2 units _
+        (λ n. (Applies.no_unit n, clear_next 1 clear_one (hour-not_1 formed (λ v a. absurd (n v a)))))
+        (λ u i. alone_hour_judged u i formed))
 
   -- ---- anodes
   module _ (p : Anodes l) where
-    anodes-no-fuel : FuelRecord l → ⊥
-    anodes-no-fuel q = fuelled-not-anodes l q p
+    anodes_no_fuel : FuelRecord l → ⊥
+    anodes_no_fuel q = fuelled-not_anodes l q p
 
-    anodes-no-hour : MonitorHour l → ⊥
-    anodes-no-hour q = absurd (omega arith)
+    anodes_no_hour : MonitorHour l → ⊥
+    anodes_no_hour q = absurd (omega arith)
 
-    anodes-not-1 : anodesForm l ≡ true → Applies before l units fuels 1 → ⊥
-    anodes-not-1 h (Applies.wrongKind q r s) = s p
-    anodes-not-1 h (Applies.wrongFuelForm q t) = anodes-no-fuel q
-    anodes-not-1 h (Applies.wrongHourForm q t) = anodes-no-hour q
-    anodes-not-1 h (Applies.wrongAnodesForm q t) = clash h t
-    anodes-not-1 h (Applies.wetMoisture v q a t) = anodes-no-hour q
+    anodes_not_1 : anodes_form l ≡ true → Applies before l units fuels 1 → ⊥
+    anodes_not_1 h (Applies.wrong_kind q r s) = s p
+    anodes_not_1 h (Applies.wrong_fuel_form q t) = anodes_no_fuel q
+    anodes_not_1 h (Applies.wrong_hour_form q t) = anodes_no_hour q
+    anodes_not_1 h (Applies.wrong_anodes_form q t) = clash h t
+    anodes_not_1 h (Applies.wet_moisture v q a t) = anodes_no_hour q
 
-    anodes-not-4 : anodesRanges l ≡ true → Applies before l units fuels 4 → ⊥
-    anodes-not-4 h (Applies.fuelOutside g q b t) = anodes-no-fuel q
-    anodes-not-4 h (Applies.hourOutside q t) = anodes-no-hour q
-    anodes-not-4 h (Applies.readingOutside x q t) = anodes-no-hour q
-    anodes-not-4 h (Applies.anodesOutside q t) = clash h t
+    anodes_not_4 : anodes_ranges l ≡ true → Applies before l units fuels 4 → ⊥
+    anodes_not_4 h (Applies.fuel_outside g q b t) = anodes_no_fuel q
+    anodes_not_4 h (Applies.hour_outside q t) = anodes_no_hour q
+    anodes_not_4 h (Applies.reading_outside x q t) = anodes_no_hour q
+    anodes_not_4 h (Applies.anodes_outside q t) = clash h t
 
-    anodes-not-5 : Applies before l units fuels 5 → ⊥
-    anodes-not-5 (Applies.noMonitor v q a t) = anodes-no-hour q
+    anodes_not_5 : Applies before l units fuels 5 → ⊥
+    anodes_not_5 (Applies.no_monitor v q a t) = anodes_no_hour q
 
-    due-anodesEntry : Clear 6 → Due lastReason (anodesEntry l)
-    due-anodesEntry to-6 = record {
-      clear = clear-last anodes-no-fuel to-6;
-      by-fuel = λ v g q. absurd (anodes-no-fuel q);
-      by-hour = λ r q. absurd (anodes-no-hour q);
-      by-anodes = λ q. refl;
+    due_anodes_entry : Clear 6 → Due last_reason (anodes_entry l)
+    due_anodes_entry to-6 = record {
+      clear = clear_last anodes_no_fuel to-6;
+      by_fuel = λ v g q. absurd (anodes_no_fuel q);
+      by_hour = λ r q. absurd (anodes_no_hour q);
+      by_anodes = λ q. refl;
     }
 
-    alone-anodesOutcome : Alone (anodesOutcome l units)
-    unfolding anodesOutcome
-    alone-anodesOutcome =
-        alone_check (anodesForm l) 1 _ (λ t. Applies.wrongAnodesForm p t) clear-one (λ formed.
-        let to-2 = clear_next 1 clear-one (anodes-not-1 formed) in
-        if-listed Alone (unitNumber l) 2 units _ (λ n. (Applies.noUnit n, to-2)) (λ u i.
-        let to-4 = clear_next 3 (clear_next 2 to-2 (not-2 u i)) (unfuelled-not-3 anodes-no-fuel) in
-        alone_check (anodesRanges l) 4 _ (λ t. Applies.anodesOutside p t) to-4 (λ inside.
-        due-anodesEntry (clear_next 5 (clear_next 4 to-4 (anodes-not-4 inside)) anodes-not-5))))
+    alone_anodes_outcome : Alone (anodes_outcome l units)
+    unfolding anodes_outcome
+    alone_anodes_outcome =
+        alone_check (anodes_form l) 1 _ (λ t. Applies.wrong_anodes_form p t) clear_one (λ formed.
+        let to-2 = clear_next 1 clear_one (anodes_not_1 formed) in
+        if_listed Alone (unit_number l) 2 units _ (λ n. (Applies.no_unit n, to-2)) (λ u i.
+        let to-4 = clear_next 3 (clear_next 2 to-2 (not_2 u i)) (unfuelled_not_3 anodes_no_fuel) in
+        alone_check (anodes_ranges l) 4 _ (λ t. Applies.anodes_outside p t) to-4 (λ inside.
+        due_anodes_entry (clear_next 5 (clear_next 4 to-4 (anodes_not_4 inside)) anodes_not_5))))
 
   -- ---- any record, by itself
-  pub alone-outcomeOf : Once units → Once fuels → Alone (outcomeOf l units fuels)
-  unfolding outcomeOf unfuelledOutcome
-  alone-outcomeOf U F =
-      if-choose Alone (fuelled l) (λ fuel. alone-fuelOutcome fuel U F) (λ no_fuel.
-      if-choose Alone (eqb (kind l) 2) (λ hour. alone-hourOutcome (eqb-true _ _ hour) U) (λ no-hour.
+  pub alone_outcome_of : Once units → Once fuels → Alone (outcome_of l units fuels)
+  unfolding outcome_of unfuelled_outcome
+  alone_outcome_of U F =
+      if_choose Alone (fuelled l) (λ fuel. alone_fuel_outcome fuel U F) (λ no_fuel.
+      if_choose Alone (eqb (kind l) 2) (λ hour. alone_hour_outcome (eqb-true _ _ hour) U) (λ no_hour.
       alone_check (eqb (kind l) 4) 1 _
-      (λ t. Applies.wrongKind (λ q. clash q no_fuel) (eqb-false _ _ no-hour) (eqb-false _ _ t)) clear-one
-      (λ used. alone-anodesOutcome (eqb-true _ _ used))))
+      (λ t. Applies.wrong_kind (λ q. clash q no_fuel) (eqb-false _ _ no_hour) (eqb-false _ _ t)) clear_one
+      (λ used. alone_anodes_outcome (eqb-true _ _ used))))

@@ -2,18 +2,18 @@
 -- other, with the same head but for the set, and what is seen of each record is the same in both. Assumes nothing.
 use Rattle.std.proofs.Common.{◌≡◌, ℕ, zero, suc, ◌+◌, ◌-◌, ◌*◌, ◌/◌, ◌%◌, ◌<◌, ◌≤◌, min, true, eqb, ltb, leb, List, [], ◌∷◌, ◌++◌, length, drop, sym, refl, ap, ◌∙◌, ap₂, arith, lit≤, length-drop, length-take, ext_get_or, le-ltb, le-leb}
 use Rattle.choice.specs.Tests.{◌also◌, choose}
-use Rattle.choice.proofs.TestsLaws.{also-t, also-l, also-r, choose-f}
-use Rattle.choice.proofs.Splitting.{if-lt}
+use Rattle.choice.proofs.TestsLaws.{also_t, also_l, also_r, choose_f}
+use Rattle.choice.proofs.Splitting.{if_lt}
 use Rattle.rules.specs.declared.book.Head.{Head}
 use Rattle.rules.specs.declared.record.Outcome.{Outcome}
-use Rattle.rules.specs.Bytes.{byte, word, part, lines, linesIn}
-use Rattle.rules.specs.Fields.{unitStart, fuelStart, year, warmingSetAt, warmingSet}
-use Rattle.rules.specs.Book.{longestBook, lengthOk, startsOk, trailerOk, unitOk, fuelOk, linesSound, trailer, head_of, unitLines, fuelLines, Answer, accepted, opened, SetApart}
-use Rattle.rules.specs.Record.{outcomeAfter, outcomeAt}
-use Rattle.rules.specs.Reader.{shown, missing, sightBy, sightAt}
+use Rattle.rules.specs.Bytes.{byte, word, part, lines, lines_in}
+use Rattle.rules.specs.Fields.{unit_start, fuel_start, year, warming_set_at, warming_set}
+use Rattle.rules.specs.Book.{longest_book, length_ok, starts_ok, trailer_ok, unit_ok, fuel_ok, lines_sound, trailer, head_of, unit_lines, fuel_lines, Answer, accepted, opened, SetApart}
+use Rattle.rules.specs.Record.{outcome_after, outcome_at}
+use Rattle.rules.specs.Reader.{shown, missing, sight_by, sight_at}
 use Rattle.rules.proofs.BytesLaws.{word_same, byte-part, lines-suc}
 use Rattle.rules.proofs.NumberLaws.{opened-accepted}
-use Rattle.rules.proofs.BookLaws.{accepted-facts}
+use Rattle.rules.proofs.BookLaws.{accepted_facts}
 
 -- The same head, but with the set w.
 abbrev pub naming : ℕ → Head → Head
@@ -47,93 +47,93 @@ module _ {s s' : List ℕ} (apart : SetApart s s') where
     byte-trailer t e i l =
         byte-part (length t - 32) (length t) t i (omega arith) ∙ ap (λ (n : ℕ). byte t (n - 32 + i)) (sym e)
 
-    byte-apart : (i : ℕ) → i < 32 → (i ≡ warmingSetAt → ⊥) → byte (trailer s') i ≡ byte (trailer s) i
+    byte-apart : (i : ℕ) → i < 32 → (i ≡ warming_set_at → ⊥) → byte (trailer s') i ≡ byte (trailer s) i
     byte-apart i l other =
         byte-trailer s' apart.lengths i l
         ∙ sym (apart.others (length s - 32 + i) (λ q. other (omega arith)))
         ∙ sym (byte-trailer s refl i l)
 
     -- A field that ends before the set, or begins behind it.
-    word-apart : (k n : ℕ) → k + n ≤ 32 → (k ≤ warmingSetAt → k + n ≤ warmingSetAt) → word (trailer s') k n ≡ word (trailer s) k n
+    word-apart : (k n : ℕ) → k + n ≤ 32 → (k ≤ warming_set_at → k + n ≤ warming_set_at) → word (trailer s') k n ≡ word (trailer s) k n
     word-apart k n l other = word_same (trailer s') (trailer s) k n (λ i h m.
         byte-apart i (omega arith) (λ q. let ends = other (omega arith) in omega arith))
 
-    units-apart : unitStart (trailer s') ≡ unitStart (trailer s)
+    units-apart : unit_start (trailer s') ≡ unit_start (trailer s)
     units-apart = word-apart 8 4 (lit≤ tt) (λ l. lit≤ tt)
 
-    fuels-apart : fuelStart (trailer s') ≡ fuelStart (trailer s)
-    fuels-apart = word-apart 12 4 (lit≤ tt) (λ l. lit≤ tt)
+    fuels_apart : fuel_start (trailer s') ≡ fuel_start (trailer s)
+    fuels_apart = word-apart 12 4 (lit≤ tt) (λ l. lit≤ tt)
 
     year-apart : year (trailer s') ≡ year (trailer s)
     year-apart = word-apart 16 2 (lit≤ tt) (λ l. lit≤ tt)
 
-    headOf-apart : head_of s' ≡ naming (warmingSet (trailer s')) (head_of s)
+    head_of-apart : head_of s' ≡ naming (warming_set (trailer s')) (head_of s)
     unfolding head_of
-    headOf-apart i = record {
+    head_of-apart i = record {
       n = units-apart i / 32;
       units = units-apart i;
-      fuels = fuels-apart i;
+      fuels = fuels_apart i;
       year = year-apart i;
       length = sym apart.lengths i;
-      warming = warmingSet (trailer s');
+      warming = warming_set (trailer s');
     }
 
-    trailerOk-apart : trailerOk (trailer s) (length s - 32) ≡ true → warmingSet (trailer s') ≤ 1
-        → trailerOk (trailer s') (length s' - 32) ≡ true
-    unfolding trailerOk
-    trailerOk-apart right set =
+    trailer_ok-apart : trailer_ok (trailer s) (length s - 32) ≡ true → warming_set (trailer s') ≤ 1
+        → trailer_ok (trailer s') (length s' - 32) ≡ true
+    unfolding trailer_ok
+    trailer_ok-apart right set =
         let signed = word-apart 0 4 (lit≤ tt) (λ l. lit≤ tt) in
         let version = word-apart 4 2 (lit≤ tt) (λ l. lit≤ tt) in
         let gap = word-apart 6 2 (lit≤ tt) (λ l. lit≤ tt) in
         let year-gap = word-apart 18 2 (lit≤ tt) (λ l. lit≤ tt) in
         let blank = word-apart 21 11 (lit≤ tt) (λ l. omega arith) in
-        also-t
-        (also-t
+        also_t
+        (also_t
         ((λ i.
         eqb (signed i) 0x42435453 also eqb (version i) 1 also eqb (gap i) 0
-        also startsOk (units-apart i) (fuels-apart i) (sym apart.lengths i - 32)
+        also starts_ok (units-apart i) (fuels_apart i) (sym apart.lengths i - 32)
         also leb 2000 (year-apart i) also leb (year-apart i) 2099 also eqb (year-gap i) 0)
-        ∙ also-l _ _ (also-l _ _ right))
+        ∙ also_l _ _ (also_l _ _ right))
         (le-leb _ _ set))
-        ((λ i. eqb (blank i) 0) ∙ also-r _ _ right)
+        ((λ i. eqb (blank i) 0) ∙ also_r _ _ right)
 
   -- ---- the book
   module _ {h : Head} (e : opened s ≡ accepted h) where
     abbrev set' : ℕ
-    set' = warmingSet (trailer s')
+    set' = warming_set (trailer s')
 
     pub opened-apart : set' ≤ 1 → opened s' ≡ accepted (naming set' h)
-    unfolding lengthOk head_of
+    unfolding length_ok head_of
     opened-apart named =
-        let known = accepted-facts s h e in
+        let known = accepted_facts s h e in
         let passed = (opened-accepted s h).0 e in
         let head : head_of s' ≡ naming set' h =
-        headOf-apart known.least ∙ ap (naming set') (sym passed.4) in
+        head_of-apart known.least ∙ ap (naming set') (sym passed.4) in
         let units = part_apart h.units h.fuels (omega arith) in
         let fuels = part_apart h.fuels (h.length - 32) (omega arith) in
         (opened-accepted s' (naming set' h)).1 (
-          (λ i. let n = sym apart.lengths i in leb 32 n also leb n longestBook also eqb (n % 32) 0) ∙ passed.0,
-          trailerOk-apart known.least passed.1 named,
-          ap (λ (g : Head). linesSound unitOk (unitLines g s')) head ∙ ap (linesSound unitOk) units ∙ known.units-sound,
-          ap (λ (g : Head). linesSound fuelOk (fuelLines g s')) head ∙ ap (linesSound fuelOk) fuels ∙ known.fuels-sound,
+          (λ i. let n = sym apart.lengths i in leb 32 n also leb n longest_book also eqb (n % 32) 0) ∙ passed.0,
+          trailer_ok-apart known.least passed.1 named,
+          ap (λ (g : Head). lines_sound unit_ok (unit_lines g s')) head ∙ ap (lines_sound unit_ok) units ∙ known.units_sound,
+          ap (λ (g : Head). lines_sound fuel_ok (fuel_lines g s')) head ∙ ap (lines_sound fuel_ok) fuels ∙ known.fuels_sound,
           sym head,
         )
 
-    pub outcomeAt-apart : (w i : ℕ) → i < h.n → outcomeAt (naming w h) s' i ≡ outcomeAt h s i
-    unfolding outcomeAt
-    outcomeAt-apart w i l =
-        let known = accepted-facts s h e in
+    pub outcome_at-apart : (w i : ℕ) → i < h.n → outcome_at (naming w h) s' i ≡ outcome_at h s i
+    unfolding outcome_at
+    outcome_at-apart w i l =
+        let known = accepted_facts s h e in
         let before = lines-apart i (omega arith) in
         let record-line = part_apart (32 * i) (32 * i + 32) (omega arith) in
         let units = part_apart h.units h.fuels (omega arith) in
         let fuels = part_apart h.fuels (h.length - 32) (omega arith) in
-        λ j. outcomeAfter (before j) (record-line j) (linesIn (units j)) (linesIn (fuels j))
+        λ j. outcome_after (before j) (record-line j) (lines_in (units j)) (lines_in (fuels j))
 
-    pub sightAt-apart : set' ≤ 1 → (i : ℕ) → sightAt s' i ≡ sightAt s i
-    unfolding sightAt sightBy
-    sightAt-apart named i =
-        ap (λ (a : Answer). sightBy a s' i) (opened-apart named)
-        ∙ if-lt i h.n
-        (λ l. ap (λ (o : Outcome). choose (ltb i h.n) (shown o) missing) (outcomeAt-apart set' i l))
-        (λ l. choose-f _ (le-ltb i h.n l) (sym (choose-f _ (le-ltb i h.n l) refl)))
-        ∙ sym (ap (λ (a : Answer). sightBy a s i) e)
+    pub sight_at-apart : set' ≤ 1 → (i : ℕ) → sight_at s' i ≡ sight_at s i
+    unfolding sight_at sight_by
+    sight_at-apart named i =
+        ap (λ (a : Answer). sight_by a s' i) (opened-apart named)
+        ∙ if_lt i h.n
+        (λ l. ap (λ (o : Outcome). choose (ltb i h.n) (shown o) missing) (outcome_at-apart set' i l))
+        (λ l. choose_f _ (le-ltb i h.n l) (sym (choose_f _ (le-ltb i h.n l) refl)))
+        ∙ sym (ap (λ (a : Answer). sight_by a s i) e)

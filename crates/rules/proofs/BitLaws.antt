@@ -4,8 +4,8 @@ use native.Mathlib.Nat.{div-eq_of_lt, zero-div}
 use lib.Bits.{bit_and, bit_or, and_mask, or_shr, or_step}
 use lib.Pow.{shl-shr, pow-lt}
 use lib.Seq.{set_out}
-use Rattle.choice.proofs.Splitting.{if-eq, if-lt}
-use Rattle.rules.specs.Table.{rowWords, withMark}
+use Rattle.choice.proofs.Splitting.{if_eq, if_lt}
+use Rattle.rules.specs.Table.{row_words, with_mark}
 use Rattle.rules.specs.Marks.{bit_at, marked}
 
 -- No bit of the code's mask is shifted out.
@@ -16,13 +16,13 @@ pub bit_at_lt : (v j : ℕ) → bit_at v j < 2
 unfolding bit_at
 bit_at_lt v j = omega arith
 
-pub bitAt-and : (v j : ℕ) → bit_and (v / 2 ^ j) 1 ≡ bit_at v j
+pub bit_at-and : (v j : ℕ) → bit_and (v / 2 ^ j) 1 ≡ bit_at v j
 unfolding bit_at
-bitAt-and v j = and_mask (v / 2 ^ j) 1
+bit_at-and v j = and_mask (v / 2 ^ j) 1
 
-pub bitAt-or : (a b j : ℕ) → bit_at (bit_or a b) j ≡ max (bit_at a j) (bit_at b j)
+pub bit_at-or : (a b j : ℕ) → bit_at (bit_or a b) j ≡ max (bit_at a j) (bit_at b j)
 unfolding bit_at
-bitAt-or a b j =
+bit_at-or a b j =
     ap (λ (x : ℕ). x % 2) (or_shr a b j)
     ∙ digit (a / 2 ^ j) (b / 2 ^ j)
   where
@@ -34,13 +34,13 @@ bitAt-or a b j =
         let small = max-digit (x % 2) (y % 2) (omega arith) (omega arith) in
         omega (arith, or_step x y)
 
-pub bitAt-pow-same : (j : ℕ) → bit_at (2 ^ j) j ≡ 1
+pub bit_at-pow-same : (j : ℕ) → bit_at (2 ^ j) j ≡ 1
 unfolding bit_at
-bitAt-pow-same j = ap (λ (x : ℕ). x / 2 ^ j % 2) (sym (one-mul (2 ^ j))) ∙ ap (λ (x : ℕ). x % 2) (shl-shr 1 j)
+bit_at-pow-same j = ap (λ (x : ℕ). x / 2 ^ j % 2) (sym (one-mul (2 ^ j))) ∙ ap (λ (x : ℕ). x % 2) (shl-shr 1 j)
 
-pub bitAt-pow-other : (i j : ℕ) → (i ≡ j → ⊥) → bit_at (2 ^ j) i ≡ 0
+pub bit_at-pow_other : (i j : ℕ) → (i ≡ j → ⊥) → bit_at (2 ^ j) i ≡ 0
 unfolding bit_at
-bitAt-pow-other i j d = if-lt i j below (λ h. above (omega arith))
+bit_at-pow_other i j d = if_lt i j below (λ h. above (omega arith))
   where
     -- What is left of the power is even.
     below : i < j → 2 ^ j / 2 ^ i % 2 ≡ 0
@@ -56,49 +56,49 @@ bitAt-pow-other i j d = if-lt i j below (λ h. above (omega arith))
     above h = ap (λ (x : ℕ). x % 2) (div-eq_of_lt (pow-lt h))
 
 -- ---- one bit of a word set
-pub bitAt-set-same : (v j : ℕ) → bit_at (bit_or v (2 ^ j)) j ≡ 1
-bitAt-set-same v j = omega (arith, bitAt-or v (2 ^ j) j, bitAt-pow-same j, bit_at_lt v j)
+pub bit_at-set-same : (v j : ℕ) → bit_at (bit_or v (2 ^ j)) j ≡ 1
+bit_at-set-same v j = omega (arith, bit_at-or v (2 ^ j) j, bit_at-pow-same j, bit_at_lt v j)
 
-pub bitAt-set-other : (v i j : ℕ) → (i ≡ j → ⊥) → bit_at (bit_or v (2 ^ j)) i ≡ bit_at v i
-bitAt-set-other v i j d = omega (arith, bitAt-or v (2 ^ j) i, bitAt-pow-other i j d)
+pub bit_at-set_other : (v i j : ℕ) → (i ≡ j → ⊥) → bit_at (bit_or v (2 ^ j)) i ≡ bit_at v i
+bit_at-set_other v i j d = omega (arith, bit_at-or v (2 ^ j) i, bit_at-pow_other i j d)
 
-pub bitAt-zero : (j : ℕ) → bit_at 0 j ≡ 0
+pub bit_at-zero : (j : ℕ) → bit_at 0 j ≡ 0
 unfolding bit_at
-bitAt-zero j = ap (λ (x : ℕ). x % 2) (zero-div (2 ^ j))
+bit_at-zero j = ap (λ (x : ℕ). x % 2) (zero-div (2 ^ j))
 
 -- ---- one bit of a table set
 -- A row ends where the next begins, so that a word and its bit tell row and bit.
-apart : (j c i d : ℕ) → c < 8832 → d < 8832 → rowWords * j + c / 64 ≡ rowWords * i + d / 64 → c % 64 ≡ d % 64
+apart : (j c i d : ℕ) → c < 8832 → d < 8832 → row_words * j + c / 64 ≡ row_words * i + d / 64 → c % 64 ≡ d % 64
     → (j ≡ i) × (c ≡ d)
 apart j c i d h l word bit = (omega arith, omega arith)
 
 module _ (t : List ℕ) (j c : ℕ) where
-  pub length-withMark : length (withMark t j c) ≡ length t
-  unfolding withMark
-  length-withMark = simp length-set
+  pub length-with_mark : length (with_mark t j c) ≡ length t
+  unfolding with_mark
+  length-with_mark = simp length-set
 
-  pub marked-same : rowWords * j + c / 64 < length t → marked (withMark t j c) j c ≡ true
-  unfolding marked withMark
+  pub marked-same : row_words * j + c / 64 < length t → marked (with_mark t j c) j c ≡ true
+  unfolding marked with_mark
   marked-same h =
       eq-eqb _ 1
-      (ap (λ (v : ℕ). bit_at v (c % 64)) (get_or-set_same t (rowWords * j + c / 64) _ 0 h)
-      ∙ bitAt-set-same (get_or t (rowWords * j + c / 64) 0) (c % 64))
+      (ap (λ (v : ℕ). bit_at v (c % 64)) (get_or-set_same t (row_words * j + c / 64) _ 0 h)
+      ∙ bit_at-set-same (get_or t (row_words * j + c / 64) 0) (c % 64))
 
-  pub marked_other : (i d : ℕ) → c < 8832 → d < 8832 → ((i ≡ j) → (d ≡ c) → ⊥) → marked (withMark t j c) i d ≡ marked t i d
-  unfolding marked withMark
+  pub marked_other : (i d : ℕ) → c < 8832 → d < 8832 → ((i ≡ j) → (d ≡ c) → ⊥) → marked (with_mark t j c) i d ≡ marked t i d
+  unfolding marked with_mark
   marked_other i d h l other =
       ap (λ (b : ℕ). eqb b 1)
-      (kept (rowWords * j + c / 64) (c % 64) (rowWords * i + d / 64) (d % 64)
+      (kept (row_words * j + c / 64) (c % 64) (row_words * i + d / 64) (d % 64)
       (λ word bit. let same = apart i d j c l h word bit in other same.0 same.1))
     where
       kept : (w b v a : ℕ) → ((v ≡ w) → (a ≡ b) → ⊥)
           → bit_at (get_or (set t w (bit_or (get_or t w 0) (2 ^ b))) v 0) a ≡ bit_at (get_or t v 0) a
       kept w b v a other =
-          if-eq v w
-          (λ e. if-lt w (length t)
+          if_eq v w
+          (λ e. if_lt w (length t)
           (λ h. ap (λ (x : ℕ). bit_at (get_or (set t w (bit_or (get_or t w 0) (2 ^ b))) x 0) a) e
           ∙ ap (λ (x : ℕ). bit_at x a) (get_or-set_same t w _ 0 h)
-          ∙ bitAt-set-other (get_or t w 0) a b (other e)
+          ∙ bit_at-set_other (get_or t w 0) a b (other e)
           ∙ ap (λ (x : ℕ). bit_at (get_or t x 0) a) (sym e))
           (λ h. ap (λ (l : List ℕ). bit_at (get_or l v 0) a) (set_out t w _ h)))
           (λ e. ap (λ (x : ℕ). bit_at x a) (get_or-set_other t w v _ 0 e))

@@ -5,8 +5,8 @@ use native.Mathlib.Nat.{sub-zero, div-div-eq-div-mul, pow-succ', pow-le-pow_righ
 use lib.Bits.{bit_or, or_add_and, and_le_l, and_le_r}
 use lib.ListN.{get_or-eq_default}
 use Rattle.choice.specs.Tests.{◌also◌}
-use Rattle.choice.proofs.Splitting.{if-eq, if-lt}
-use Rattle.choice.proofs.TestsLaws.{also-t, also-f, also-pass, also-fail}
+use Rattle.choice.proofs.Splitting.{if_eq, if_lt}
+use Rattle.choice.proofs.TestsLaws.{also_t, also_f, also_pass, also_fail}
 use Rattle.rules.specs.Bytes.{byte, word, part, zeros, bytes_of, line, lines}
 
 -- ---- reading a word from its last byte down
@@ -55,9 +55,9 @@ pub word-suc : (l : List ℕ) (k n : ℕ) → word l k (suc n) ≡ byte l k + 25
 unfolding word
 word-suc l k n = refl
 
-pub word-one : (l : List ℕ) (k : ℕ) → word l k 1 ≡ byte l k
+pub word_one : (l : List ℕ) (k : ℕ) → word l k 1 ≡ byte l k
 unfolding word
-word-one l k = omega arith
+word_one l k = omega arith
 
 pub word_same : (l m : List ℕ) (k n : ℕ) → ((i : ℕ) → k ≤ i → i < k + n → byte l i ≡ byte m i) → word l k n ≡ word m k n
 unfolding word
@@ -77,7 +77,7 @@ byte-part a e s i l = get_or-take (e - a) (drop a s) i 0 (omega arith) ∙ get_o
 
 pub byte-part-lt : (a e : ℕ) (s : List ℕ) → ((i : ℕ) → byte s i < 256) → (i : ℕ) → byte (part a e s) i < 256
 byte-part-lt a e s small i =
-    if-lt (a + i) e
+    if_lt (a + i) e
     (λ within. omega (arith, byte-part a e s i within, small (a + i)))
     (λ past.
     let short : length (part a e s) ≤ i = omega (arith, length-take (e - a) (drop a s)) in
@@ -118,54 +118,54 @@ pub bytes_of_suc : (n v : ℕ) → bytes_of (suc n) v ≡ v % 256 ∷ bytes_of n
 unfolding bytes_of
 bytes_of_suc n v = refl
 
-pub length-bytesOf : (n v : ℕ) → length (bytes_of n v) ≡ n
+pub length-bytes_of : (n v : ℕ) → length (bytes_of n v) ≡ n
 unfolding bytes_of
-length-bytesOf zero v = refl
-length-bytesOf (suc n) v = ap suc (length-bytesOf n (v / 256))
+length-bytes_of zero v = refl
+length-bytes_of (suc n) v = ap suc (length-bytes_of n (v / 256))
 
-pub byte-bytesOf : (n v i : ℕ) → i < n → byte (bytes_of n v) i ≡ v / 256 ^ i % 256
+pub byte-bytes_of : (n v i : ℕ) → i < n → byte (bytes_of n v) i ≡ v / 256 ^ i % 256
 unfolding bytes_of
-byte-bytesOf zero v i h = omega arith
-byte-bytesOf (suc n) v zero h = ap (λ (m : ℕ). m % 256) (sym (div-one v))
-byte-bytesOf (suc n) v (suc i) h =
-    byte-bytesOf n (v / 256) i (le_of_suc-le-suc h)
+byte-bytes_of zero v i h = omega arith
+byte-bytes_of (suc n) v zero h = ap (λ (m : ℕ). m % 256) (sym (div-one v))
+byte-bytes_of (suc n) v (suc i) h =
+    byte-bytes_of n (v / 256) i (le_of_suc-le-suc h)
     ∙ ap (λ (m : ℕ). m % 256) (div-div-eq-div-mul v 256 (256 ^ i))
     ∙ ap (λ (m : ℕ). v / m % 256) (sym (pow-succ' 256 i))
 
-pub word-bytesOf : (n v : ℕ) → v < 256 ^ n → word (bytes_of n v) 0 n ≡ v
+pub word-bytes_of : (n v : ℕ) → v < 256 ^ n → word (bytes_of n v) 0 n ≡ v
 unfolding bytes_of
-word-bytesOf zero v h = word-zero _ 0 ∙ omega arith
-word-bytesOf (suc n) v h =
+word-bytes_of zero v h = word-zero _ 0 ∙ omega arith
+word-bytes_of (suc n) v h =
     word-suc _ 0 n
     ∙ ap (λ (w : ℕ). v % 256 + 256 * w) (word-cons (v % 256) (bytes_of n (v / 256)) 0 n)
-    ∙ omega (arith, word-bytesOf n (v / 256) (omega arith))
+    ∙ omega (arith, word-bytes_of n (v / 256) (omega arith))
 
 -- A number of m bytes and one of n behind it are one number.
-pub bytesOf-add : (m n a b : ℕ) → a < 256 ^ m → bytes_of (m + n) (a + 256 ^ m * b) ≡ bytes_of m a ++ bytes_of n b
+pub bytes_of-add : (m n a b : ℕ) → a < 256 ^ m → bytes_of (m + n) (a + 256 ^ m * b) ≡ bytes_of m a ++ bytes_of n b
 unfolding bytes_of
-bytesOf-add zero n a b l =
+bytes_of-add zero n a b l =
     let alone : 0 + n ≡ n = omega arith in
     let high : a + 256 ^ 0 * b ≡ b = omega arith in
     ap₂ bytes_of alone high
-bytesOf-add (suc m) n a b l =
+bytes_of-add (suc m) n a b l =
     let longer : suc m + n ≡ suc (m + n) = omega arith in
     let wider = pow-succ' 256 m in
     let whole : a + 256 ^ suc m * b ≡ a + 256 * (256 ^ m * b) = rw wider (ap (λ (v : ℕ). a + v) (mul_assoc 256 (256 ^ m) b)) in
     let low : (a + 256 * (256 ^ m * b)) % 256 ≡ a % 256 = omega arith in
     let high : (a + 256 * (256 ^ m * b)) / 256 ≡ a / 256 + 256 ^ m * b = omega arith in
     ap₂ bytes_of longer whole
-    ∙ ap₂ ◌∷◌ low (ap (bytes_of (m + n)) high ∙ bytesOf-add m n (a / 256) b (omega arith))
+    ∙ ap₂ ◌∷◌ low (ap (bytes_of (m + n)) high ∙ bytes_of-add m n (a / 256) b (omega arith))
 
-pub bytesOf-word : (c : List ℕ) (k n : ℕ) → ((i : ℕ) → byte c i < 256) → k + n ≤ length c
+pub bytes_of-word : (c : List ℕ) (k n : ℕ) → ((i : ℕ) → byte c i < 256) → k + n ≤ length c
     → bytes_of n (word c k n) ≡ take n (drop k c)
 unfolding bytes_of
-bytesOf-word c k zero b l = refl
-bytesOf-word c k (suc n) b l =
+bytes_of-word c k zero b l = refl
+bytes_of-word c k (suc n) b l =
     let low : word c k (suc n) % 256 ≡ byte c k = omega (arith, word-suc c k n, b k) in
     let high : word c k (suc n) / 256 ≡ word c (k + 1) n = omega (arith, word-suc c k n, b k) in
     let next : suc k ≡ k + 1 = omega arith in
     let here = drop-cons c k 0 (omega arith) ∙ ap (λ (j : ℕ). byte c k ∷ drop j c) next in
-    ap₂ ◌∷◌ low (ap (bytes_of n) high ∙ bytesOf-word c (k + 1) n b (omega arith))
+    ap₂ ◌∷◌ low (ap (bytes_of n) high ∙ bytes_of-word c (k + 1) n b (omega arith))
     ∙ ap (take (suc n)) (sym here)
 
 -- ---- words by their parts
@@ -187,14 +187,14 @@ word-add l k (suc m) n =
     one_more m = omega arith
 
 -- The w bytes from k on are m, and n from j on.
-pub word-parts : (l : List ℕ) (k m j n w : ℕ) → k + m ≡ j → m + n ≡ w → word l k w ≡ word l k m + 256 ^ m * word l j n
-word-parts l k m j n w p q =
+pub word_parts : (l : List ℕ) (k m j n w : ℕ) → k + m ≡ j → m + n ≡ w → word l k w ≡ word l k m + 256 ^ m * word l j n
+word_parts l k m j n w p q =
     ap (word l k) (sym q) ∙ word-add l k m n ∙ ap (λ (i : ℕ). word l k m + 256 ^ m * word l i n) p
 
 -- Twice as many bytes are a low half and a high half.
-pub word-halves : (l : List ℕ) (k n low high : ℕ) → low ≡ word l k n → high ≡ word l (k + n) n → low < 256 ^ n → high < 256 ^ n
+pub word_halves : (l : List ℕ) (k n low high : ℕ) → low ≡ word l k n → high ≡ word l (k + n) n → low < 256 ^ n → high < 256 ^ n
     → (low + 256 ^ n * high ≡ word l k (n + n)) × (low + 256 ^ n * high < 256 ^ (n + n))
-word-halves l k n low high p q h j =
+word_halves l k n low high p q h j =
     let rises = mul-le-mul_left (256 ^ n) j in
     ((λ i. p i + 256 ^ n * q i) ∙ sym (word-add l k n n), omega (arith, mul-suc (256 ^ n) high, pow-add 256 n n))
 
@@ -208,11 +208,11 @@ word_width l k m n v e h = subst (λ (w : ℕ). (v ≡ word l k w) × (v < 256 ^
 both_zero : (low high whole : ℕ) → (low ≡ 0 → high ≡ 0 → whole ≡ 0) → (whole ≡ 0 → (low ≡ 0) × (high ≡ 0))
     → eqb whole 0 ≡ (eqb low 0 also eqb high 0)
 both_zero low high whole join part =
-    if-eq low 0
-    (λ z. if-eq high 0
-    (λ y. eq-eqb whole 0 (join z y) ∙ sym (also-t (eq-eqb low 0 z) (eq-eqb high 0 y)))
-    (λ y. ne_eqb whole 0 (λ w. y (part w).1) ∙ sym (also-t (eq-eqb low 0 z) (ne_eqb high 0 y))))
-    (λ z. ne_eqb whole 0 (λ w. z (part w).0) ∙ sym (also-f (eqb high 0) (ne_eqb low 0 z)))
+    if_eq low 0
+    (λ z. if_eq high 0
+    (λ y. eq-eqb whole 0 (join z y) ∙ sym (also_t (eq-eqb low 0 z) (eq-eqb high 0 y)))
+    (λ y. ne_eqb whole 0 (λ w. y (part w).1) ∙ sym (also_t (eq-eqb low 0 z) (ne_eqb high 0 y))))
+    (λ z. ne_eqb whole 0 (λ w. z (part w).0) ∙ sym (also_f (eqb high 0) (ne_eqb low 0 z)))
 
 -- The bits of two words together are 0 exactly if both words are.
 pub zero_or : (a b : ℕ) → eqb (bit_or a b) 0 ≡ (eqb a 0 also eqb b 0)
@@ -226,7 +226,7 @@ zero_or a b =
 pub zeros-split : (l : List ℕ) (k m j n w : ℕ) → k + m ≡ j → m + n ≡ w
     → zeros l k w ≡ (zeros l k m also zeros l j n)
 zeros-split l k m j n w p q =
-    let sum = word-parts l k m j n w p q in
+    let sum = word_parts l k m j n w p q in
     let above : 1 ≤ 256 ^ m = pow-le-pow_right {n = 256} (lit< tt) {i = 0} {j = m} zero-le in
     let rises = mul-le-mul_right (word l j n) above in
     both_zero (word l k m) (word l j n) (word l k w)
@@ -238,16 +238,16 @@ zeros-split l k m j n w p q =
 pub word_wide : (P : ℕ → Bool) (l : List ℕ) (k m j n w : ℕ) → k + m ≡ j → m + n ≡ w
     → ((x : ℕ) → 256 ^ m ≤ x → P x ≡ false) → P (word l k w) ≡ (P (word l k m) also zeros l j n)
 word_wide P l k m j n w p q past =
-    let sum = word-parts l k m j n w p q in
-    if-eq (word l j n) 0
+    let sum = word_parts l k m j n w p q in
+    if_eq (word l j n) 0
     (λ z.
     let none = ap (λ (x : ℕ). 256 ^ m * x) z ∙ mul-zero (256 ^ m) in
     let same : word l k w ≡ word l k m = omega arith in
-    ap P same ∙ sym (also-pass (P (word l k m)) (eq-eqb (word l j n) 0 z)))
+    ap P same ∙ sym (also_pass (P (word l k m)) (eq-eqb (word l j n) 0 z)))
     (λ z.
     let some : 1 ≤ word l j n = omega arith in
     let rises = mul-le-mul_left (256 ^ m) some in
-    past (word l k w) (omega arith) ∙ sym (also-fail (P (word l k m)) (ne_eqb (word l j n) 0 z)))
+    past (word l k w) (omega arith) ∙ sym (also_fail (P (word l k m)) (ne_eqb (word l j n) 0 z)))
 
 -- ---- lines
 pub line-take : (k : ℕ) (s : List ℕ) → line k s ≡ take 32 (drop (32 * k) s)

@@ -7,18 +7,18 @@ use Rattle.mass.specs.declared.Ng.{Ng}
 use Rattle.mass.specs.declared.hour.Readings.{Readings}
 use Rattle.mass.specs.declared.hour.Hour.{Hour}
 use Rattle.mass.specs.declared.hour.Hour.TheVariants.{Usable}
-use Rattle.mass.specs.Hour.{readingsOf, roundedProduct, hourMass}
+use Rattle.mass.specs.Hour.{readings_of, rounded_product, hour_mass}
 use Rattle.mass.specs.Ledger.{tonne}
-use Rattle.mass.specs.Figures.{decisive, mustReport}
+use Rattle.mass.specs.Figures.{decisive, must_report}
 use Rattle.mass.proofs.Cases as mass
 use Rattle.rules.specs.declared.entry.Destination.TheVariants.{Fossil}
 use Rattle.rules.specs.declared.record.Outcome.{Outcome}
 use Rattle.rules.specs.declared.record.Outcome.TheVariants.{SetAside, Counted}
 use Rattle.rules.specs.Bytes.{word, bytes_of}
 use Rattle.rules.specs.Fields.{moisture}
-use Rattle.rules.specs.Method.{methodOf}
-use Rattle.rules.specs.Entry.{measuredHeat, heatInUse, co2ByCarbon, co2By, destinationBy, entryBy, fuelEntry, co2Alone, hourEntry}
-use Rattle.rules.specs.Record.{check, listed, carbonForm, fuelForm, hourForm, moistureForm, heatLimit, heatRange, carbonLimit, carbonRange, fuelRanges, hourRange, fuelJudged, fuelOutcome, hourRead, hourJudged, hourOutcome, unfuelledOutcome, outcomeOf}
+use Rattle.rules.specs.Method.{method_of}
+use Rattle.rules.specs.Entry.{measured_heat, heat_in_use, co2_by_carbon, co2_by, destination_by, entry_by, fuel_entry, co2_alone, hour_entry}
+use Rattle.rules.specs.Record.{check, listed, carbon_form, fuel_form, hour_form, moisture_form, heat_limit, heat_range, carbon_limit, carbon_range, fuel_ranges, hour_range, fuel_judged, fuel_outcome, hour_read, hour_judged, hour_outcome, unfuelled_outcome, outcome_of}
 
 -- ---- lines
 -- a unit line by its flags and rating
@@ -36,7 +36,7 @@ fuel class =
 -- measured heat and carbon
 abbrev pub burned : ℕ → ℕ → ℕ → ℕ → ℕ → Outcome
 burned rating class flags heat carbon =
-    outcomeOf
+    outcome_of
     (1 ∷ flags ∷ bytes_of 2 1 ++ bytes_of 2 1 ++ bytes_of 2 6
     ++ bytes_of 4 1000 ++ bytes_of 4 heat ++ bytes_of 4 carbon ++ replicate 12 0)
     (unit 0 rating ∷ [])
@@ -45,7 +45,7 @@ burned rating class flags heat carbon =
 -- an hour of unit 1, which has a monitor, by its two bit patterns
 abbrev pub measured : ℕ → ℕ → Outcome
 measured percent flow =
-    outcomeOf (2 ∷ 0 ∷ bytes_of 2 1 ++ bytes_of 2 0 ++ bytes_of 2 1 ++ bytes_of 4 percent ++ bytes_of 4 flow ++ replicate 16 0)
+    outcome_of (2 ∷ 0 ∷ bytes_of 2 1 ++ bytes_of 2 0 ++ bytes_of 2 1 ++ bytes_of 4 percent ++ bytes_of 4 flow ++ replicate 16 0)
     (unit 1 2500 ∷ [])
     (fuel 1 ∷ [])
 
@@ -72,15 +72,15 @@ pub record WorkedSums : Type 0 where
   pub p7 : measured 0x4148_0000 0x49F4_2400 ≡ counted 0 12950000000000 0 0
   -- 0.25 and 0.25
   pub p8 : measured 0x3E80_0000 0x3E80_0000 ≡ counted 0 32116 0 0
-  pub p8-R : roundedProduct 1000 (readingsOf 0x3E80_0000 0x3E80_0000) ≡ 62
+  pub p8_R : rounded_product 1000 (readings_of 0x3E80_0000 0x3E80_0000) ≡ 62
   -- 0.75 and 0.25
   pub p9 : measured 0x3F40_0000 0x3E80_0000 ≡ counted 0 97384 0 0
-  pub p9-R : roundedProduct 1000 (readingsOf 0x3F40_0000 0x3E80_0000) ≡ 188
+  pub p9_R : rounded_product 1000 (readings_of 0x3F40_0000 0x3E80_0000) ≡ 188
   -- the CO2 equivalent, and the biomass CO2 in it
-  pub p10 : mustReport (10000 * tonne) 0 ≡ true
-  pub p11 : mustReport (24999 * tonne) (16000 * tonne) ≡ false
-  pub p11-left : decisive (24999 * tonne) (16000 * tonne) ≡ 9999 * tonne
-  pub p12 : mustReport (25000 * tonne) (16000 * tonne) ≡ true
+  pub p10 : must_report (10000 * tonne) 0 ≡ true
+  pub p11 : must_report (24999 * tonne) (16000 * tonne) ≡ false
+  pub p11_left : decisive (24999 * tonne) (16000 * tonne) ≡ 9999 * tonne
+  pub p12 : must_report (25000 * tonne) (16000 * tonne) ≡ true
 
 -- An entry by its masses, and an hour by its readings.
 fuelled : {m co2 ch4 n2o : ℕ} {x : Ug} {y z : Ng} → x ≡ record { 0 = co2 } → y ≡ record { 0 = ch4 } → z ≡ record { 0 = n2o }
@@ -88,31 +88,31 @@ fuelled : {m co2 ch4 n2o : ℕ} {x : Ug} {y z : Ng} → x ≡ record { 0 = co2 }
 fuelled {m} p q r = λ i. Counted (record { method = m; destination = Fossil; co2 = p i; ch4 = q i; n2o = r i })
 
 metered : (l : List ℕ) {x : Hour} {r : Readings} {co2 : ℕ} → x ≡ Usable r
-    → hourMass (record { 0 = moisture l }) r ≡ record { 0 = co2 } → hourRead l (unit 1 2500) x ≡ counted 0 co2 0 0
-unfolding bytes_of hourRead hourEntry co2Alone check
+    → hour_mass (record { 0 = moisture l }) r ≡ record { 0 = co2 } → hour_read l (unit 1 2500) x ≡ counted 0 co2 0 0
+unfolding bytes_of hour_read hour_entry co2_alone check
 metered l usable weighed =
-    ap (hourRead l (unit 1 2500)) usable ∙ choose-true _ _ ∙ fuelled weighed refl refl
+    ap (hour_read l (unit 1 2500)) usable ∙ choose-true _ _ ∙ fuelled weighed refl refl
 
-pub worked-sums : WorkedSums
+pub worked_sums : WorkedSums
 unfolding
-    outcomeOf unfuelledOutcome check listed word bytes_of
-    fuelOutcome carbonForm fuelForm fuelRanges heatRange heatLimit carbonRange carbonLimit fuelJudged methodOf fuelEntry
-    destinationBy co2ByCarbon co2By entryBy heatInUse measuredHeat
-    hourOutcome hourForm moistureForm hourRange hourJudged
-worked-sums = record {
-  p1 = simp worked-out (fuelled mass.p1-co2 mass.p1-ch4 mass.p1-n2o);
-  p2 = simp worked-out (fuelled mass.p2-co2 mass.p2-ch4 mass.p2-n2o);
-  p3 = simp worked-out (fuelled mass.p3-co2 mass.p1-ch4 mass.p1-n2o);
+    outcome_of unfuelled_outcome check listed word bytes_of
+    fuel_outcome carbon_form fuel_form fuel_ranges heat_range heat_limit carbon_range carbon_limit fuel_judged method_of fuel_entry
+    destination_by co2_by_carbon co2_by entry_by heat_in_use measured_heat
+    hour_outcome hour_form moisture_form hour_range hour_judged
+worked_sums = record {
+  p1 = simp worked-out (fuelled mass.p1_co2 mass.p1_ch4 mass.p1_n2o);
+  p2 = simp worked-out (fuelled mass.p2_co2 mass.p2_ch4 mass.p2_n2o);
+  p3 = simp worked-out (fuelled mass.p3_co2 mass.p1_ch4 mass.p1_n2o);
   p4 = simp worked-out;
-  p5 = simp worked-out (fuelled mass.p2-co2 mass.p2-ch4 mass.p2-n2o);
+  p5 = simp worked-out (fuelled mass.p2_co2 mass.p2_ch4 mass.p2_n2o);
   p6 = simp worked-out;
-  p7 = simp worked-out (metered _ mass.p7-usable mass.p7-mass);
-  p8 = simp worked-out (metered _ mass.p8-usable mass.p8-mass);
-  p8-R = mass.p8-rounded;
-  p9 = simp worked-out (metered _ mass.p9-usable mass.p9-mass);
-  p9-R = mass.p9-rounded;
-  p10 = mass.p10-reports;
-  p11 = mass.p11-reports;
-  p11-left = mass.p11-decisive;
-  p12 = mass.p12-reports;
+  p7 = simp worked-out (metered _ mass.p7_usable mass.p7_mass);
+  p8 = simp worked-out (metered _ mass.p8_usable mass.p8_mass);
+  p8_R = mass.p8_rounded;
+  p9 = simp worked-out (metered _ mass.p9_usable mass.p9_mass);
+  p9_R = mass.p9_rounded;
+  p10 = mass.p10_reports;
+  p11 = mass.p11_reports;
+  p11_left = mass.p11_decisive;
+  p12 = mass.p12_reports;
 }

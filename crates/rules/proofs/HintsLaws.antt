@@ -2,7 +2,7 @@
 use Rattle.std.proofs.Common.{◌≡◌, ℕ, zero, suc, ◌+◌, ◌/◌, ◌%◌, List, length, set, sym, refl, ap, ◌∙◌, ap₂, add-one, length-set}
 use Rattle.rules.specs.Bytes.{line}
 use Rattle.rules.specs.Fields.{number}
-use Rattle.rules.specs.Hints.{hinted, hintsIn}
+use Rattle.rules.specs.Hints.{hinted, hints_in}
 
 pub length-hinted : (n : ℕ) (s t : List ℕ) → length (hinted n s t) ≡ length t
 unfolding hinted
@@ -13,12 +13,12 @@ pub hinted-zero : (s t : List ℕ) → t ≡ hinted 0 s t
 unfolding hinted
 hinted-zero s t = refl
 
-pub hinted-next : (n : ℕ) (s t : List ℕ) {x : ℕ} {l : List ℕ} → x ≡ number (line n s) % 1024 → l ≡ hinted n s t
+pub hinted_next : (n : ℕ) (s t : List ℕ) {x : ℕ} {l : List ℕ} → x ≡ number (line n s) % 1024 → l ≡ hinted n s t
     → set l x n ≡ hinted (n + 1) s t
 unfolding hinted
-hinted-next n s t e q =
+hinted_next n s t e q =
     ap₂ (λ (l : List ℕ) (x : ℕ). set l x n) q e ∙ ap (λ (m : ℕ). hinted m s t) (sym (add-one n))
 
-pub hintsIn-all : (n : ℕ) (s t : List ℕ) → n ≡ length s / 32 → hinted n s t ≡ hintsIn s t
-unfolding hintsIn
-hintsIn-all n s t e = ap (λ (m : ℕ). hinted m s t) e
+pub hints_in-all : (n : ℕ) (s t : List ℕ) → n ≡ length s / 32 → hinted n s t ≡ hints_in s t
+unfolding hints_in
+hints_in-all n s t e = ap (λ (m : ℕ). hinted m s t) e

@@ -4,41 +4,41 @@ use Rattle.std.proofs.Common.{◌≡◌, ℕ, ◌+◌, ◌*◌, ◌/◌, ◌%◌
 use lib.ListN.{length-replicate, get_or-replicate}
 use lib.Seq.{set_out}
 use Rattle.choice.specs.Tests.{choose}
-use Rattle.choice.proofs.Splitting.{if-lt, if-eq}
-use Rattle.choice.proofs.TestsLaws.{choose-t, choose-f, if-choose}
+use Rattle.choice.proofs.Splitting.{if_lt, if_eq}
+use Rattle.choice.proofs.TestsLaws.{choose_t, choose_f, if_choose}
 use Rattle.rules.specs.Bytes.{byte, line}
 use Rattle.rules.specs.Fields.{number}
-use Rattle.rules.specs.Record.{carbonLimit}
-use Rattle.rules.specs.Index.{noNumber, columnOf, way_of, moistBelow, largeFlags, allowedFlags, volumeOf, Column, UnitsNoted, FuelsNoted, Small}
+use Rattle.rules.specs.Record.{carbon_limit}
+use Rattle.rules.specs.Index.{no_number, column_of, way_of, moist_below, large_flags, allowed_flags, volume_of, Column, UnitsNoted, FuelsNoted, Small}
 use Rattle.rules.proofs.BytesLaws.{word-two-lt, byte-part-lt}
 
 -- ---- what an index answers
 module _ {v : List ℕ → ℕ} {s t : List ℕ} {o n j : ℕ} (column : Column v s o n t) (low : j < 64) where
-  pub column-at : j < n → get_or t (o + j) 0 ≡ v (line j s)
-  column-at there = column.entry j low ∙ choose-t noNumber (lt-ltb j n there) refl
+  pub column_at : j < n → get_or t (o + j) 0 ≡ v (line j s)
+  column_at there = column.entry j low ∙ choose_t no_number (lt-ltb j n there) refl
 
-  pub column-past : n ≤ j → get_or t (o + j) 0 ≡ noNumber
-  column-past past = column.entry j low ∙ choose-f (v (line j s)) (le-ltb j n past) refl
+  pub column_past : n ≤ j → get_or t (o + j) 0 ≡ no_number
+  column_past past = column.entry j low ∙ choose_f (v (line j s)) (le-ltb j n past) refl
 
   -- What bounds each line's entry, and that of no line, bounds them all.
-  pub column-le : (y : ℕ) → noNumber ≤ y → ((k : ℕ) → v (line k s) ≤ y) → get_or t (o + j) 0 ≤ y
-  column-le y none each =
+  pub column_le : (y : ℕ) → no_number ≤ y → ((k : ℕ) → v (line k s) ≤ y) → get_or t (o + j) 0 ≤ y
+  column_le y none each =
       le_trans
       (le_of_eq (column.entry j low))
-      (if-choose (λ (x : ℕ). x ≤ y) (ltb j n) (λ there. each j) (λ past. none))
+      (if_choose (λ (x : ℕ). x ≤ y) (ltb j n) (λ there. each j) (λ past. none))
 
 -- A number that stands in the column of the numbers is that of the line in its place.
-pub column-found : {s t : List ℕ} {n j x : ℕ} → Column number s 0 n t → j < 64 → get_or t j 0 ≡ x → x < 65536
+pub column_found : {s t : List ℕ} {n j x : ℕ} → Column number s 0 n t → j < 64 → get_or t j 0 ≡ x → x < 65536
     → (j < n) × (number (line j s) ≡ x)
-column-found {s} {t} {n} {j} {x} column low is_x small =
+column_found {s} {t} {n} {j} {x} column low is_x small =
     let here : get_or t (0 + j) 0 ≡ x = ap (λ (p : ℕ). get_or t p 0) (zero-add j) ∙ is_x in
-    if-lt j n
-    (λ there. (there, sym (column-at column low there) ∙ here))
-    (λ past. absurd (omega (arith, column-past column low past)))
+    if_lt j n
+    (λ there. (there, sym (column_at column low there) ∙ here))
+    (λ past. absurd (omega (arith, column_past column low past)))
 
 -- The hint of a number.
-pub small-hint : {hints : List ℕ} → Small hints → (x : ℕ) → get_or hints (x % 1024) 0 < 64
-small-hint small x = small.below (x % 1024) (omega arith)
+pub small_hint : {hints : List ℕ} → Small hints → (x : ℕ) → get_or hints (x % 1024) 0 < 64
+small_hint small x = small.below (x % 1024) (omega arith)
 
 -- ---- hints
 pub small-blank : {hints : List ℕ} → hints ≡ replicate 1024 0 → Small hints
@@ -48,14 +48,14 @@ small-blank blank =
 pub small-set : {hints : List ℕ} {v : ℕ} (p : ℕ) → Small hints → v < 64 → Small (set hints p v)
 small-set {hints} {v} p small low = record {
   below = λ x h.
-      if-eq x p
+      if_eq x p
       (λ same. subst (λ (y : ℕ). get_or (set hints p v) y 0 < 64) (sym same) (written (omega arith)))
       (λ other. subst (λ (y : ℕ). y < 64) (sym (get_or-set_other hints p x v 0 other)) (small.below x h));
 }
   where
     written : p < 1024 → get_or (set hints p v) p 0 < 64
     written h =
-        if-lt p (length hints)
+        if_lt p (length hints)
         (λ there. subst (λ (y : ℕ). y < 64) (sym (get_or-set_same hints p v 0 there)) low)
         (λ past. subst (λ (l : List ℕ). get_or l p 0 < 64) (sym (set_out hints p v past)) (small.below p h))
 
@@ -64,20 +64,20 @@ pub record Filled (v : List ℕ → ℕ) (s : List ℕ) (o n : ℕ) (t : List �
   pub column : Column v s o n t
   pub room : o + 64 ≤ length t
 
-filled-blank : (v : List ℕ → ℕ) (s : List ℕ) (o m : ℕ) → o + 64 ≤ m → Filled v s o 0 (replicate m noNumber)
-filled-blank v s o m h = record {
+filled_blank : (v : List ℕ → ℕ) (s : List ℕ) (o m : ℕ) → o + 64 ≤ m → Filled v s o 0 (replicate m no_number)
+filled_blank v s o m h = record {
   column = record {
     entry = λ j low.
-        get_or-replicate m (o + j) noNumber 0 (omega arith)
-        ∙ sym (choose-f _ (le-ltb j 0 (omega arith)) refl);
+        get_or-replicate m (o + j) no_number 0 (omega arith)
+        ∙ sym (choose_f _ (le-ltb j 0 (omega arith)) refl);
   };
-  room = omega (arith, length-replicate m noNumber);
+  room = omega (arith, length-replicate m no_number);
 }
 
 module _ {v : List ℕ → ℕ} {s t : List ℕ} {o n : ℕ} (filled : Filled v s o n t) where
   -- A store elsewhere keeps it.
-  filled-kept : (p x : ℕ) → ((j : ℕ) → j < 64 → o + j ≡ p → ⊥) → Filled v s o n (set t p x)
-  filled-kept p x apart = record {
+  filled_kept : (p x : ℕ) → ((j : ℕ) → j < 64 → o + j ≡ p → ⊥) → Filled v s o n (set t p x)
+  filled_kept p x apart = record {
     column = record { entry = λ j low. get_or-set_other t p (o + j) x 0 (apart j low) ∙ filled.column.entry j low };
     room = subst (λ (m : ℕ). o + 64 ≤ m) (sym (length-set t p x)) filled.room;
   }
@@ -85,30 +85,30 @@ module _ {v : List ℕ → ℕ} {s t : List ℕ} {o n : ℕ} (filled : Filled v 
   -- The next line's entry makes it longer.
   filled_next : n < 64 → Filled v s o (n + 1) (set t (o + n) (v (line n s)))
   filled_next few = record {
-    column = record { entry = λ j low. if-eq j n (λ same. here j same) (λ other. there j low other) };
+    column = record { entry = λ j low. if_eq j n (λ same. here j same) (λ other. there j low other) };
     room = subst (λ (m : ℕ). o + 64 ≤ m) (sym (length-set t (o + n) (v (line n s)))) filled.room;
   }
     where
       here : (j : ℕ) → j ≡ n
-          → get_or (set t (o + n) (v (line n s))) (o + j) 0 ≡ choose (ltb j (n + 1)) (v (line j s)) noNumber
+          → get_or (set t (o + n) (v (line n s))) (o + j) 0 ≡ choose (ltb j (n + 1)) (v (line j s)) no_number
       here j same =
           ap (λ (k : ℕ). get_or (set t (o + n) (v (line n s))) (o + k) 0) same
           ∙ get_or-set_same t (o + n) (v (line n s)) 0 (omega (arith, filled.room))
           ∙ ap (λ (k : ℕ). v (line k s)) (sym same)
-          ∙ sym (choose-t noNumber (lt-ltb j (n + 1) (omega arith)) refl)
+          ∙ sym (choose_t no_number (lt-ltb j (n + 1) (omega arith)) refl)
 
       as_before : (j : ℕ) → (j ≡ n → ⊥) → ltb j n ≡ ltb j (n + 1)
       as_before j other =
-          if-lt j n
+          if_lt j n
           (λ h. lt-ltb j n h ∙ sym (lt-ltb j (n + 1) (omega arith)))
           (λ h. le-ltb j n h ∙ sym (le-ltb j (n + 1) (omega arith)))
 
       there : (j : ℕ) → j < 64 → (j ≡ n → ⊥)
-          → get_or (set t (o + n) (v (line n s))) (o + j) 0 ≡ choose (ltb j (n + 1)) (v (line j s)) noNumber
+          → get_or (set t (o + n) (v (line n s))) (o + j) 0 ≡ choose (ltb j (n + 1)) (v (line j s)) no_number
       there j low other =
           get_or-set_other t (o + n) (o + j) (v (line n s)) 0 (λ e. other (omega arith))
           ∙ filled.column.entry j low
-          ∙ ap (λ b. choose b (v (line j s)) noNumber) (as_before j other)
+          ∙ ap (λ b. choose b (v (line j s)) no_number) (as_before j other)
 
 -- ---- columns one after the other, from place o on, and a line's entries in them
 pub data Columns (s : List ℕ) (n : ℕ) (t : List ℕ) : List (List ℕ → ℕ) → ℕ → Type 0 where
@@ -120,78 +120,78 @@ abbrev entered : List (List ℕ → ℕ) → ℕ → List ℕ → ℕ → List �
 entered [] o l n t = t
 entered (v ∷ vs) o l n t = entered vs (o + 64) l n (set t (o + n) (v l))
 
-filled-entered : {v : List ℕ → ℕ} {s t : List ℕ} {o n : ℕ} (vs : List (List ℕ → ℕ)) (q j : ℕ) (l : List ℕ) → o + 64 ≤ q
+filled_entered : {v : List ℕ → ℕ} {s t : List ℕ} {o n : ℕ} (vs : List (List ℕ → ℕ)) (q j : ℕ) (l : List ℕ) → o + 64 ≤ q
     → Filled v s o n t → Filled v s o n (entered vs q l j t)
-filled-entered [] q j l h filled = filled
-filled-entered (w ∷ vs) q j l h filled =
-    filled-entered vs (q + 64) j l (omega arith) (filled-kept filled (q + j) (w l) (λ i low e. omega arith))
+filled_entered [] q j l h filled = filled
+filled_entered (w ∷ vs) q j l h filled =
+    filled_entered vs (q + 64) j l (omega arith) (filled_kept filled (q + j) (w l) (λ i low e. omega arith))
 
 columns-kept : {s t : List ℕ} {n o : ℕ} {vs : List (List ℕ → ℕ)} (p x : ℕ) → p < o → Columns s n t vs o
     → Columns s n (set t p x) vs o
 columns-kept p x h none = none
 columns-kept p x h (more filled rest) =
-    more (filled-kept filled p x (λ i low e. omega arith)) (columns-kept p x (omega arith) rest)
+    more (filled_kept filled p x (λ i low e. omega arith)) (columns-kept p x (omega arith) rest)
 
-columns-next : {s t : List ℕ} {n o : ℕ} (vs : List (List ℕ → ℕ)) → n < 64 → Columns s n t vs o
+columns_next : {s t : List ℕ} {n o : ℕ} (vs : List (List ℕ → ℕ)) → n < 64 → Columns s n t vs o
     → Columns s (n + 1) (entered vs o (line n s) n t) vs o
-columns-next [] few none = none
-columns-next {s} {n = n} {o} (v ∷ vs) few (more filled rest) =
+columns_next [] few none = none
+columns_next {s} {n = n} {o} (v ∷ vs) few (more filled rest) =
     more
-    (filled-entered vs (o + 64) n (line n s) (omega arith) (filled_next filled few))
-    (columns-next vs few (columns-kept (o + n) (v (line n s)) (omega arith) rest))
+    (filled_entered vs (o + 64) n (line n s) (omega arith) (filled_next filled few))
+    (columns_next vs few (columns-kept (o + n) (v (line n s)) (omega arith) rest))
 
 pub columns-blank : {t : List ℕ} (vs : List (List ℕ → ℕ)) (s : List ℕ) (o m : ℕ) → o + 64 * length vs ≤ m
-    → t ≡ replicate m noNumber → Columns s 0 t vs o
+    → t ≡ replicate m no_number → Columns s 0 t vs o
 columns-blank {t} vs s o m room blank = subst (λ (x : List ℕ). Columns s 0 x vs o) (sym blank) (all vs o room)
   where
-    all : (vs : List (List ℕ → ℕ)) (o : ℕ) → o + 64 * length vs ≤ m → Columns s 0 (replicate m noNumber) vs o
+    all : (vs : List (List ℕ → ℕ)) (o : ℕ) → o + 64 * length vs ≤ m → Columns s 0 (replicate m no_number) vs o
     all [] o h = none
-    all (v ∷ vs) o h = more (filled-blank v s o m (omega arith)) (all vs (o + 64) (omega arith))
+    all (v ∷ vs) o h = more (filled_blank v s o m (omega arith)) (all vs (o + 64) (omega arith))
 
 -- ---- those of the units and those of the fuels
-abbrev pub unitColumns : List (List ℕ → ℕ)
-unitColumns = number ∷ columnOf ∷ way_of ∷ moistBelow ∷ []
+abbrev pub unit_columns : List (List ℕ → ℕ)
+unit_columns = number ∷ column_of ∷ way_of ∷ moist_below ∷ []
 
-abbrev pub fuelColumns : List (List ℕ → ℕ)
-fuelColumns = number ∷ largeFlags ∷ allowedFlags ∷ carbonLimit ∷ volumeOf ∷ []
+abbrev pub fuel_columns : List (List ℕ → ℕ)
+fuel_columns = number ∷ large_flags ∷ allowed_flags ∷ carbon_limit ∷ volume_of ∷ []
 
 -- The entries of the line l, one column after the other as the code writes them.
-pub unitColumns-next : {s t l : List ℕ} {n x p w m : ℕ} → n < 64 → Columns s n t unitColumns 0 → l ≡ line n s
-    → x ≡ number l → p ≡ columnOf l → w ≡ way_of l → m ≡ moistBelow l
-    → Columns s (n + 1) (set (set (set (set t n x) (64 + n) p) (128 + n) w) (192 + n) m) unitColumns 0
-unitColumns-next {s} {t} {n = n} few columns line-is x-is p-is w-is m-is =
-    subst (λ (x : List ℕ). Columns s (n + 1) x unitColumns 0)
+pub unit_columns_next : {s t l : List ℕ} {n x p w m : ℕ} → n < 64 → Columns s n t unit_columns 0 → l ≡ line n s
+    → x ≡ number l → p ≡ column_of l → w ≡ way_of l → m ≡ moist_below l
+    → Columns s (n + 1) (set (set (set (set t n x) (64 + n) p) (128 + n) w) (192 + n) m) unit_columns 0
+unit_columns_next {s} {t} {n = n} few columns line_is x-is p-is w-is m-is =
+    subst (λ (x : List ℕ). Columns s (n + 1) x unit_columns 0)
     (sym (λ i.
-    set (set (set (set t (sym (zero-add n) i) ((x-is ∙ ap number line-is) i))
-    (64 + n) ((p-is ∙ ap columnOf line-is) i))
-    (128 + n) ((w-is ∙ ap way_of line-is) i))
-    (192 + n) ((m-is ∙ ap moistBelow line-is) i)))
-    (columns-next unitColumns few columns)
+    set (set (set (set t (sym (zero-add n) i) ((x-is ∙ ap number line_is) i))
+    (64 + n) ((p-is ∙ ap column_of line_is) i))
+    (128 + n) ((w-is ∙ ap way_of line_is) i))
+    (192 + n) ((m-is ∙ ap moist_below line_is) i)))
+    (columns_next unit_columns few columns)
 
-pub fuelColumns-next : {s t l : List ℕ} {n x r a k m : ℕ} → n < 64 → Columns s n t fuelColumns 0 → l ≡ line n s
-    → x ≡ number l → r ≡ largeFlags l → a ≡ allowedFlags l → k ≡ carbonLimit l → m ≡ volumeOf l
-    → Columns s (n + 1) (set (set (set (set (set t n x) (64 + n) r) (128 + n) a) (192 + n) k) (256 + n) m) fuelColumns 0
-fuelColumns-next {s} {t} {n = n} few columns line-is x-is r-is a-is k-is m-is =
-    subst (λ (x : List ℕ). Columns s (n + 1) x fuelColumns 0)
+pub fuel_columns_next : {s t l : List ℕ} {n x r a k m : ℕ} → n < 64 → Columns s n t fuel_columns 0 → l ≡ line n s
+    → x ≡ number l → r ≡ large_flags l → a ≡ allowed_flags l → k ≡ carbon_limit l → m ≡ volume_of l
+    → Columns s (n + 1) (set (set (set (set (set t n x) (64 + n) r) (128 + n) a) (192 + n) k) (256 + n) m) fuel_columns 0
+fuel_columns_next {s} {t} {n = n} few columns line_is x-is r-is a-is k-is m-is =
+    subst (λ (x : List ℕ). Columns s (n + 1) x fuel_columns 0)
     (sym (λ i.
-    set (set (set (set (set t (sym (zero-add n) i) ((x-is ∙ ap number line-is) i))
-    (64 + n) ((r-is ∙ ap largeFlags line-is) i))
-    (128 + n) ((a-is ∙ ap allowedFlags line-is) i))
-    (192 + n) ((k-is ∙ ap carbonLimit line-is) i))
-    (256 + n) ((m-is ∙ ap volumeOf line-is) i)))
-    (columns-next fuelColumns few columns)
+    set (set (set (set (set t (sym (zero-add n) i) ((x-is ∙ ap number line_is) i))
+    (64 + n) ((r-is ∙ ap large_flags line_is) i))
+    (128 + n) ((a-is ∙ ap allowed_flags line_is) i))
+    (192 + n) ((k-is ∙ ap carbon_limit line_is) i))
+    (256 + n) ((m-is ∙ ap volume_of line_is) i)))
+    (columns_next fuel_columns few columns)
 
-pub unitsNoted-all : {s t : List ℕ} {n : ℕ} → n ≡ length s / 32 → Columns s n t unitColumns 0 → UnitsNoted s t
-unitsNoted-all {s} {t} all columns = noted (subst (λ (m : ℕ). Columns s m t unitColumns 0) all columns)
+pub units_noted_all : {s t : List ℕ} {n : ℕ} → n ≡ length s / 32 → Columns s n t unit_columns 0 → UnitsNoted s t
+units_noted_all {s} {t} all columns = noted (subst (λ (m : ℕ). Columns s m t unit_columns 0) all columns)
   where
-    noted : Columns s (length s / 32) t unitColumns 0 → UnitsNoted s t
+    noted : Columns s (length s / 32) t unit_columns 0 → UnitsNoted s t
     noted (more a (more b (more c (more d none)))) =
         record { numbers = a.column; columns = b.column; ways = c.column; moist = d.column }
 
-pub fuelsNoted-all : {s t : List ℕ} {n : ℕ} → n ≡ length s / 32 → Columns s n t fuelColumns 0 → FuelsNoted s t
-fuelsNoted-all {s} {t} all columns = noted (subst (λ (m : ℕ). Columns s m t fuelColumns 0) all columns)
+pub fuels_noted_all : {s t : List ℕ} {n : ℕ} → n ≡ length s / 32 → Columns s n t fuel_columns 0 → FuelsNoted s t
+fuels_noted_all {s} {t} all columns = noted (subst (λ (m : ℕ). Columns s m t fuel_columns 0) all columns)
   where
-    noted : Columns s (length s / 32) t fuelColumns 0 → FuelsNoted s t
+    noted : Columns s (length s / 32) t fuel_columns 0 → FuelsNoted s t
     noted (more a (more b (more c (more d (more e none))))) = record {
       numbers = a.column;
       large = b.column;
@@ -203,7 +203,7 @@ fuelsNoted-all {s} {t} all columns = noted (subst (λ (m : ℕ). Columns s m t f
 -- ---- the number x of a line l among bytes
 pub number-line-lt : {l : List ℕ} {x : ℕ} (s : List ℕ) (k : ℕ) → ((i : ℕ) → byte s i < 256) → l ≡ line k s
     → x ≡ number l → x < 65536
-number-line-lt s k small line-is x-is =
+number-line-lt s k small line_is x-is =
     lt_of_le_of_lt
-    (le_of_eq (x-is ∙ ap number line-is))
+    (le_of_eq (x-is ∙ ap number line_is))
     (word-two-lt (line k s) 0 (byte-part-lt (32 * k) (32 * k + 32) s small))

@@ -3,14 +3,14 @@
 use Rattle.std.proofs.Common.{◌≡◌, ℕ, zero, suc, ◌+◌, ◌-◌, ◌*◌, ◌<◌, ◌≤◌, Bool, true, false, ◌||◌, eqb, List, take, drop, sym, refl, ap, ◌∙◌, ap₂, suc-add, zero-add, arith, lit<, drop-drop, eq-eqb, ne_eqb}
 use lib.Bits.{bit_and, and_block, and_mask, and_zero_r}
 use Rattle.choice.specs.Tests.{◌either◌}
-use Rattle.choice.proofs.Splitting.{if-test, if-eq}
-use Rattle.choice.proofs.TestsLaws.{either-t, either-f, any}
+use Rattle.choice.proofs.Splitting.{if_test, if_eq}
+use Rattle.choice.proofs.TestsLaws.{either_t, either_f, any}
 use Rattle.rules.specs.Bytes.{line, lines}
-use Rattle.rules.specs.Fields.{kind, flags, unitNumber, fuelNumber, period}
-use Rattle.rules.specs.Repeat.{is_of, stands, standsAmong}
-use Rattle.rules.specs.Key.{key, Start, Keyed, standsIn}
+use Rattle.rules.specs.Fields.{kind, flags, unit_number, fuel_number, period}
+use Rattle.rules.specs.Repeat.{is_of, stands, stands_among}
+use Rattle.rules.specs.Key.{key, Start, Keyed, stands_in}
 use Rattle.rules.proofs.BytesLaws.{line-take, lines_start, lines_end}
-use Rattle.rules.proofs.RepeatLaws.{isOf-is, is-isOf}
+use Rattle.rules.proofs.RepeatLaws.{is_of_is, is_is_of}
 
 masked : (k g u f w : ℕ) → k < 256 → g < 256 → u < 65536 → f < 65536 → w < 65536
     → bit_and (k + 256 * g + 65536 * u + 4294967296 * f + 281474976710656 * w) 0xFFFF0000FFFF00FF
@@ -43,101 +43,101 @@ masked k g u f w a b c d e =
 pub keyed : {r : ℕ} (l : List ℕ) → Start l r → Keyed l (bit_and r 0xFFFF0000FFFF00FF)
 unfolding key
 keyed l s = record {
-  kind-lt = s.kind-lt;
-  unit-lt = s.unit-lt;
-  key-is = ap (λ (x : ℕ). bit_and x 0xFFFF0000FFFF00FF) s.start
-      ∙ masked (kind l) (flags l) (unitNumber l) (fuelNumber l) (period l)
-      s.kind-lt s.flags-lt s.unit-lt s.fuel-lt s.period-lt;
+  kind_lt = s.kind_lt;
+  unit_lt = s.unit_lt;
+  key_is = ap (λ (x : ℕ). bit_and x 0xFFFF0000FFFF00FF) s.start
+      ∙ masked (kind l) (flags l) (unit_number l) (fuel_number l) (period l)
+      s.kind_lt s.flags_lt s.unit_lt s.fuel_lt s.period_lt;
 }
 
 -- ---- a record l, and an earlier one e
 module _ {r q : ℕ} (l e : List ℕ) (a : Keyed l r) (b : Keyed e q) where
-  isOf-same : q ≡ r → is_of (kind l) (unitNumber l) (period l) e ≡ true
+  is_of-same : q ≡ r → is_of (kind l) (unit_number l) (period l) e ≡ true
   unfolding key
-  isOf-same h =
-      let x = a.key-is in
-      let y = b.key-is in
-      isOf-is _ _ _ e (record { kind-is = omega arith; unit-is = omega arith; period-is = omega arith })
+  is_of-same h =
+      let x = a.key_is in
+      let y = b.key_is in
+      is_of_is _ _ _ e (record { kind_is = omega arith; unit_is = omega arith; period_is = omega arith })
 
-  isOf-other : (q ≡ r → ⊥) → is_of (kind l) (unitNumber l) (period l) e ≡ false
+  is_of_other : (q ≡ r → ⊥) → is_of (kind l) (unit_number l) (period l) e ≡ false
   unfolding key
-  isOf-other h =
-      if-test (is_of (kind l) (unitNumber l) (period l) e)
-      (λ t. let is = is-isOf (kind l) (unitNumber l) (period l) e t in
-      absurd (h (b.key-is
-      ∙ ap₂ (λ (k u : ℕ). k + 65536 * u + 281474976710656 * period e) is.kind-is is.unit-is
-      ∙ ap (λ (w : ℕ). kind l + 65536 * unitNumber l + 281474976710656 * w) is.period-is
-      ∙ sym a.key-is)))
+  is_of_other h =
+      if_test (is_of (kind l) (unit_number l) (period l) e)
+      (λ t. let is = is_is_of (kind l) (unit_number l) (period l) e t in
+      absurd (h (b.key_is
+      ∙ ap₂ (λ (k u : ℕ). k + 65536 * u + 281474976710656 * period e) is.kind_is is.unit_is
+      ∙ ap (λ (w : ℕ). kind l + 65536 * unit_number l + 281474976710656 * w) is.period_is
+      ∙ sym a.key_is)))
       (λ f. f)
 
   -- The code's compare of their keys.
-  isOf-key : eqb q r ≡ is_of (kind l) (unitNumber l) (period l) e
-  isOf-key =
-      if-eq q r (λ h. eq-eqb q r h ∙ sym (isOf-same h)) (λ h. ne_eqb q r h ∙ sym (isOf-other h))
+  is_of-key : eqb q r ≡ is_of (kind l) (unit_number l) (period l) e
+  is_of-key =
+      if_eq q r (λ h. eq-eqb q r h ∙ sym (is_of-same h)) (λ h. ne_eqb q r h ∙ sym (is_of_other h))
 
 -- ---- the scan, by one line or by more at a time
-either-none : (a : Bool) → (a either false) ≡ a
-either-none a = if-test a (λ t. either-t _ t ∙ sym t) (λ f. either-f f (sym f))
+either_none : (a : Bool) → (a either false) ≡ a
+either_none a = if_test a (λ t. either_t _ t ∙ sym t) (λ f. either_f f (sym f))
 
-either-assoc : (a b c : Bool) → (a either (b either c)) ≡ (a either b either c)
-either-assoc a b c =
-    if-test a
-    (λ t. either-t _ t ∙ sym (either-t _ (either-t _ t)))
-    (λ f. either-f f (ap (λ (x : Bool). x either c) (sym (either-f f refl))))
+either_assoc : (a b c : Bool) → (a either (b either c)) ≡ (a either b either c)
+either_assoc a b c =
+    if_test a
+    (λ t. either_t _ t ∙ sym (either_t _ (either_t _ t)))
+    (λ f. either_f f (ap (λ (x : Bool). x either c) (sym (either_f f refl))))
 
 module _ (l : List ℕ) where
   among-add : (m n : ℕ) (s : List ℕ)
-      → standsAmong l (lines (m + n) s) ≡ (standsAmong l (lines m s) either standsIn l m n s)
-  unfolding standsAmong stands lines
-  among-add zero n s = ap (λ (k : ℕ). standsAmong l (lines k s)) (zero-add n) ∙ sym (either-f refl refl)
+      → stands_among l (lines (m + n) s) ≡ (stands_among l (lines m s) either stands_in l m n s)
+  unfolding stands_among stands lines
+  among-add zero n s = ap (λ (k : ℕ). stands_among l (lines k s)) (zero-add n) ∙ sym (either_f refl refl)
   among-add (suc m) n s =
       let place : 32 + 32 * m ≡ 32 * suc m = omega arith in
       let after = drop-drop (32 * m) 32 s ∙ ap (λ (k : ℕ). drop k s) place in
-      ap (λ (k : ℕ). standsAmong l (lines k s)) (suc-add m n)
-      ∙ ap (λ (b : Bool). is_of (kind l) (unitNumber l) (period l) (take 32 s) either b)
+      ap (λ (k : ℕ). stands_among l (lines k s)) (suc-add m n)
+      ∙ ap (λ (b : Bool). is_of (kind l) (unit_number l) (period l) (take 32 s) either b)
       (among-add m n (drop 32 s)
-      ∙ ap (λ (t : List ℕ). standsAmong l (lines m (drop 32 s)) either standsAmong l (lines n t)) after)
-      ∙ either-assoc _ _ _
+      ∙ ap (λ (t : List ℕ). stands_among l (lines m (drop 32 s)) either stands_among l (lines n t)) after)
+      ∙ either_assoc _ _ _
 
-  standsIn-add : (j m n : ℕ) (s : List ℕ)
-      → standsIn l j (m + n) s ≡ (standsIn l j m s either standsIn l (j + m) n s)
-  standsIn-add j m n s =
+  stands_in-add : (j m n : ℕ) (s : List ℕ)
+      → stands_in l j (m + n) s ≡ (stands_in l j m s either stands_in l (j + m) n s)
+  stands_in-add j m n s =
       let place : 32 * j + 32 * m ≡ 32 * (j + m) = omega arith in
       among-add m n (drop (32 * j) s)
-      ∙ ap (λ (t : List ℕ). standsIn l j m s either standsAmong l (lines n t))
+      ∙ ap (λ (t : List ℕ). stands_in l j m s either stands_among l (lines n t))
       (drop-drop (32 * m) (32 * j) s ∙ ap (λ (k : ℕ). drop k s) place)
 
   -- The code's tests of m lines and of one more.
-  pub standsIn-more : (j : ℕ) (s : List ℕ) (m : ℕ) {a b : Bool}
-      → a ≡ standsIn l j m s → b ≡ standsIn l (j + m) 1 s → (a || b) ≡ standsIn l j (m + 1) s
-  standsIn-more j s m p q = any p q ∙ sym (standsIn-add j m 1 s)
+  pub stands_in_more : (j : ℕ) (s : List ℕ) (m : ℕ) {a b : Bool}
+      → a ≡ stands_in l j m s → b ≡ stands_in l (j + m) 1 s → (a || b) ≡ stands_in l j (m + 1) s
+  stands_in_more j s m p q = any p q ∙ sym (stands_in-add j m 1 s)
 
-  pub standsIn-one : {r q : ℕ} (j : ℕ) (s : List ℕ) → Keyed l r → Keyed (line j s) q → eqb q r ≡ standsIn l j 1 s
-  unfolding standsAmong stands lines
-  standsIn-one j s a b =
-      isOf-key l (line j s) a b
-      ∙ ap (is_of (kind l) (unitNumber l) (period l)) (line-take j s)
-      ∙ sym (either-none _)
+  pub stands_in_one : {r q : ℕ} (j : ℕ) (s : List ℕ) → Keyed l r → Keyed (line j s) q → eqb q r ≡ stands_in l j 1 s
+  unfolding stands_among stands lines
+  stands_in_one j s a b =
+      is_of-key l (line j s) a b
+      ∙ ap (is_of (kind l) (unit_number l) (period l)) (line-take j s)
+      ∙ sym (either_none _)
 
 -- What is left of the first n lines of s, from line j on.
 module _ (l s : List ℕ) (n : ℕ) where
-  pub scan-start : standsAmong l (lines n s) ≡ standsIn l 0 (n - 0) s
-  scan-start = ap (standsAmong l) (lines_start n s)
+  pub scan_start : stands_among l (lines n s) ≡ stands_in l 0 (n - 0) s
+  scan_start = ap (stands_among l) (lines_start n s)
 
-  pub scan-end : (j : ℕ) → n ≤ j → standsIn l j (n - j) s ≡ false
-  unfolding standsAmong stands
-  scan-end j h = ap (standsAmong l) (lines_end n j (drop (32 * j) s) h)
+  pub scan_end : (j : ℕ) → n ≤ j → stands_in l j (n - j) s ≡ false
+  unfolding stands_among stands
+  scan_end j h = ap (stands_among l) (lines_end n j (drop (32 * j) s) h)
 
-  module _ (j m : ℕ) {r : Bool} (h : j + m ≤ n) (e : r ≡ standsIn l j m s) where
-    left : standsIn l j (n - j) s ≡ (r either standsIn l (j + m) (n - (j + m)) s)
+  module _ (j m : ℕ) {r : Bool} (h : j + m ≤ n) (e : r ≡ stands_in l j m s) where
+    left : stands_in l j (n - j) s ≡ (r either stands_in l (j + m) (n - (j + m)) s)
     left =
         let more : n - j ≡ m + (n - (j + m)) = omega arith in
-        ap (λ (k : ℕ). standsIn l j k s) more
-        ∙ standsIn-add l j m (n - (j + m)) s
-        ∙ ap (λ (b : Bool). b either standsIn l (j + m) (n - (j + m)) s) (sym e)
+        ap (λ (k : ℕ). stands_in l j k s) more
+        ∙ stands_in-add l j m (n - (j + m)) s
+        ∙ ap (λ (b : Bool). b either stands_in l (j + m) (n - (j + m)) s) (sym e)
 
-    pub scan-found : r ≡ true → standsIn l j (n - j) s ≡ true
-    scan-found t = left ∙ either-t _ t
+    pub scan_found : r ≡ true → stands_in l j (n - j) s ≡ true
+    scan_found t = left ∙ either_t _ t
 
-    pub scan-on : r ≡ false → standsIn l j (n - j) s ≡ standsIn l (j + m) (n - (j + m)) s
-    scan-on f = left ∙ either-f f refl
+    pub scan_on : r ≡ false → stands_in l j (n - j) s ≡ stands_in l (j + m) (n - (j + m)) s
+    scan_on f = left ∙ either_f f refl

@@ -1,42 +1,42 @@
 -- What the code does with a record and a table: where its period has no bit, where its unit isn't listed,
 -- and where its bit is asked and set. Assumes nothing.
 use Rattle.std.proofs.Common.{◌≡◌, ℕ, Bool, true, false, List, sym, refl, ap, ◌∙◌, ap₂}
-use Rattle.choice.proofs.TestsLaws.{also-t, also-f, choose-t, choose-f}
+use Rattle.choice.proofs.TestsLaws.{also_t, also_f, choose_t, choose_f}
 use Rattle.rules.specs.declared.listing.Found.{Found}
 use Rattle.rules.specs.declared.listing.Found.TheVariants.{At, Nothing}
-use Rattle.rules.specs.Bytes.{linesIn}
-use Rattle.rules.specs.Fields.{kind, unitNumber, period}
+use Rattle.rules.specs.Bytes.{lines_in}
+use Rattle.rules.specs.Fields.{kind, unit_number, period}
 use Rattle.rules.specs.Place.{place}
-use Rattle.rules.specs.Table.{withMark, hasBit, bit_of, withMarkAt, noted}
-use Rattle.rules.specs.Marks.{marked, markedAt, wasNoted}
+use Rattle.rules.specs.Table.{with_mark, has_bit, bit_of, with_mark_at, noted}
+use Rattle.rules.specs.Marks.{marked, marked_at, was_noted}
 
 module _ (l units t : List ℕ) where
   pub record Noted (was : Bool) (t' : List ℕ) : Type 0 where
-    pub was-noted : was ≡ wasNoted l units t
-    pub now-noted : t' ≡ noted l units t
+    pub was_noted_then : was ≡ was_noted l units t
+    pub now_noted : t' ≡ noted l units t
 
-  pub noted-out : hasBit (kind l) (period l) ≡ false → Noted false t
-  unfolding noted wasNoted
-  noted-out h = record { was-noted = sym (also-f _ h); now-noted = sym (choose-f _ h refl) }
+  pub noted-out : has_bit (kind l) (period l) ≡ false → Noted false t
+  unfolding noted was_noted
+  noted-out h = record { was_noted_then = sym (also_f _ h); now_noted = sym (choose_f _ h refl) }
 
-  module _ {r : Found} {y : ℕ} (has : hasBit (kind l) (period l) ≡ true) (e : r ≡ place y 0 (linesIn units))
-      (d : y ≡ unitNumber l) where
-    found : r ≡ place (unitNumber l) 0 (linesIn units)
-    found = e ∙ ap (λ (x : ℕ). place x 0 (linesIn units)) d
+  module _ {r : Found} {y : ℕ} (has : has_bit (kind l) (period l) ≡ true) (e : r ≡ place y 0 (lines_in units))
+      (d : y ≡ unit_number l) where
+    found : r ≡ place (unit_number l) 0 (lines_in units)
+    found = e ∙ ap (λ (x : ℕ). place x 0 (lines_in units)) d
 
     pub noted_nothing : r ≡ Nothing → Noted false t
-    unfolding noted withMarkAt wasNoted markedAt
+    unfolding noted with_mark_at was_noted marked_at
     noted_nothing q = record {
-      was-noted = sym (also-t has (ap (λ (x : Found). markedAt x (bit_of (kind l) (period l)) t) (sym found ∙ q)));
-      now-noted = sym (choose-t _ has (ap (λ (x : Found). withMarkAt x (bit_of (kind l) (period l)) t) (sym found ∙ q)));
+      was_noted_then = sym (also_t has (ap (λ (x : Found). marked_at x (bit_of (kind l) (period l)) t) (sym found ∙ q)));
+      now_noted = sym (choose_t _ has (ap (λ (x : Found). with_mark_at x (bit_of (kind l) (period l)) t) (sym found ∙ q)));
     }
 
-    pub noted-at : {c j : ℕ} {b : Bool} {t' : List ℕ} → c ≡ bit_of (kind l) (period l) → r ≡ At j → b ≡ marked t j c
-        → t' ≡ withMark t j c → Noted b t'
-    unfolding noted withMarkAt wasNoted markedAt
-    noted-at p q was now = record {
-      was-noted =
-          was ∙ ap₂ (λ (x : Found) (v : ℕ). markedAt x v t) (sym q ∙ found) p ∙ sym (also-t has refl);
-      now-noted =
-          now ∙ ap₂ (λ (x : Found) (v : ℕ). withMarkAt x v t) (sym q ∙ found) p ∙ sym (choose-t _ has refl);
+    pub noted_at : {c j : ℕ} {b : Bool} {t' : List ℕ} → c ≡ bit_of (kind l) (period l) → r ≡ At j → b ≡ marked t j c
+        → t' ≡ with_mark t j c → Noted b t'
+    unfolding noted with_mark_at was_noted marked_at
+    noted_at p q was now = record {
+      was_noted_then =
+          was ∙ ap₂ (λ (x : Found) (v : ℕ). marked_at x v t) (sym q ∙ found) p ∙ sym (also_t has refl);
+      now_noted =
+          now ∙ ap₂ (λ (x : Found) (v : ℕ). with_mark_at x v t) (sym q ∙ found) p ∙ sym (choose_t _ has refl);
     }

@@ -16,7 +16,7 @@
 --     apart          what a function has that is passed d is what one asks that is passed d's book
 --                    and place, and what d owns
 --     handed         what d owns is what a function asks that is passed d
---     well-made      d's machine value is well formed, if those of its book and its place are theirs
+--     well_made      d's machine value is well formed, if those of its book and its place are theirs
 --     typed          it is of the type that a local has which holds d
 --     takes R        the signature of a function that is passed a reader and gives an R
 --     holds R φ      its contract, if it shows φ of the reader and the result
@@ -51,8 +51,8 @@ use denote.Triple.Statement.{Contract, Triple}
 use denote.Exit.{yes}
 use Rattle.rules.specs.declared.reader.Reader.{Reader}
 use Rattle.rules.specs.declared.reader.Seen.{Seen}
-use Rattle.rules.specs.Reader.{sightAt, sight, leftFrom, advanced}
-use Rattle.rules.proofs.WalkLaws.{contractOf, answers}
+use Rattle.rules.specs.Reader.{sight_at, sight, left_from, advanced}
+use Rattle.rules.proofs.WalkLaws.{contract_of, answers}
 use Rattle.rules.specs.contracts.reader.Reader as T
 use Rattle.rules.proofs.reader.Reader.TheLaws as T'
 
@@ -85,10 +85,10 @@ abbrev pub Moved : Reader → Reader → Type 0
 Moved d p = p ≡ advanced d
 
 abbrev pub Shown : Reader → Seen → Type 0
-Shown d x = sight x ≡ sightAt d.book.now d.next
+Shown d x = sight x ≡ sight_at d.book.now d.next
 
 abbrev pub Left : Reader → ℕ → Type 0
-Left d k = k ≡ leftFrom d.book.now d.next
+Left d k = k ≡ left_from d.book.now d.next
 
 -- ---- what it owns
 abbrev fields : Lft → List RattleType
@@ -134,8 +134,8 @@ module _ {M : Type 1} {𝓤 : Ura M} (𝓛 : Logic 𝓤) (κ : Lft) (q : Share)
       nothing ! $ move ! (2 ∷ 0 ∷ []) $ fjoin ! $ move ! (1 ∷ 0 ∷ []) $ join ! $
       nothing ! $ move ! (1 ∷ 0 ∷ []) $ done !
 
-  pub well-made : Are (fields κ) (Ises (fields κ)) (parts d) (passed d) → WT (mach d)
-  well-made are =
+  pub well_made : Are (fields κ) (Ises (fields κ)) (parts d) (passed d) → WT (mach d)
+  well_made are =
       let book : WT (bytes d) = ((shr_slice_Lawful 𝓛 (named 0) κ u8).typed d.book _ are.0).0.1 in
       (book, (record { fits = are.1.0.1 }, tt))
 
@@ -160,7 +160,7 @@ module _ (R : Lfts 1 → RattleType) where
     }
 
     abbrev pub Told : Contract 𝓤
-    Told = contractOf 𝓛 takes holds
+    Told = contract_of 𝓛 takes holds
 
 module _ {M : Type 1} {𝓤 : Ura M} {𝓛 : Logic 𝓤} {K : Type 0}
     {Γ : List (Item 𝓤)} {E : Env 𝓤 𝓛.H} {C : Calls 𝓤 𝓛.H} {Λ : Loops 𝓤 𝓛.H} {post : Post 𝓤 𝓛.H} {f : Name}

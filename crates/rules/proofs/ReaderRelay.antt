@@ -34,7 +34,7 @@ use denote.Triple.Entry.{on_entry}
 use denote.Triple.Statement.{Triple}
 use denote.Exit.{yes}
 use Rattle.rules.specs.declared.reader.Reader.{Reader}
-use Rattle.rules.proofs.WalkLaws.{contractOf, held, sets, lays, answers, gone, nothing-kept, exits, meets}
+use Rattle.rules.proofs.WalkLaws.{contract_of, held, sets, lays, answers, gone, nothing_kept, exits, meets}
 use Rattle.rules.proofs.ReaderHeld.{type, laws, mach, parts, passed, own, apart, takes}
 use Rattle.rules.proofs.reader.Reader.TheLaws as T'
 
@@ -83,12 +83,12 @@ module _ {M : Type 1} {𝓤 : Ura M} (𝓛 : Logic 𝓤) (R : RattleType)
   }
 
   module _ (C : Calls 𝓤 H) (Λ : Loops 𝓤 H) (fm : FmC 𝓤 H 𝓛.laws C) (f : Name)
-      (known : Triple 𝓤 (C f) (contractOf 𝓛 (asks R) shows)) (κ : Lft) (q : Share) (d : Reader)
+      (known : Triple 𝓤 (C f) (contract_of 𝓛 (asks R) shows)) (κ : Lft) (q : Share) (d : Reader)
       (g : (c (κ, tt) (d, tt)).ghost) where
     walk : Holds (has_ty (T'.mir (named 0)) (mach d)) × WT (mach d)
         → ent 𝓤 (on_entry 𝓛 (takes (λ _. R)).signature (κ, tt) (q, tt) (d, tt) (mach d ∷ [], tt))
         (WpFn 𝓤 H C Λ (relaying τ f) (mach d ∷ [])
-        ((nothing-kept 𝓛 (takes (λ _. R)) c).post
+        ((nothing_kept 𝓛 (takes (λ _. R)) c).post
         (((κ, tt), (q, tt), tt, (d, tt), (mach d ∷ [], tt)), g)))
     walk wt =
         qed 𝓛 (raw (on_entry 𝓛 (takes (λ _. R)).signature (κ, tt) (q, tt) (d, tt) (mach d ∷ [], tt)) ∷ []) ∵
@@ -102,7 +102,7 @@ module _ {M : Type 1} {𝓤 : Ura M} (𝓛 : Logic 𝓤) (R : RattleType)
         0 refl (tt, wt.1.1.0) $
         move ! (8 ∷ []) $
         use1 𝓛
-        (raw ((contractOf 𝓛 (asks R) shows).pre (((κ, tt), (q, tt), tt, parts d, passed d), tt)) ⊛ ‵ (own κ d))
+        (raw ((contract_of 𝓛 (asks R) shows).pre (((κ, tt), (q, tt), tt, parts d, passed d), tt)) ⊛ ‵ (own κ d))
         (apart 𝓛 κ q d) $
         split ! $ move ! (1 ∷ []) $ drop ! $
         -- [what the callee asks; _3; …; _2; …; _1; …; room for _0; …]
@@ -118,8 +118,8 @@ module _ {M : Type 1} {𝓤 : Ura M} (𝓛 : Logic 𝓤) (R : RattleType)
         (val r) r (tt, tt) (ensured (κ, tt) d g r e)))))))
 
   pub relays : (𝓣 : Tables 𝓤 H) (k f : Name) → Closed 𝓤 H 𝓣.C 𝓣.Λ k (relaying τ f)
-      → Triple 𝓤 (𝓣.C f) (contractOf 𝓛 (asks R) shows)
-      → Triple 𝓤 (𝓣.C k) (contractOf 𝓛 (takes (λ _. R)) c)
+      → Triple 𝓤 (𝓣.C f) (contract_of 𝓛 (asks R) shows)
+      → Triple 𝓤 (𝓣.C k) (contract_of 𝓛 (takes (λ _. R)) c)
   relays 𝓣 k f closed known =
       meets 𝓛 (takes (λ _. R)) c ((λ κs x f. refl), tt) 𝓣 k (relaying τ f) closed
       (λ κs. (LL.vals (type κs) (laws κs), tt))

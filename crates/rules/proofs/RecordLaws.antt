@@ -1,112 +1,112 @@
 -- What becomes of a record, test by test, and that it is a reason or a bounded entry. Assumes nothing.
 use Rattle.std.proofs.Common.{◌≡◌, ℕ, ◌≤◌, Bool, true, false, not, eqb, ltb, List, [], ◌∷◌, refl, lit≤}
 use Rattle.choice.specs.Tests.{choose}
-use Rattle.choice.proofs.TestsLaws.{also-l, also-r, choose-t, choose-f, if-choose}
+use Rattle.choice.proofs.TestsLaws.{also_l, also_r, choose_t, choose_f, if_choose}
 use Rattle.mass.specs.declared.hour.Hour.{Hour}
 use Rattle.mass.specs.declared.hour.Hour.TheVariants.{Usable, Unusable}
-use Rattle.mass.specs.Hour.{hourOf}
-use Rattle.mass.proofs.HourLaws.{in_range-of-hourOf}
+use Rattle.mass.specs.Hour.{hour_of}
+use Rattle.mass.proofs.HourLaws.{in_range_of_hour_of}
 use Rattle.rules.specs.declared.book.Head.{Head}
 use Rattle.rules.specs.declared.record.Outcome.{Outcome}
 use Rattle.rules.specs.declared.record.Outcome.TheVariants.{SetAside, Counted}
-use Rattle.rules.specs.Bytes.{line, linesIn}
-use Rattle.rules.specs.Fields.{number, monitored, kind, unitNumber, fuelNumber, fuelled, percentBits, flowBits}
-use Rattle.rules.specs.Book.{unitOk, fuelOk, linesOk, linesSound, unitLines, fuelLines, opened, accepted}
-use Rattle.rules.specs.Method.{methodOf}
-use Rattle.rules.specs.Entry.{heatInUse}
-use Rattle.rules.specs.Record.{lastReason, check, listed, fuelForm, hourForm, anodesForm, moistureForm, fuelRanges, hourRange, anodesRanges, fuelJudged, fuelOutcome, hourRead, hourJudged, hourOutcome, anodesOutcome, unfuelledOutcome, outcomeOf, unlessRepeated, outcomeAfter, outcomeAt}
+use Rattle.rules.specs.Bytes.{line, lines_in}
+use Rattle.rules.specs.Fields.{number, monitored, kind, unit_number, fuel_number, fuelled, percent_bits, flow_bits}
+use Rattle.rules.specs.Book.{unit_ok, fuel_ok, lines_ok, lines_sound, unit_lines, fuel_lines, opened, accepted}
+use Rattle.rules.specs.Method.{method_of}
+use Rattle.rules.specs.Entry.{heat_in_use}
+use Rattle.rules.specs.Record.{last_reason, check, listed, fuel_form, hour_form, anodes_form, moisture_form, fuel_ranges, hour_range, anodes_ranges, fuel_judged, fuel_outcome, hour_read, hour_judged, hour_outcome, anodes_outcome, unfuelled_outcome, outcome_of, unless_repeated, outcome_after, outcome_at}
 use Rattle.rules.specs.Bounds.{Bounded}
-use Rattle.rules.proofs.BookLaws.{accepted-facts}
-use Rattle.rules.proofs.EntryLaws.{bounded-fuelEntry, bounded-hourEntry, bounded-anodesEntry}
+use Rattle.rules.proofs.BookLaws.{accepted_facts}
+use Rattle.rules.proofs.EntryLaws.{bounded_fuel_entry, bounded_hour_entry, bounded_anodes_entry}
 
 -- ---- one test
-pub check-t : {t : Bool} {x r : Outcome} (k : ℕ) → t ≡ true → x ≡ r → check t k x ≡ r
+pub check_t : {t : Bool} {x r : Outcome} (k : ℕ) → t ≡ true → x ≡ r → check t k x ≡ r
 unfolding check
-check-t k p q = choose-t _ p q
+check_t k p q = choose_t _ p q
 
-pub check-f : {t : Bool} (k : ℕ) (x : Outcome) → t ≡ false → check t k x ≡ SetAside k
+pub check_f : {t : Bool} (k : ℕ) (x : Outcome) → t ≡ false → check t k x ≡ SetAside k
 unfolding check
-check-f k x p = choose-f _ p refl
+check_f k x p = choose_f _ p refl
 
 -- ---- whatever the book, an outcome is bounded
-bounded-check : (t : Bool) (k : ℕ) (x : Outcome) → 1 ≤ k → k ≤ lastReason → (t ≡ true → Bounded x)
+bounded_check : (t : Bool) (k : ℕ) (x : Outcome) → 1 ≤ k → k ≤ last_reason → (t ≡ true → Bounded x)
     → Bounded (check t k x)
 unfolding check
-bounded-check t k x l m w = if-choose Bounded t w (λ failed. (l, m))
+bounded_check t k x l m w = if_choose Bounded t w (λ failed. (l, m))
 
 chosen : (a b : Outcome) (t : Bool) → Bounded a → Bounded b → Bounded (choose t a b)
-chosen a b t p q = if-choose Bounded t (λ yes. p) (λ no. q)
+chosen a b t p q = if_choose Bounded t (λ yes. p) (λ no. q)
 
 -- Whatever the line found, it is one that breaks no rule.
-bounded-listed : (ok : List ℕ → Bool) (x k before : ℕ) (ls : List (List ℕ)) (rest : List ℕ → Outcome) → 1 ≤ k
-    → k ≤ lastReason
-    → linesOk ok before ls ≡ true → ((l : List ℕ) → ok l ≡ true → Bounded (rest l)) → Bounded (listed x ls k rest)
-unfolding listed linesOk
-bounded-listed ok x k before [] rest l m h w = (l, m)
-bounded-listed ok x k before (y ∷ ls) rest l m h w =
-    chosen _ _ (eqb (number y) x) (w y (also-r _ _ (also-l _ _ h)))
-    (bounded-listed ok x k (number y) ls rest l m (also-r _ _ h) w)
+bounded_listed : (ok : List ℕ → Bool) (x k before : ℕ) (ls : List (List ℕ)) (rest : List ℕ → Outcome) → 1 ≤ k
+    → k ≤ last_reason
+    → lines_ok ok before ls ≡ true → ((l : List ℕ) → ok l ≡ true → Bounded (rest l)) → Bounded (listed x ls k rest)
+unfolding listed lines_ok
+bounded_listed ok x k before [] rest l m h w = (l, m)
+bounded_listed ok x k before (y ∷ ls) rest l m h w =
+    chosen _ _ (eqb (number y) x) (w y (also_r _ _ (also_l _ _ h)))
+    (bounded_listed ok x k (number y) ls rest l m (also_r _ _ h) w)
 
-bounded-fuelJudged : (l u f : List ℕ) → fuelOk f ≡ true → Bounded (fuelJudged l u f)
-unfolding fuelJudged
-bounded-fuelJudged l u f k =
-    bounded-check (fuelRanges l f) 4 _ (lit≤ tt) (lit≤ tt) (λ ranges.
-    bounded-check (ltb 0 (methodOf l u f)) 6 _ (lit≤ tt) (lit≤ tt) (λ permitted.
-    bounded-check (ltb 0 (heatInUse l f).0) 7 _ (lit≤ tt) (lit≤ tt) (λ heated.
-    bounded-fuelEntry l u f ranges k)))
+bounded_fuel_judged : (l u f : List ℕ) → fuel_ok f ≡ true → Bounded (fuel_judged l u f)
+unfolding fuel_judged
+bounded_fuel_judged l u f k =
+    bounded_check (fuel_ranges l f) 4 _ (lit≤ tt) (lit≤ tt) (λ ranges.
+    bounded_check (ltb 0 (method_of l u f)) 6 _ (lit≤ tt) (lit≤ tt) (λ permitted.
+    bounded_check (ltb 0 (heat_in_use l f).0) 7 _ (lit≤ tt) (lit≤ tt) (λ heated.
+    bounded_fuel_entry l u f ranges k)))
 
-bounded-hourRead : (l u : List ℕ) (p q : ℕ) (x : Hour) → hourOf p q ≡ x → Bounded (hourRead l u x)
-unfolding hourRead
-bounded-hourRead l u p q (Usable r) e =
-    bounded-check (monitored u) 5 _ (lit≤ tt) (lit≤ tt) (λ measured. bounded-hourEntry l r (in_range-of-hourOf p q r e))
-bounded-hourRead l u p q (Unusable y) e = (lit≤ tt, lit≤ tt)
+bounded_hour_read : (l u : List ℕ) (p q : ℕ) (x : Hour) → hour_of p q ≡ x → Bounded (hour_read l u x)
+unfolding hour_read
+bounded_hour_read l u p q (Usable r) e =
+    bounded_check (monitored u) 5 _ (lit≤ tt) (lit≤ tt) (λ measured. bounded_hour_entry l r (in_range_of_hour_of p q r e))
+bounded_hour_read l u p q (Unusable y) e = (lit≤ tt, lit≤ tt)
 
-bounded-hourJudged : (l u : List ℕ) → Bounded (hourJudged l u)
-unfolding hourJudged
-bounded-hourJudged l u =
-    bounded-check (moistureForm l u) 1 _ (lit≤ tt) (lit≤ tt) (λ formed.
-    bounded-check (hourRange l) 4 _ (lit≤ tt) (lit≤ tt) (λ in-range.
-    bounded-hourRead l u (percentBits l) (flowBits l) _ refl))
+bounded_hour_judged : (l u : List ℕ) → Bounded (hour_judged l u)
+unfolding hour_judged
+bounded_hour_judged l u =
+    bounded_check (moisture_form l u) 1 _ (lit≤ tt) (lit≤ tt) (λ formed.
+    bounded_check (hour_range l) 4 _ (lit≤ tt) (lit≤ tt) (λ in_range.
+    bounded_hour_read l u (percent_bits l) (flow_bits l) _ refl))
 
-module _ (l units fuels : List ℕ) (U : linesSound unitOk units ≡ true) (F : linesSound fuelOk fuels ≡ true) where
-  bounded-fuelOutcome : Bounded (fuelOutcome l (linesIn units) (linesIn fuels))
-  unfolding fuelOutcome linesSound
-  bounded-fuelOutcome =
-      bounded-check (fuelForm l) 1 _ (lit≤ tt) (lit≤ tt) (λ formed.
-      bounded-listed unitOk (unitNumber l) 2 0 (linesIn units) _ (lit≤ tt) (lit≤ tt) (also-r _ _ U) (λ u unit.
-      bounded-listed fuelOk (fuelNumber l) 3 0 (linesIn fuels) _ (lit≤ tt) (lit≤ tt) (also-r _ _ F) (λ f fuel.
-      bounded-fuelJudged l u f fuel)))
+module _ (l units fuels : List ℕ) (U : lines_sound unit_ok units ≡ true) (F : lines_sound fuel_ok fuels ≡ true) where
+  bounded_fuel_outcome : Bounded (fuel_outcome l (lines_in units) (lines_in fuels))
+  unfolding fuel_outcome lines_sound
+  bounded_fuel_outcome =
+      bounded_check (fuel_form l) 1 _ (lit≤ tt) (lit≤ tt) (λ formed.
+      bounded_listed unit_ok (unit_number l) 2 0 (lines_in units) _ (lit≤ tt) (lit≤ tt) (also_r _ _ U) (λ u unit.
+      bounded_listed fuel_ok (fuel_number l) 3 0 (lines_in fuels) _ (lit≤ tt) (lit≤ tt) (also_r _ _ F) (λ f fuel.
+      bounded_fuel_judged l u f fuel)))
 
-  bounded-hourOutcome : Bounded (hourOutcome l (linesIn units))
-  unfolding hourOutcome linesSound
-  bounded-hourOutcome =
-      bounded-check (hourForm l) 1 _ (lit≤ tt) (lit≤ tt) (λ formed.
-      bounded-listed unitOk (unitNumber l) 2 0 (linesIn units) _ (lit≤ tt) (lit≤ tt) (also-r _ _ U) (λ u unit.
-      bounded-hourJudged l u))
+  bounded_hour_outcome : Bounded (hour_outcome l (lines_in units))
+  unfolding hour_outcome lines_sound
+  bounded_hour_outcome =
+      bounded_check (hour_form l) 1 _ (lit≤ tt) (lit≤ tt) (λ formed.
+      bounded_listed unit_ok (unit_number l) 2 0 (lines_in units) _ (lit≤ tt) (lit≤ tt) (also_r _ _ U) (λ u unit.
+      bounded_hour_judged l u))
 
-  bounded-anodesOutcome : Bounded (anodesOutcome l (linesIn units))
-  unfolding anodesOutcome linesSound
-  bounded-anodesOutcome =
-      bounded-check (anodesForm l) 1 _ (lit≤ tt) (lit≤ tt) (λ formed.
-      bounded-listed unitOk (unitNumber l) 2 0 (linesIn units) _ (lit≤ tt) (lit≤ tt) (also-r _ _ U) (λ u unit.
-      bounded-check (anodesRanges l) 4 _ (lit≤ tt) (lit≤ tt) (λ ranges.
-      bounded-anodesEntry l ranges)))
+  bounded_anodes_outcome : Bounded (anodes_outcome l (lines_in units))
+  unfolding anodes_outcome lines_sound
+  bounded_anodes_outcome =
+      bounded_check (anodes_form l) 1 _ (lit≤ tt) (lit≤ tt) (λ formed.
+      bounded_listed unit_ok (unit_number l) 2 0 (lines_in units) _ (lit≤ tt) (lit≤ tt) (also_r _ _ U) (λ u unit.
+      bounded_check (anodes_ranges l) 4 _ (lit≤ tt) (lit≤ tt) (λ ranges.
+      bounded_anodes_entry l ranges)))
 
-  pub bounded-outcomeOf : Bounded (outcomeOf l (linesIn units) (linesIn fuels))
-  unfolding outcomeOf unfuelledOutcome
-  bounded-outcomeOf =
-      chosen _ _ (fuelled l) bounded-fuelOutcome
-      (chosen _ _ (eqb (kind l) 2) bounded-hourOutcome
-      (bounded-check (eqb (kind l) 4) 1 _ (lit≤ tt) (lit≤ tt) (λ used. bounded-anodesOutcome)))
+  pub bounded_outcome_of : Bounded (outcome_of l (lines_in units) (lines_in fuels))
+  unfolding outcome_of unfuelled_outcome
+  bounded_outcome_of =
+      chosen _ _ (fuelled l) bounded_fuel_outcome
+      (chosen _ _ (eqb (kind l) 2) bounded_hour_outcome
+      (bounded_check (eqb (kind l) 4) 1 _ (lit≤ tt) (lit≤ tt) (λ used. bounded_anodes_outcome)))
 
-bounded-unlessRepeated : (b : Bool) (o : Outcome) → Bounded o → Bounded (unlessRepeated b o)
-unfolding unlessRepeated
-bounded-unlessRepeated b (SetAside k) w = w
-bounded-unlessRepeated b (Counted e) w = bounded-check (not b) 8 (Counted e) (lit≤ tt) (lit≤ tt) (λ first. w)
+bounded_unless_repeated : (b : Bool) (o : Outcome) → Bounded o → Bounded (unless_repeated b o)
+unfolding unless_repeated
+bounded_unless_repeated b (SetAside k) w = w
+bounded_unless_repeated b (Counted e) w = bounded_check (not b) 8 (Counted e) (lit≤ tt) (lit≤ tt) (λ first. w)
 
-pub bounded-outcomeAt : (h : Head) (s : List ℕ) (i : ℕ) → opened s ≡ accepted h → Bounded (outcomeAt h s i)
-unfolding outcomeAt outcomeAfter
-bounded-outcomeAt h s i e =
-    let k = accepted-facts s h e in
-    bounded-unlessRepeated _ _
-    (bounded-outcomeOf (line i s) (unitLines h s) (fuelLines h s) k.units-sound k.fuels-sound)
+pub bounded_outcome_at : (h : Head) (s : List ℕ) (i : ℕ) → opened s ≡ accepted h → Bounded (outcome_at h s i)
+unfolding outcome_at outcome_after
+bounded_outcome_at h s i e =
+    let k = accepted_facts s h e in
+    bounded_unless_repeated _ _
+    (bounded_outcome_of (line i s) (unit_lines h s) (fuel_lines h s) k.units_sound k.fuels_sound)

@@ -3,16 +3,16 @@
 use Rattle.std.proofs.Common.{◌≡◌, ℕ, false, List, [], ◌∷◌, set, sym, refl, ◌∙◌, ap₂, lit≤, get_or-set_other}
 use Rattle.choice.proofs.TestsLaws.{choose-true, worked-out}
 use Rattle.rules.specs.declared.book.Head.{Head}
-use Rattle.rules.specs.Bytes.{word, bytes_of, line, lines, linesIn}
-use Rattle.rules.specs.Book.{lengthOk, startsOk, trailerOk, unitHeadOk, unitOk, kindClassOk, molarVolumeOk, fuelHeadOk, fuelOk, linesOk, linesSound, head_of, accepted, opened, SetApart}
+use Rattle.rules.specs.Bytes.{word, bytes_of, line, lines, lines_in}
+use Rattle.rules.specs.Book.{length_ok, starts_ok, trailer_ok, unit_head_ok, unit_ok, kind_class_ok, molar_volume_ok, fuel_head_ok, fuel_ok, lines_ok, lines_sound, head_of, accepted, opened, SetApart}
 use Rattle.rules.specs.Repeat.{repeatable, repeated}
-use Rattle.rules.specs.Record.{check, unlessRepeated, outcomeAfter, outcomeAt}
+use Rattle.rules.specs.Record.{check, unless_repeated, outcome_after, outcome_at}
 use Rattle.rules.proofs.ApartLaws.{naming, opened-apart}
-use Rattle.rules.proofs.Cases.{counted, worked-sums}
+use Rattle.rules.proofs.Cases.{counted, worked_sums}
 
 -- ---- one record, one unit, one fuel, the trailer: 16 bytes to a line, as they are printed
-unfoldable pub sampleBook : List ℕ
-sampleBook =
+unfoldable pub sample_book : List ℕ
+sample_book =
     0x01 ∷ 0x00 ∷ 0x01 ∷ 0x00 ∷ 0x01 ∷ 0x00 ∷ 0x06 ∷ 0x00 ∷ 0xe8 ∷ 0x03 ∷ 0x00 ∷ 0x00 ∷ 0x00 ∷ 0x00 ∷ 0x00 ∷ 0x00
     ∷ 0x00 ∷ 0x00 ∷ 0x00 ∷ 0x00 ∷ 0x00 ∷ 0x00 ∷ 0x00 ∷ 0x00 ∷ 0x00 ∷ 0x00 ∷ 0x00 ∷ 0x00 ∷ 0x00 ∷ 0x00 ∷ 0x00 ∷ 0x00
     ∷ 0x01 ∷ 0x00 ∷ 0x00 ∷ 0x00 ∷ 0xc4 ∷ 0x09 ∷ 0x00 ∷ 0x00 ∷ 0x00 ∷ 0x00 ∷ 0x00 ∷ 0x00 ∷ 0x00 ∷ 0x00 ∷ 0x00 ∷ 0x00
@@ -23,50 +23,50 @@ sampleBook =
     ∷ 0xda ∷ 0x07 ∷ 0x00 ∷ 0x00 ∷ 0x00 ∷ 0x00 ∷ 0x00 ∷ 0x00 ∷ 0x00 ∷ 0x00 ∷ 0x00 ∷ 0x00 ∷ 0x00 ∷ 0x00 ∷ 0x00 ∷ 0x00
     ∷ []
 
-abbrev pub sampleHead : Head
-sampleHead = record { n = 1; units = 32; fuels = 64; year = 2010; length = 128; warming = 0 }
+abbrev pub sample_head : Head
+sample_head = record { n = 1; units = 32; fuels = 64; year = 2010; length = 128; warming = 0 }
 
-pub opened-sampleBook : opened sampleBook ≡ accepted sampleHead
+pub opened_sample_book : opened sample_book ≡ accepted sample_head
 unfolding
-    sampleBook opened lengthOk head_of trailerOk startsOk linesSound linesIn lines linesOk word
-    unitOk unitHeadOk fuelOk fuelHeadOk kindClassOk molarVolumeOk
-opened-sampleBook = simp worked-out
+    sample_book opened length_ok head_of trailer_ok starts_ok lines_sound lines_in lines lines_ok word
+    unit_ok unit_head_ok fuel_ok fuel_head_ok kind_class_ok molar_volume_ok
+opened_sample_book = simp worked-out
 
 -- A fuel record repeats nothing.
-first-sampleBook : repeated (line 0 sampleBook) (lines 0 sampleBook) ≡ false
-unfolding sampleBook repeated repeatable
-first-sampleBook = simp worked-out
+first_sample_book : repeated (line 0 sample_book) (lines 0 sample_book) ≡ false
+unfolding sample_book repeated repeatable
+first_sample_book = simp worked-out
 
-pub outcomeAt-sampleBook : outcomeAt sampleHead sampleBook 0 ≡ counted 1 1900000000000 34200000000 3420000000
-unfolding sampleBook outcomeAt outcomeAfter unlessRepeated check linesIn lines bytes_of
-outcomeAt-sampleBook = ap₂ unlessRepeated first-sampleBook worked-sums.p1 ∙ choose-true _ _
+pub outcome_at_sample_book : outcome_at sample_head sample_book 0 ≡ counted 1 1900000000000 34200000000 3420000000
+unfolding sample_book outcome_at outcome_after unless_repeated check lines_in lines bytes_of
+outcome_at_sample_book = ap₂ unless_repeated first_sample_book worked_sums.p1 ∙ choose-true _ _
 
 -- ---- the same, with the second set of warming values in byte 20 of its trailer
-abbrev pub secondBook : List ℕ
-secondBook = set sampleBook 116 1
+abbrev pub second_book : List ℕ
+second_book = set sample_book 116 1
 
-pub sampleBook-apart : SetApart sampleBook secondBook
-unfolding sampleBook
-sampleBook-apart = record {
+pub sample_book_apart : SetApart sample_book second_book
+unfolding sample_book
+sample_book_apart = record {
   lengths = refl;
-  others = λ i other. sym (get_or-set_other sampleBook 116 i 1 0 other);
+  others = λ i other. sym (get_or-set_other sample_book 116 i 1 0 other);
 }
 
-pub opened-secondBook : opened secondBook ≡ accepted (naming 1 sampleHead)
-unfolding sampleBook
-opened-secondBook = opened-apart sampleBook-apart opened-sampleBook (lit≤ tt)
+pub opened_second_book : opened second_book ≡ accepted (naming 1 sample_head)
+unfolding sample_book
+opened_second_book = opened-apart sample_book_apart opened_sample_book (lit≤ tt)
 
 -- ---- a trailer alone, of the same year
-unfoldable pub emptyBook : List ℕ
-emptyBook =
+unfoldable pub empty_book : List ℕ
+empty_book =
     0x53 ∷ 0x54 ∷ 0x43 ∷ 0x42 ∷ 0x01 ∷ 0x00 ∷ 0x00 ∷ 0x00 ∷ 0x00 ∷ 0x00 ∷ 0x00 ∷ 0x00 ∷ 0x00 ∷ 0x00 ∷ 0x00 ∷ 0x00
     ∷ 0xda ∷ 0x07 ∷ 0x00 ∷ 0x00 ∷ 0x00 ∷ 0x00 ∷ 0x00 ∷ 0x00 ∷ 0x00 ∷ 0x00 ∷ 0x00 ∷ 0x00 ∷ 0x00 ∷ 0x00 ∷ 0x00 ∷ 0x00
     ∷ []
 
-abbrev pub emptyHead : Head
-emptyHead = record { n = 0; units = 0; fuels = 0; year = 2010; length = 32; warming = 0 }
+abbrev pub empty_head : Head
+empty_head = record { n = 0; units = 0; fuels = 0; year = 2010; length = 32; warming = 0 }
 
-pub opened-emptyBook : opened emptyBook ≡ accepted emptyHead
+pub opened_empty_book : opened empty_book ≡ accepted empty_head
 unfolding
-    emptyBook opened lengthOk head_of trailerOk startsOk linesSound linesIn lines linesOk word
-opened-emptyBook = simp worked-out
+    empty_book opened length_ok head_of trailer_ok starts_ok lines_sound lines_in lines lines_ok word
+opened_empty_book = simp worked-out

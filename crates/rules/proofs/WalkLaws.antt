@@ -1,7 +1,7 @@
 -- Steps that walks by hand have in common, of functions that keep nothing of their parameters to the
 -- end: what a `&` owns can be let go, since the caller has kept a copy.
 --
---     contractOf    a contract, as a caller cites it
+--     contract_of    a contract, as a caller cites it
 --     held          a local that is read, at entry n of the context
 --     sets          a local is given its first value
 --     lays          the same, of a call's result
@@ -9,7 +9,7 @@
 --                   the machine value that its type tells, and the tokens, and knows the fact
 --     gone          the next local to be freed, which holds a value
 --     also          two things that hold of anything hold side by side
---     nothing-kept  the triple in which a walk ends that has nothing of its parameters at exit
+--     nothing_kept  the triple in which a walk ends that has nothing of its parameters at exit
 --     Silents       of no parameter a contract says a last value
 --     exits         a result of which the `ensures` holds and the tokens reach the end of that walk
 --     meets         the function's entry in a table meets its contract, from that walk of its code
@@ -48,8 +48,8 @@ abbrev result : (T : Ended) → Lfts T.signature.lifetimes → RattleType
 result T κs = type_at T.signature.result κs
 
 module _ {M : Type 1} {𝓤 : Ura M} (𝓛 : Logic 𝓤) (T : Ended) (c : Clauses 𝓤 T) where
-  abbrev pub contractOf : Contract 𝓤
-  contractOf = triple_of 𝓛 T.signature (closing 𝓛 T c)
+  abbrev pub contract_of : Contract 𝓤
+  contract_of = triple_of 𝓛 T.signature (closing 𝓛 T c)
 
 -- local i, before its first value and with one
 module _ {M : Type 1} (𝓤 : Ura M) (H : Heap 𝓤) (E : Env 𝓤 H) (i : ℕ) where
@@ -82,20 +82,20 @@ module _ {M : Type 1} {𝓤 : Ura M} {𝓛 : Logic 𝓤} {K : Type 0}
 
   pub answers : {E : Env 𝓤 H} {C : Calls 𝓤 H} {Λ : Loops 𝓤 H} {q : Post 𝓤 H} {f : Name} {xs : List Operand}
       {d : Place} {rest : Body} → K → FmC 𝓤 H 𝓛.laws C → (T : Ended) (c : Clauses 𝓤 T)
-      → Triple 𝓤 (C f) (contractOf 𝓛 T c)
+      → Triple 𝓤 (C f) (contract_of 𝓛 T c)
       → (x : Bound 𝓛 T.signature) (g : (c x.0 x.3).ghost) (φ : (result T x.0).Denot → Type 0)
       → ((r : (result T x.0).Denot) (e : AtExit T x.0) → ent 𝓤 ((c x.0 x.3).ensures g r e) (fact 𝓤 (φ r)))
       → (val : (result T x.0).Denot → Val) → Tells (result T x.0) (Is (result T x.0)) (λ r. val r ∷ [])
-      → Opds K 𝓛 (raw ((contractOf 𝓛 T c).pre (x, g)) ∷ Γ) E xs (passed 𝓛 T.signature x)
+      → Opds K 𝓛 (raw ((contract_of 𝓛 T c).pre (x, g)) ∷ Γ) E xs (passed 𝓛 T.signature x)
       → ((r : (result T x.0).Denot) → φ r → Is (result T x.0) r (val r ∷ [])
       → Seq K 𝓛
       (‵ ((result T x.0).own_val r (val r ∷ [])) ∷ raw (alive 𝓛 T.signature x.0 x.1) ∷ Γ)
       (lands C Λ E d (val r) rest q))
-      → Seq K 𝓛 (raw ((contractOf 𝓛 T c).pre (x, g)) ∷ Γ) (runs C Λ E (seq (call f xs d) rest) q)
+      → Seq K 𝓛 (raw ((contract_of 𝓛 T c).pre (x, g)) ∷ Γ) (runs C Λ E (seq (call f xs d) rest) q)
   answers {E} {C} {Λ} {q} {f} {xs} {d} {rest} t fm T c known x g φ told val tells os k =
       let R : RattleType = result T x.0 in
       let tokens : Item 𝓤 = raw (alive 𝓛 T.signature x.0 x.1) in
-      calls_at t fm (contractOf 𝓛 T c) known (x, g) os (λ u.
+      calls_at t fm (contract_of 𝓛 T c) known (x, g) os (λ u.
       use1 𝓛
       (later (some (λ (r : R.Denot). (tokens ⊛ ‵ (R.own_val r (u ∷ []))) ⊛ raw (ensured 𝓛 T c x.0 x.3 g r))))
       (id⊢ 𝓤 _) $
@@ -145,28 +145,28 @@ module _ {n : ℕ} where
   none [] ks = tt
   none (s ∷ ss) ks = (stay_dropped s ks.0, none ss ks.1)
 
-  none-fits : (κs : Lfts n) (ss : List (Slot n)) (ks : Kepts ss) (a : Denots (types_at ss κs)) (ws : Fins κs ss ks a)
+  none_fits : (κs : Lfts n) (ss : List (Slot n)) (ks : Kepts ss) (a : Denots (types_at ss κs)) (ws : Fins κs ss ks a)
       → fits_of κs ss ks (none ss ks) a ws
-  none-fits κs [] ks a ws = tt
-  none-fits κs (s ∷ ss) ks a ws = (tt, none-fits κs ss ks.1 a.1 ws.1)
+  none_fits κs [] ks a ws = tt
+  none_fits κs (s ∷ ss) ks a ws = (tt, none_fits κs ss ks.1 a.1 ws.1)
 
   module _ {M : Type 1} {𝓤 : Ura M} (𝓛 : Logic 𝓤) where
-    none-had : (κs : Lfts n) (ss : List (Slot n)) (ks : Kepts ss) (a : Denots (types_at ss κs))
+    none_had : (κs : Lfts n) (ss : List (Slot n)) (ks : Kepts ss) (a : Denots (types_at ss κs))
         (ws : Fins κs ss ks a) (vss : Valss (types_at ss κs))
         → ent 𝓤 (emp 𝓤) (sem 𝓛 (has_of κs ss ks (none ss ks) a ws vss))
-    none-had κs [] ks a ws vss = id⊢ 𝓤 (emp 𝓤)
-    none-had κs (s ∷ ss) ks a ws vss =
+    none_had κs [] ks a ws vss = id⊢ 𝓤 (emp 𝓤)
+    none_had κs (s ∷ ss) ks a ws vss =
         via 𝓤 _ (emp∗ 𝓤 (emp 𝓤))
-        (mono∗ 𝓤 (id⊢ 𝓤 (emp 𝓤)) (none-had κs ss ks.1 a.1 ws.1 vss.1))
+        (mono∗ 𝓤 (id⊢ 𝓤 (emp 𝓤)) (none_had κs ss ks.1 a.1 ws.1 vss.1))
 
     module _ where
       abbrev Silents : (ss : List (Slot n)) → Kepts ss → Type 1
       Silents [] ks = Unit {1}
       Silents (s ∷ ss) ks = Silent 𝓛 n s ks.0 × Silents ss ks.1
 
-      none-go : (ss : List (Slot n)) (ks : Kepts ss) → Silents ss ks → AllGo 𝓛 n ss ks (none ss ks)
-      none-go [] ks silent = tt
-      none-go (s ∷ ss) ks silent = (Goes-dropped 𝓛 n s ks.0 silent.0, none-go ss ks.1 silent.1)
+      none_go : (ss : List (Slot n)) (ks : Kepts ss) → Silents ss ks → AllGo 𝓛 n ss ks (none ss ks)
+      none_go [] ks silent = tt
+      none_go (s ∷ ss) ks silent = (Goes-dropped 𝓛 n s ks.0 silent.0, none_go ss ks.1 silent.1)
 
 module _ {M : Type 1} {𝓤 : Ura M} (𝓛 : Logic 𝓤) (T : Ended) (c : Clauses 𝓤 T) where
   open 𝓛 use {H}
@@ -177,24 +177,24 @@ module _ {M : Type 1} {𝓤 : Ura M} (𝓛 : Logic 𝓤) (T : Ended) (c : Clause
   abbrev nothing : Stays S.params T.kept
   nothing = none S.params T.kept
 
-  abbrev pub nothing-kept : Contract 𝓤
-  nothing-kept = walk_of 𝓛 T nothing c
+  abbrev pub nothing_kept : Contract 𝓤
+  nothing_kept = walk_of 𝓛 T nothing c
 
   module _ where
-    pub exits : (y : nothing-kept.Ghost) (v : Val) (r : Res S y.0.0) (ws : Lasts T y.0.0 y.0.3)
+    pub exits : (y : nothing_kept.Ghost) (v : Val) (r : Res S y.0.0) (ws : Lasts T y.0.0 y.0.3)
         → ent 𝓤 (emp 𝓤) ((c y.0.0 y.0.3).ensures y.1 r (at_exit T y.0.0 y.0.3 ws))
         → ent 𝓤
         (⋆ 𝓛 (‵ ((result T y.0.0).own_val r (v ∷ [])) ∷ raw (alive 𝓛 S y.0.0 y.0.1) ∷ []))
-        (nothing-kept.post y v)
+        (nothing_kept.post y v)
     exits y v r ws holds =
         let κs : Lfts S.lifetimes = y.0.0 in
         let a : Args S κs = y.0.3 in
         qed 𝓛 (‵ ((result T κs).own_val r (v ∷ [])) ∷ raw (alive 𝓛 S κs y.0.1) ∷ []) ∵
-        suffices ! _ (ends_at 𝓛 T nothing c y v r ws (none-fits κs S.params T.kept a ws)) $
+        suffices ! _ (ends_at 𝓛 T nothing c y v r ws (none_fits κs S.params T.kept a ws)) $
         suffices ! _ (beside 𝓤 _ ((c κs a).ensures y.1 r (at_exit T κs a ws)) holds) $
         move ! (1 ∷ []) $ frame ! $
         use0 𝓛 (‵ (has_of κs S.params T.kept nothing a ws y.0.4))
-        (none-had 𝓛 κs S.params T.kept a ws y.0.4) $
+        (none_had 𝓛 κs S.params T.kept a ws y.0.4) $
         done !
 
     abbrev rows : Lfts S.lifetimes → List RattleType
@@ -209,12 +209,12 @@ module _ {M : Type 1} {𝓤 : Ura M} (𝓛 : Logic 𝓤) (T : Ended) (c : Clause
         → Are (rows κs) (Ises (rows κs)) a (valss (rows κs) (sp κs) a)
         → ent 𝓤 (on_entry 𝓛 S κs qs a (valss (rows κs) (sp κs) a))
         (WpFn 𝓤 H 𝓣.C 𝓣.Λ e (flat (rows κs) (valss (rows κs) (sp κs) a))
-        (nothing-kept.post ((κs, qs, bounds, a, valss (rows κs) (sp κs) a), g))))
-        → Triple 𝓤 (𝓣.C k) (contractOf 𝓛 T c)
+        (nothing_kept.post ((κs, qs, bounds, a, valss (rows κs) (sp κs) a), g))))
+        → Triple 𝓤 (𝓣.C k) (contract_of 𝓛 T c)
     meets silent 𝓣 k e closed sp tl walk =
         let body : Fun 𝓤 = WpFn 𝓤 H 𝓣.C 𝓣.Λ e in
-        entered 𝓤 H (contractOf 𝓛 T c) 𝓣.C 𝓣.Λ k e closed
-        (walk_Meets 𝓛 T nothing (none-go 𝓛 S.params T.kept silent) c body
+        entered 𝓤 H (contract_of 𝓛 T c) 𝓣.C 𝓣.Λ k e closed
+        (walk_Meets 𝓛 T nothing (none_go 𝓛 S.params T.kept silent) c body
         (WpFn-mono 𝓤 H 𝓛.laws 𝓣 e)
         (walked 𝓛 T nothing c body sp tl
         (λ κs qs bounds a g are. via 𝓤 _ (fst∗ 𝓤 _ ((c κs a).requires g)) (walk κs qs bounds a g are))))

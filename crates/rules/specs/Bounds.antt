@@ -5,13 +5,13 @@
 --
 -- Laws: proofs/RecordLaws.antt. Definitions only.
 use Rattle.std.specs.Prelude.{◌*◌, ◌/◌, ◌≤◌}
-use Rattle.mass.specs.Ledger.{tonne, tonnesEach}
+use Rattle.mass.specs.Ledger.{tonne, tonnes_each}
 use Rattle.rules.specs.declared.record.Outcome.{Outcome}
 use Rattle.rules.specs.declared.record.Outcome.TheVariants.{SetAside, Counted}
-use Rattle.rules.specs.Record.{lastReason}
+use Rattle.rules.specs.Record.{last_reason}
 
 abbrev pub Bounded : Outcome → Type 0
-Bounded (SetAside k) = (1 ≤ k) × (k ≤ lastReason)
+Bounded (SetAside k) = (1 ≤ k) × (k ≤ last_reason)
 Bounded (Counted e) =
-    let most = tonnesEach * (tonne / 1000) in
+    let most = tonnes_each * (tonne / 1000) in
     (e.method ≤ 4) × (e.co2.0 ≤ most) × (e.ch4.0 ≤ most) × (e.n2o.0 ≤ most)

@@ -7,7 +7,7 @@
 --     part a e s      the bytes of s from a up to e
 --     line k s        line k of s, counting from 0
 --     lines n s       the first n lines of s
---     linesIn s       all lines of s
+--     lines_in s       all lines of s
 --
 -- Laws: proofs/BytesLaws.antt. Definitions only.
 use Rattle.std.specs.Prelude.{ℕ, zero, suc, ◌+◌, ◌-◌, ◌*◌, ◌/◌, ◌%◌, Bool, List, [], ◌∷◌, length, take, drop, ◌==◌, slice_index, slice_range}
@@ -36,5 +36,5 @@ unfoldable pub lines : ℕ → List ℕ → List (List ℕ)
 lines zero s = []
 lines (suc n) s = take 32 s ∷ lines n (drop 32 s)
 
-unfoldable pub linesIn : List ℕ → List (List ℕ)
-linesIn s = lines (length s / 32) s
+unfoldable pub lines_in : List ℕ → List (List ℕ)
+lines_in s = lines (length s / 32) s

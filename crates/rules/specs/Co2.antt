@@ -7,8 +7,8 @@
 use Rattle.std.specs.Prelude.{◌≡◌}
 use Rattle.rules.specs.declared.record.Outcome.{Outcome}
 use Rattle.rules.specs.declared.record.Outcome.TheVariants.{SetAside, Counted}
-use Rattle.rules.specs.Entry.{co2Alone}
+use Rattle.rules.specs.Entry.{co2_alone}
 
 abbrev pub Co2Alone : Outcome → Type 0
 Co2Alone (SetAside k) = Unit {0}
-Co2Alone (Counted e) = e ≡ co2Alone e.co2
+Co2Alone (Counted e) = e ≡ co2_alone e.co2

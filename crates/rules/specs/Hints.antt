@@ -2,7 +2,7 @@
 -- line, so that neither RULES nor the definitions of a record need it.
 --
 --     hinted n s t    t with a hint of each of the first n lines of s: its place, by the last ten bits of its number
---     hintsIn s t     t with those of all lines of s
+--     hints_in s t     t with those of all lines of s
 --
 -- Of lines whose numbers end alike the last has the hint. Where no number ends so, t is as it was.
 -- Laws: proofs/HintsLaws.antt. Definitions only.
@@ -14,5 +14,5 @@ unfoldable pub hinted : ℕ → List ℕ → List ℕ → List ℕ
 hinted zero s t = t
 hinted (suc n) s t = slice_set (hinted n s t) (number (line n s) % 1024) n
 
-unfoldable pub hintsIn : List ℕ → List ℕ → List ℕ
-hintsIn s t = hinted (length s / 32) s t
+unfoldable pub hints_in : List ℕ → List ℕ → List ℕ
+hints_in s t = hinted (length s / 32) s t

@@ -1,12 +1,12 @@
 -- What is seen of a record of any bytes, book or not. RULES, "Numbers" and "Reasons".
 --
---     sightBy a s i    the same as `sightAt`, of bytes s that were answered by a
---     sightAt s i      the number that refuses s; or that it has no record i; or what becomes of it
+--     sight_by a s i    the same as `sight_at`, of bytes s that were answered by a
+--     sight_at s i      the number that refuses s; or that it has no record i; or what becomes of it
 --     sight r          the number or outcome that r stands for
 --     kind_at s i       the kind of record i, whatever becomes of it; 0 where s has no such line
---     leftBy a i       the same as `leftFrom`, of bytes that were answered by a
---     leftFrom s i     how many records there are from place i on; none of bytes that are refused
---     placeAfter s i   the place after i; from the length of s on, i itself
+--     left_by a i       the same as `left_from`, of bytes that were answered by a
+--     left_from s i     how many records there are from place i on; none of bytes that are refused
+--     place_after s i   the place after i; from the length of s on, i itself
 --     advanced r       r at the place after its next
 --
 -- Definitions only.
@@ -18,38 +18,38 @@ use Rattle.rules.specs.declared.reader.Seen.TheVariants.{Refused, Missing, Recor
 use Rattle.rules.specs.declared.record.Outcome.{Outcome}
 use Rattle.rules.specs.Bytes.{line}
 use Rattle.rules.specs.Fields.{kind}
-use Rattle.rules.specs.Book.{Answer, refused, accepted, opened, faultNumber}
-use Rattle.rules.specs.Record.{outcomeAt}
+use Rattle.rules.specs.Book.{Answer, refused, accepted, opened, fault_number}
+use Rattle.rules.specs.Record.{outcome_at}
 
 pub data Sight : Type 0 where
-  turnedAway : ℕ → Sight
+  turned_away : ℕ → Sight
   missing : Sight
   shown : Outcome → Sight
 
-unfoldable pub sightBy : Answer → List ℕ → ℕ → Sight
-sightBy (refused n) s i = turnedAway n
-sightBy (accepted h) s i = choose (nat_lt i h.n) (shown (outcomeAt h s i)) missing
+unfoldable pub sight_by : Answer → List ℕ → ℕ → Sight
+sight_by (refused n) s i = turned_away n
+sight_by (accepted h) s i = choose (nat_lt i h.n) (shown (outcome_at h s i)) missing
 
-unfoldable pub sightAt : List ℕ → ℕ → Sight
-sightAt s i = sightBy (opened s) s i
+unfoldable pub sight_at : List ℕ → ℕ → Sight
+sight_at s i = sight_by (opened s) s i
 
 unfoldable pub sight : Seen → Sight
-sight (Refused x) = turnedAway (faultNumber x)
+sight (Refused x) = turned_away (fault_number x)
 sight Missing = missing
 sight (Record o) = shown o
 
 unfoldable pub kind_at : List ℕ → ℕ → ℕ
 kind_at s i = choose (nat_lt i (length s / 32)) (kind (line i s)) 0
 
-unfoldable pub leftBy : Answer → ℕ → ℕ
-leftBy (refused n) i = 0
-leftBy (accepted h) i = h.n - i
+unfoldable pub left_by : Answer → ℕ → ℕ
+left_by (refused n) i = 0
+left_by (accepted h) i = h.n - i
 
-unfoldable pub leftFrom : List ℕ → ℕ → ℕ
-leftFrom s i = leftBy (opened s) i
+unfoldable pub left_from : List ℕ → ℕ → ℕ
+left_from s i = left_by (opened s) i
 
-unfoldable pub placeAfter : List ℕ → ℕ → ℕ
-placeAfter s i = choose (nat_lt i (length s)) (i + 1) i
+unfoldable pub place_after : List ℕ → ℕ → ℕ
+place_after s i = choose (nat_lt i (length s)) (i + 1) i
 
 unfoldable pub advanced : Reader → Reader
-advanced r = record { book = r.book; next = placeAfter r.book.now r.next }
+advanced r = record { book = r.book; next = place_after r.book.now r.next }

@@ -16,15 +16,15 @@ use Rattle.std.specs.Prelude.{◌≡◌, ℕ, ◌<◌, true, false, ◌↔◌, L
 use mathlib.Core.List.{Memᴰ}
 use Rattle.mass.specs.declared.hour.Readings.{Readings}
 use Rattle.mass.specs.declared.hour.Hour.TheVariants.{Usable, Unusable}
-use Rattle.mass.specs.Hour.{hourOf}
+use Rattle.mass.specs.Hour.{hour_of}
 use Rattle.rules.specs.declared.entry.Entry.{Entry}
 use Rattle.rules.specs.declared.record.Outcome.{Outcome}
 use Rattle.rules.specs.declared.record.Outcome.TheVariants.{SetAside, Counted}
-use Rattle.rules.specs.Fields.{number, monitored, kind, unitNumber, fuelNumber, period, fuelled, percentBits, flowBits}
-use Rattle.rules.specs.Method.{methodOf}
-use Rattle.rules.specs.Entry.{heatInUse, fuelEntry, hourEntry, anodesEntry}
+use Rattle.rules.specs.Fields.{number, monitored, kind, unit_number, fuel_number, period, fuelled, percent_bits, flow_bits}
+use Rattle.rules.specs.Method.{method_of}
+use Rattle.rules.specs.Entry.{heat_in_use, fuel_entry, hour_entry, anodes_entry}
 use Rattle.rules.specs.Repeat.{repeatable}
-use Rattle.rules.specs.Record.{fuelForm, hourForm, anodesForm, moistureForm, fuelRanges, hourRange, anodesRanges}
+use Rattle.rules.specs.Record.{fuel_form, hour_form, anodes_form, moisture_form, fuel_ranges, hour_range, anodes_ranges}
 
 -- Analysed gas is fuel too.
 abbrev pub FuelRecord : List ℕ → Type 0
@@ -45,53 +45,53 @@ Lacks x ls = (a : List ℕ) → Listed x ls a → ⊥
 
 pub data Applies (before : List (List ℕ)) (l : List ℕ) (units fuels : List (List ℕ)) : ℕ → Type 0 where
   -- 1: kind, flags or a byte that must be 0.
-  wrongKind : (FuelRecord l → ⊥) → (MonitorHour l → ⊥) → (Anodes l → ⊥) → Applies before l units fuels 1
-  wrongFuelForm : FuelRecord l → fuelForm l ≡ false → Applies before l units fuels 1
-  wrongHourForm : MonitorHour l → hourForm l ≡ false → Applies before l units fuels 1
-  wrongAnodesForm : Anodes l → anodesForm l ≡ false → Applies before l units fuels 1
+  wrong_kind : (FuelRecord l → ⊥) → (MonitorHour l → ⊥) → (Anodes l → ⊥) → Applies before l units fuels 1
+  wrong_fuel_form : FuelRecord l → fuel_form l ≡ false → Applies before l units fuels 1
+  wrong_hour_form : MonitorHour l → hour_form l ≡ false → Applies before l units fuels 1
+  wrong_anodes_form : Anodes l → anodes_form l ≡ false → Applies before l units fuels 1
   -- What moisture an hour may have goes by its unit's line. Where there is none, 2 applies in place of this.
-  wetMoisture : (u : List ℕ) → MonitorHour l → Listed (unitNumber l) units u → moistureForm l u ≡ false
+  wet_moisture : (u : List ℕ) → MonitorHour l → Listed (unit_number l) units u → moisture_form l u ≡ false
       → Applies before l units fuels 1
   -- 2: unit not listed.
-  noUnit : Lacks (unitNumber l) units → Applies before l units fuels 2
+  no_unit : Lacks (unit_number l) units → Applies before l units fuels 2
   -- 3: fuel not listed.
-  noFuel : FuelRecord l → Lacks (fuelNumber l) fuels → Applies before l units fuels 3
+  no_fuel : FuelRecord l → Lacks (fuel_number l) fuels → Applies before l units fuels 3
   -- 4: month, amount, heat or carbon out of range, the limit of carbon being that of the fuel's kind, or a
   -- low heat of a fuel that isn't natural gas; of analysed gas, its molecular weight too, a fuel that isn't a
   -- gas, or one that tells no molar volume;
-  fuelOutside : (f : List ℕ) → FuelRecord l → Listed (fuelNumber l) fuels f → fuelRanges l f ≡ false
+  fuel_outside : (f : List ℕ) → FuelRecord l → Listed (fuel_number l) fuels f → fuel_ranges l f ≡ false
       → Applies before l units fuels 4
   -- hour, moisture or reading out of range;
-  hourOutside : MonitorHour l → hourRange l ≡ false → Applies before l units fuels 4
-  readingOutside : (x : Float) → MonitorHour l → hourOf (percentBits l) (flowBits l) ≡ Unusable x
+  hour_outside : MonitorHour l → hour_range l ≡ false → Applies before l units fuels 4
+  reading_outside : (x : Float) → MonitorHour l → hour_of (percent_bits l) (flow_bits l) ≡ Unusable x
       → Applies before l units fuels 4
   -- month, metal, use or impurities out of range.
-  anodesOutside : Anodes l → anodesRanges l ≡ false → Applies before l units fuels 4
+  anodes_outside : Anodes l → anodes_ranges l ≡ false → Applies before l units fuels 4
   -- 5: hour for a unit without monitor.
-  noMonitor : (u : List ℕ) → MonitorHour l → Listed (unitNumber l) units u → monitored u ≡ false
+  no_monitor : (u : List ℕ) → MonitorHour l → Listed (unit_number l) units u → monitored u ≡ false
       → Applies before l units fuels 5
   -- 6: no permitted method.
-  noMethod : (u f : List ℕ) → FuelRecord l → Listed (unitNumber l) units u → Listed (fuelNumber l) fuels f
-      → methodOf l u f ≡ 0 → Applies before l units fuels 6
+  no_method : (u f : List ℕ) → FuelRecord l → Listed (unit_number l) units u → Listed (fuel_number l) fuels f
+      → method_of l u f ≡ 0 → Applies before l units fuels 6
   -- 7: no heat in use.
-  noHeat : (f : List ℕ) → FuelRecord l → Listed (fuelNumber l) fuels f → (heatInUse l f).0 ≡ 0
+  no_heat : (f : List ℕ) → FuelRecord l → Listed (fuel_number l) fuels f → (heat_in_use l f).0 ≡ 0
       → Applies before l units fuels 7
   -- 8: hour whose unit and number, or anodes whose unit and month, stand in an earlier record of the same
   -- kind, whatever became of that one.
-  sentBefore : (e : List ℕ) → repeatable l ≡ true → Memᴰ e before → kind e ≡ kind l
-      → unitNumber e ≡ unitNumber l → period e ≡ period l → Applies before l units fuels 8
+  sent_before : (e : List ℕ) → repeatable l ≡ true → Memᴰ e before → kind e ≡ kind l
+      → unit_number e ≡ unit_number l → period e ≡ period l → Applies before l units fuels 8
 
 pub record Reasons (before : List (List ℕ)) (l : List ℕ) (units fuels : List (List ℕ)) (o : Outcome) : Type 0 where
   -- It is set aside with reason k exactly when k applies and none before it does.
-  pub set-aside : (k : ℕ) → (o ≡ SetAside k)
+  pub set_aside : (k : ℕ) → (o ≡ SetAside k)
       ↔ (Applies before l units fuels k × ((j : ℕ) → j < k → Applies before l units fuels j → ⊥))
   -- It counts exactly when none applies.
   pub counts : ((e : Entry) × (o ≡ Counted e)) ↔ ((k : ℕ) → Applies before l units fuels k → ⊥)
   -- A fuel record that counts gives what it is worth by the listed lines of its unit and its fuel,
-  pub gives-fuel : (e : Entry) (u f : List ℕ) → o ≡ Counted e → FuelRecord l → Listed (unitNumber l) units u
-      → Listed (fuelNumber l) fuels f → e ≡ fuelEntry l u f
+  pub gives_fuel : (e : Entry) (u f : List ℕ) → o ≡ Counted e → FuelRecord l → Listed (unit_number l) units u
+      → Listed (fuel_number l) fuels f → e ≡ fuel_entry l u f
   -- an hour what its readings are worth with its moisture,
-  pub gives-hour : (e : Entry) (r : Readings) → o ≡ Counted e → MonitorHour l
-      → hourOf (percentBits l) (flowBits l) ≡ Usable r → e ≡ hourEntry l r
+  pub gives_hour : (e : Entry) (r : Readings) → o ≡ Counted e → MonitorHour l
+      → hour_of (percent_bits l) (flow_bits l) ≡ Usable r → e ≡ hour_entry l r
   -- and anodes what their numbers are worth.
-  pub gives-anodes : (e : Entry) → o ≡ Counted e → Anodes l → e ≡ anodesEntry l
+  pub gives_anodes : (e : Entry) → o ≡ Counted e → Anodes l → e ≡ anodes_entry l

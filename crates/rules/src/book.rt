@@ -1,6 +1,6 @@
 // A book, opened or refused.
 ghost use Rattle.std.specs.Prelude.{◌≡◌, ◌≤◌, length};
-ghost use Rattle.rules.specs.Book.{lengthOk, startsOk, trailerOk, opened, faultNumber, answer};
+ghost use Rattle.rules.specs.Book.{length_ok, starts_ok, trailer_ok, opened, fault_number, answer};
 
 use crate::listing::Sort;
 use crate::{listing, trailer};
@@ -42,7 +42,7 @@ pub enum Fault {
 
 // The number of a fault.
 pub fn number_fault(x: Fault) -> u8
-    ensures number { result ≡ faultNumber x }
+    ensures number { result ≡ fault_number x }
 {
     match x {
         Fault::Length => 20,
@@ -90,7 +90,7 @@ pub fn open(s: &[u8]) -> Opened
 }
 
 fn is_length_right(s: &[u8]) -> bool
-    ensures length { result ≡ lengthOk s.now }
+    ensures length { result ≡ length_ok s.now }
 {
     let n = s.len();
     (32 <= n) & (n <= LONGEST_BOOK) & (n % 32 == 0)
@@ -98,7 +98,7 @@ fn is_length_right(s: &[u8]) -> bool
 
 fn is_trailer_right(t: &[u8], e: usize) -> bool
     requires whole { 32 ≤ length t.now }
-    ensures trailer { result ≡ trailerOk t.now e }
+    ensures trailer { result ≡ trailer_ok t.now e }
 {
     let signed = trailer::is_signed(t);
     let version_right = trailer::is_version_right(t);
@@ -109,7 +109,7 @@ fn is_trailer_right(t: &[u8], e: usize) -> bool
 }
 
 fn are_starts_right(u: usize, f: usize, e: usize) -> bool
-    ensures starts { result ≡ startsOk u f e }
+    ensures starts { result ≡ starts_ok u f e }
 {
     (u % 32 == 0) & (f % 32 == 0) & (u <= f) & (f <= e)
 }

@@ -1,9 +1,9 @@
 // What a record that counts gives to the ledgers.
 ghost use Rattle.std.specs.Prelude.{◌≡◌, ◌≤◌, true, length};
 ghost use Rattle.rules.specs.Fields.{heat};
-ghost use Rattle.rules.specs.Book.{fuelOk};
-ghost use Rattle.rules.specs.Record.{heatLimit, fuelRanges, anodesRanges};
-ghost use Rattle.rules.specs.Entry.{measuredHeat, heatInUse, co2ByCarbon, co2By, destinationBy, entryBy, co2Alone, impurities, anodesEntry};
+ghost use Rattle.rules.specs.Book.{fuel_ok};
+ghost use Rattle.rules.specs.Record.{heat_limit, fuel_ranges, anodes_ranges};
+ghost use Rattle.rules.specs.Entry.{measured_heat, heat_in_use, co2_by_carbon, co2_by, destination_by, entry_by, co2_alone, impurities, anodes_entry};
 
 use crate::{field, listed};
 use mass::anode::{AnodeUse, Impurities, Metal};
@@ -33,10 +33,10 @@ pub struct Entry {
 // What the record gives by this method and with this heat in use.
 pub(crate) fn make_entry(method: u8, h: Heat, l: &[u8], f: &[u8]) -> Entry
     requires whole { (32 ≤ length l.now) × (32 ≤ length f.now) }
-    requires ranges { fuelRanges l.now f.now ≡ true }
-    requires fuel { fuelOk f.now ≡ true }
-    requires used { h ≡ heatInUse l.now f.now }
-    ensures entry { result ≡ entryBy method l.now f.now }
+    requires ranges { fuel_ranges l.now f.now ≡ true }
+    requires fuel { fuel_ok f.now ≡ true }
+    requires used { h ≡ heat_in_use l.now f.now }
+    ensures entry { result ≡ entry_by method l.now f.now }
 {
     let destination = find_destination(method, f);
     let co2 = weigh_co2(method, h, l, f);
@@ -55,8 +55,8 @@ pub(crate) fn make_entry(method: u8, h: Heat, l: &[u8], f: &[u8]) -> Entry
 // The heat in use.
 pub(crate) fn find_heat(l: &[u8], f: &[u8]) -> Heat
     requires whole { (32 ≤ length l.now) × (32 ≤ length f.now) }
-    requires ranges { fuelRanges l.now f.now ≡ true }
-    ensures heat { result ≡ heatInUse l.now f.now }
+    requires ranges { fuel_ranges l.now f.now ≡ true }
+    ensures heat { result ≡ heat_in_use l.now f.now }
 {
     if field::is_heat_measured(l) {
         return find_measured(l);
@@ -67,8 +67,8 @@ pub(crate) fn find_heat(l: &[u8], f: &[u8]) -> Heat
 // The heat that the record gives.
 pub(crate) fn find_measured(l: &[u8]) -> Heat
     requires whole { 32 ≤ length l.now }
-    requires range { heat l.now ≤ heatLimit l.now }
-    ensures heat { result ≡ measuredHeat l.now }
+    requires range { heat l.now ≤ heat_limit l.now }
+    ensures heat { result ≡ measured_heat l.now }
 {
     let heat = field::heat(l);
     if field::is_heat_low(l) {
@@ -79,7 +79,7 @@ pub(crate) fn find_measured(l: &[u8]) -> Heat
 
 fn find_destination(by: u8, f: &[u8]) -> Destination
     requires whole { 32 ≤ length f.now }
-    ensures ledger { result ≡ destinationBy by f.now }
+    ensures ledger { result ≡ destination_by by f.now }
 {
     if by == 4 {
         return Destination::Nowhere;
@@ -92,10 +92,10 @@ fn find_destination(by: u8, f: &[u8]) -> Destination
 
 fn weigh_co2(method: u8, h: Heat, l: &[u8], f: &[u8]) -> Ug
     requires whole { (32 ≤ length l.now) × (32 ≤ length f.now) }
-    requires ranges { fuelRanges l.now f.now ≡ true }
-    requires fuel { fuelOk f.now ≡ true }
-    requires used { h ≡ heatInUse l.now f.now }
-    ensures co2 { result ≡ co2By method l.now f.now }
+    requires ranges { fuel_ranges l.now f.now ≡ true }
+    requires fuel { fuel_ok f.now ≡ true }
+    requires used { h ≡ heat_in_use l.now f.now }
+    ensures co2 { result ≡ co2_by method l.now f.now }
 {
     if method == 4 {
         return Ug(0);
@@ -109,9 +109,9 @@ fn weigh_co2(method: u8, h: Heat, l: &[u8], f: &[u8]) -> Ug
 
 fn weigh_carbon(l: &[u8], f: &[u8]) -> Ug
     requires whole { (32 ≤ length l.now) × (32 ≤ length f.now) }
-    requires ranges { fuelRanges l.now f.now ≡ true }
-    requires fuel { fuelOk f.now ≡ true }
-    ensures co2 { result ≡ co2ByCarbon l.now f.now }
+    requires ranges { fuel_ranges l.now f.now ≡ true }
+    requires fuel { fuel_ok f.now ≡ true }
+    ensures co2 { result ≡ co2_by_carbon l.now f.now }
 {
     let a = Amount(field::amount(l));
     let carbon = field::carbon(l);
@@ -125,7 +125,7 @@ fn weigh_carbon(l: &[u8], f: &[u8]) -> Ug
 
 // What a record of no fuel gives.
 pub(crate) fn give_co2(co2: Ug) -> Entry
-    ensures entry { result ≡ co2Alone co2 }
+    ensures entry { result ≡ co2_alone co2 }
 {
     Entry {
         method: 0,
@@ -138,8 +138,8 @@ pub(crate) fn give_co2(co2: Ug) -> Entry
 
 pub(crate) fn make_anodes_entry(l: &[u8]) -> Entry
     requires whole { 32 ≤ length l.now }
-    requires ranges { anodesRanges l.now ≡ true }
-    ensures entry { result ≡ anodesEntry l.now }
+    requires ranges { anodes_ranges l.now ≡ true }
+    ensures entry { result ≡ anodes_entry l.now }
 {
     let metal = Metal(field::metal(l));
     let used = AnodeUse(field::anode_use(l));

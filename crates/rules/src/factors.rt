@@ -1,8 +1,8 @@
 // What a fuel line says of a fuel that was burned.
 ghost use Rattle.std.specs.Prelude.{◌≡◌, ◌/◌, ◌<◌, length};
 ghost use Rattle.rules.specs.Bytes.{line};
-ghost use Rattle.rules.specs.Book.{fuelLines, opened, accepted};
-ghost use Rattle.rules.specs.Factors.{factorsOf};
+ghost use Rattle.rules.specs.Book.{fuel_lines, opened, accepted};
+ghost use Rattle.rules.specs.Factors.{factors_of};
 
 use crate::book::Head;
 use crate::{bytes, listed};
@@ -22,8 +22,8 @@ pub struct Factors {
 // Of fuel line k of a book that was opened.
 pub fn read_factors(book: &[u8], h: Head, k: usize) -> Factors
     requires opened { opened book.now ≡ accepted h }
-    requires there { k < length (fuelLines h book.now) / 32 }
-    ensures factors { result ≡ factorsOf (line k (fuelLines h book.now)) }
+    requires there { k < length (fuel_lines h book.now) / 32 }
+    ensures factors { result ≡ factors_of (line k (fuel_lines h book.now)) }
 {
     let start = h.fuels;
     let end = h.length - 32;

@@ -21,14 +21,14 @@ pub(crate) fn flags(l: &[u8]) -> u8
 
 pub(crate) fn unit_number(l: &[u8]) -> u64
     requires whole { 32 ≤ length l.now }
-    ensures field { result ≡ fields.unitNumber l.now }
+    ensures field { result ≡ fields.unit_number l.now }
 {
     bytes::read_word(l, 2, 2)
 }
 
 pub(crate) fn fuel_number(l: &[u8]) -> u64
     requires whole { 32 ≤ length l.now }
-    ensures field { result ≡ fields.fuelNumber l.now }
+    ensures field { result ≡ fields.fuel_number l.now }
 {
     bytes::read_word(l, 4, 2)
 }
@@ -58,28 +58,28 @@ pub(crate) fn is_analysed(l: &[u8]) -> bool
 
 pub(crate) fn is_heat_measured(l: &[u8]) -> bool
     requires whole { 32 ≤ length l.now }
-    ensures field { result ≡ fields.heatMeasured l.now }
+    ensures field { result ≡ fields.heat_measured l.now }
 {
     l[1] % 2 == 1
 }
 
 pub(crate) fn is_carbon_flagged(l: &[u8]) -> bool
     requires whole { 32 ≤ length l.now }
-    ensures field { result ≡ fields.carbonFlagged l.now }
+    ensures field { result ≡ fields.carbon_flagged l.now }
 {
     l[1] / 2 % 2 == 1
 }
 
 pub(crate) fn is_carbon_measured(l: &[u8]) -> bool
     requires whole { 32 ≤ length l.now }
-    ensures field { result ≡ fields.carbonMeasured l.now }
+    ensures field { result ≡ fields.carbon_measured l.now }
 {
     is_analysed(l) | is_carbon_flagged(l)
 }
 
 pub(crate) fn is_heat_low(l: &[u8]) -> bool
     requires whole { 32 ≤ length l.now }
-    ensures field { result ≡ fields.heatLow l.now }
+    ensures field { result ≡ fields.heat_low l.now }
 {
     l[1] / 4 % 2 == 1
 }
@@ -107,7 +107,7 @@ pub(crate) fn carbon(l: &[u8]) -> u32
 
 pub(crate) fn is_fuel_record_blank(l: &[u8]) -> bool
     requires whole { 32 ≤ length l.now }
-    ensures field { result ≡ fields.fuelRecordBlank l.now }
+    ensures field { result ≡ fields.fuel_record_blank l.now }
 {
     bytes::are_zero(l, 20, 32)
 }
@@ -115,14 +115,14 @@ pub(crate) fn is_fuel_record_blank(l: &[u8]) -> bool
 // ---- analysed gas
 pub(crate) fn molecular_weight(l: &[u8]) -> u32
     requires whole { 32 ≤ length l.now }
-    ensures field { result ≡ fields.molecularWeight l.now }
+    ensures field { result ≡ fields.molecular_weight l.now }
 {
     bytes::read_word(l, 20, 4) as u32
 }
 
 pub(crate) fn is_gas_blank(l: &[u8]) -> bool
     requires whole { 32 ≤ length l.now }
-    ensures field { result ≡ fields.gasBlank l.now }
+    ensures field { result ≡ fields.gas_blank l.now }
 {
     bytes::are_zero(l, 24, 32)
 }
@@ -130,14 +130,14 @@ pub(crate) fn is_gas_blank(l: &[u8]) -> bool
 // ---- a monitor hour
 pub(crate) fn percent_bits(l: &[u8]) -> u32
     requires whole { 32 ≤ length l.now }
-    ensures field { result ≡ fields.percentBits l.now }
+    ensures field { result ≡ fields.percent_bits l.now }
 {
     bytes::read_word(l, 8, 4) as u32
 }
 
 pub(crate) fn flow_bits(l: &[u8]) -> u32
     requires whole { 32 ≤ length l.now }
-    ensures field { result ≡ fields.flowBits l.now }
+    ensures field { result ≡ fields.flow_bits l.now }
 {
     bytes::read_word(l, 12, 4) as u32
 }
@@ -151,7 +151,7 @@ pub(crate) fn moisture(l: &[u8]) -> u16
 
 pub(crate) fn is_hour_blank(l: &[u8]) -> bool
     requires whole { 32 ≤ length l.now }
-    ensures field { result ≡ fields.hourBlank l.now }
+    ensures field { result ≡ fields.hour_blank l.now }
 {
     bytes::are_zero(l, 18, 32)
 }
@@ -166,7 +166,7 @@ pub(crate) fn metal(l: &[u8]) -> u32
 
 pub(crate) fn anode_use(l: &[u8]) -> u32
     requires whole { 32 ≤ length l.now }
-    ensures field { result ≡ fields.anodeUse l.now }
+    ensures field { result ≡ fields.anode_use l.now }
 {
     bytes::read_word(l, 12, 4) as u32
 }
@@ -189,7 +189,7 @@ pub(crate) fn ash(l: &[u8]) -> u64
 
 pub(crate) fn other_impurities(l: &[u8]) -> u64
     requires whole { 32 ≤ length l.now }
-    ensures field { result ≡ fields.otherImpurities l.now }
+    ensures field { result ≡ fields.other_impurities l.now }
     ensures below { result < 65536 }
 {
     bytes::read_word(l, 20, 2)
@@ -197,7 +197,7 @@ pub(crate) fn other_impurities(l: &[u8]) -> u64
 
 pub(crate) fn is_anodes_blank(l: &[u8]) -> bool
     requires whole { 32 ≤ length l.now }
-    ensures field { result ≡ fields.anodesBlank l.now }
+    ensures field { result ≡ fields.anodes_blank l.now }
 {
     bytes::are_zero(l, 22, 32)
 }

@@ -2,8 +2,8 @@
 // against the line: a wrong one would cost a search and change no result. So the hints are written where
 // the caller keeps them, whatever stood there.
 ghost use Rattle.std.specs.Prelude.{◌≡◌, ◌/◌, ◌≤◌, length};
-ghost use Rattle.rules.specs.Book.{opened, accepted, unitLines, fuelLines};
-ghost use Rattle.rules.specs.Hints.{hintsIn};
+ghost use Rattle.rules.specs.Book.{opened, accepted, unit_lines, fuel_lines};
+ghost use Rattle.rules.specs.Hints.{hints_in};
 
 use crate::book::Head;
 use crate::{bytes, listed};
@@ -15,7 +15,7 @@ pub const COUNT: usize = 1024;
 pub fn note_units(book: &[u8], h: Head, hints: &mut [u8])
     requires opened { opened book.now ≡ accepted h }
     requires room { 1024 ≤ length hints.old }
-    ensures noted { hints.new ≡ hintsIn (unitLines h book.now) hints.old }
+    ensures noted { hints.new ≡ hints_in (unit_lines h book.now) hints.old }
 {
     let start = h.units;
     let end = h.fuels;
@@ -26,7 +26,7 @@ pub fn note_units(book: &[u8], h: Head, hints: &mut [u8])
 pub fn note_fuels(book: &[u8], h: Head, hints: &mut [u8])
     requires opened { opened book.now ≡ accepted h }
     requires room { 1024 ≤ length hints.old }
-    ensures noted { hints.new ≡ hintsIn (fuelLines h book.now) hints.old }
+    ensures noted { hints.new ≡ hints_in (fuel_lines h book.now) hints.old }
 {
     let start = h.fuels;
     let end = h.length - 32;
@@ -36,7 +36,7 @@ pub fn note_fuels(book: &[u8], h: Head, hints: &mut [u8])
 fn note(s: &[u8], places: &mut [u8])
     requires few { length s.now / 32 ≤ 256 }
     requires room { 1024 ≤ length places.old }
-    ensures noted { places.new ≡ hintsIn s.now places.old }
+    ensures noted { places.new ≡ hints_in s.now places.old }
 {
     let n = s.len() / 32;
     let mut i = 0;

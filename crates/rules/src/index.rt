@@ -2,8 +2,8 @@
 // it has an entry for each line, and a hint says in which line a number may stand, by its last ten bits. As a
 // look-up holds the number of that line against the one that it wants, a wrong hint costs time alone.
 ghost use Rattle.std.specs.Prelude.{◌≡◌, ◌≤◌, length, replicate};
-ghost use Rattle.rules.specs.Book.{unitLines, fuelLines, opened, accepted};
-ghost use Rattle.rules.specs.Index.{noNumber, columnOf, way_of, moistBelow, largeFlags, allowedFlags, volumeOf, UnitsNoted, FuelsNoted, Small};
+ghost use Rattle.rules.specs.Book.{unit_lines, fuel_lines, opened, accepted};
+ghost use Rattle.rules.specs.Index.{no_number, column_of, way_of, moist_below, large_flags, allowed_flags, volume_of, UnitsNoted, FuelsNoted, Small};
 ghost use Rattle.rules.specs.Listing.{Rising};
 
 use crate::book::Head;
@@ -35,8 +35,8 @@ pub(crate) const VOLUMES: usize = 256;
 // Notes the unit lines of a book that was opened.
 pub fn note_units(book: &[u8], h: Head, units: &mut [u32; 256], hints: &mut [u8; 1024])
     requires opened { opened book.now ≡ accepted h }
-    requires blank { (units.old ≡ replicate 256 noNumber) × (hints.old ≡ replicate 1024 0) }
-    ensures noted { UnitsNoted (unitLines h book.now) units.new × Small hints.new }
+    requires blank { (units.old ≡ replicate 256 no_number) × (hints.old ≡ replicate 1024 0) }
+    ensures noted { UnitsNoted (unit_lines h book.now) units.new × Small hints.new }
 {
     let start = h.units;
     let end = h.fuels;
@@ -45,7 +45,7 @@ pub fn note_units(book: &[u8], h: Head, units: &mut [u32; 256], hints: &mut [u8;
 
 fn note_unit_lines(s: &[u8], units: &mut [u32; 256], hints: &mut [u8; 1024])
     requires rising { Rising s.now }
-    requires blank { (units.old ≡ replicate 256 noNumber) × (hints.old ≡ replicate 1024 0) }
+    requires blank { (units.old ≡ replicate 256 no_number) × (hints.old ≡ replicate 1024 0) }
     ensures noted { UnitsNoted s.now units.new × Small hints.new }
 {
     let n = s.len() / 32;
@@ -66,7 +66,7 @@ fn note_unit_lines(s: &[u8], units: &mut [u32; 256], hints: &mut [u8; 1024])
 // that of a large unit without a monitor.
 fn find_column(u: &[u8]) -> u32
     requires whole { 32 ≤ length u.now }
-    ensures column { result ≡ columnOf u.now }
+    ensures column { result ≡ column_of u.now }
 {
     if listed::is_monitored(u) {
         return ALLOWED as u32;
@@ -91,7 +91,7 @@ fn find_way(u: &[u8]) -> u32
 // What the moisture of an hour stays below; 0 where there are no hours.
 fn find_moist(u: &[u8]) -> u32
     requires whole { 32 ≤ length u.now }
-    ensures below { result ≡ moistBelow u.now }
+    ensures below { result ≡ moist_below u.now }
 {
     if !listed::is_monitored(u) {
         return 0;
@@ -105,8 +105,8 @@ fn find_moist(u: &[u8]) -> u32
 // The same for its fuel lines.
 pub fn note_fuels(book: &[u8], h: Head, fuels: &mut [u32; 320], hints: &mut [u8; 1024])
     requires opened { opened book.now ≡ accepted h }
-    requires blank { (fuels.old ≡ replicate 320 noNumber) × (hints.old ≡ replicate 1024 0) }
-    ensures noted { FuelsNoted (fuelLines h book.now) fuels.new × Small hints.new }
+    requires blank { (fuels.old ≡ replicate 320 no_number) × (hints.old ≡ replicate 1024 0) }
+    ensures noted { FuelsNoted (fuel_lines h book.now) fuels.new × Small hints.new }
 {
     let start = h.fuels;
     let end = h.length - 32;
@@ -115,7 +115,7 @@ pub fn note_fuels(book: &[u8], h: Head, fuels: &mut [u32; 320], hints: &mut [u8;
 
 fn note_fuel_lines(s: &[u8], fuels: &mut [u32; 320], hints: &mut [u8; 1024])
     requires rising { Rising s.now }
-    requires blank { (fuels.old ≡ replicate 320 noNumber) × (hints.old ≡ replicate 1024 0) }
+    requires blank { (fuels.old ≡ replicate 320 no_number) × (hints.old ≡ replicate 1024 0) }
     ensures noted { FuelsNoted s.now fuels.new × Small hints.new }
 {
     let n = s.len() / 32;
@@ -137,7 +137,7 @@ fn note_fuel_lines(s: &[u8], fuels: &mut [u32; 320], hints: &mut [u8; 1024])
 // monitor, a method. There the carbon is measured, or the heat of natural gas or of distillate oil.
 fn find_large(f: &[u8]) -> u32
     requires whole { 32 ≤ length f.now }
-    ensures large { result ≡ largeFlags f.now }
+    ensures large { result ≡ large_flags f.now }
 {
     let class = listed::fuel_class(f);
     if (class == 1) | (class == 2) {
@@ -150,7 +150,7 @@ fn find_large(f: &[u8]) -> u32
 // natural gas, which is a measured one.
 fn find_allowed(f: &[u8]) -> u32
     requires whole { 32 ≤ length f.now }
-    ensures allowed { result ≡ allowedFlags f.now }
+    ensures allowed { result ≡ allowed_flags f.now }
 {
     let mut flags = 0x0a;
     if 0 < listed::default_heat(f) {
@@ -165,7 +165,7 @@ fn find_allowed(f: &[u8]) -> u32
 // The molar volume of a gas, 0 of other fuel.
 fn find_volume(f: &[u8]) -> u32
     requires whole { 32 ≤ length f.now }
-    ensures volume { result ≡ volumeOf f.now }
+    ensures volume { result ≡ volume_of f.now }
 {
     if listed::fuel_kind(f) == 3 {
         return listed::molar_volume(f);

@@ -37,49 +37,49 @@ pub(crate) fn rating(l: &[u8]) -> u64
 // ---- a fuel line
 pub(crate) fn fuel_kind(l: &[u8]) -> u8
     requires whole { 32 ≤ length l.now }
-    ensures field { result ≡ fields.fuelKind l.now }
+    ensures field { result ≡ fields.fuel_kind l.now }
 {
     l[2]
 }
 
 pub(crate) fn fuel_class(l: &[u8]) -> u8
     requires whole { 32 ≤ length l.now }
-    ensures field { result ≡ fields.fuelClass l.now }
+    ensures field { result ≡ fields.fuel_class l.now }
 {
     l[3]
 }
 
 pub(crate) fn default_heat(l: &[u8]) -> u32
     requires whole { 32 ≤ length l.now }
-    ensures field { result ≡ fields.defaultHeat l.now }
+    ensures field { result ≡ fields.default_heat l.now }
 {
     bytes::read_word(l, 4, 4) as u32
 }
 
 pub(crate) fn co2_factor(l: &[u8]) -> u32
     requires whole { 32 ≤ length l.now }
-    ensures field { result ≡ fields.co2Factor l.now }
+    ensures field { result ≡ fields.co2_factor l.now }
 {
     bytes::read_word(l, 8, 4) as u32
 }
 
 pub(crate) fn ch4_factor(l: &[u8]) -> u32
     requires whole { 32 ≤ length l.now }
-    ensures field { result ≡ fields.ch4Factor l.now }
+    ensures field { result ≡ fields.ch4_factor l.now }
 {
     bytes::read_word(l, 12, 4) as u32
 }
 
 pub(crate) fn n2o_factor(l: &[u8]) -> u32
     requires whole { 32 ≤ length l.now }
-    ensures field { result ≡ fields.n2oFactor l.now }
+    ensures field { result ≡ fields.n2o_factor l.now }
 {
     bytes::read_word(l, 16, 4) as u32
 }
 
 pub(crate) fn molar_volume(l: &[u8]) -> u32
     requires whole { 32 ≤ length l.now }
-    ensures field { result ≡ fields.molarVolume l.now }
+    ensures field { result ≡ fields.molar_volume l.now }
 {
     bytes::read_word(l, 20, 4) as u32
 }

@@ -1,9 +1,9 @@
 // The unit lines and the fuel lines of a book: whether they are sound, and the line with a number.
 ghost use Rattle.std.specs.Prelude.{◌≡◌, ◌≤◌, length};
-ghost use Rattle.rules.specs.Bytes.{linesIn};
-ghost use Rattle.rules.specs.Book.{unitHeadOk, kindClassOk, molarVolumeOk, fuelHeadOk, linesSound};
+ghost use Rattle.rules.specs.Bytes.{lines_in};
+ghost use Rattle.rules.specs.Book.{unit_head_ok, kind_class_ok, molar_volume_ok, fuel_head_ok, lines_sound};
 ghost use Rattle.rules.specs.Place.{place};
-ghost use Rattle.rules.specs.Listing.{lineOk, Rising, headOk, blankFrom};
+ghost use Rattle.rules.specs.Listing.{line_ok, Rising, head_ok, blank_from};
 
 use crate::{bytes, listed};
 
@@ -18,7 +18,7 @@ const MOST_LINES: usize = 64;
 // Whether there are at most 64 lines of one sort, their numbers rise strictly, and none breaks a
 // rule. The scan is left at the first line that does, from the test that it fails.
 pub(crate) fn are_sound(s: &[u8], sort: Sort) -> bool
-    ensures sound { result ≡ linesSound (lineOk sort) s.now }
+    ensures sound { result ≡ lines_sound (line_ok sort) s.now }
 {
     let n = s.len() / 32;
     if n > MOST_LINES {
@@ -50,7 +50,7 @@ pub(crate) fn are_sound(s: &[u8], sort: Sort) -> bool
 
 fn is_head_right(l: &[u8], sort: Sort) -> bool
     requires whole { 32 ≤ length l.now }
-    ensures head { result ≡ headOk sort l.now }
+    ensures head { result ≡ head_ok sort l.now }
 {
     match sort {
         Sort::Unit => is_unit_head_right(l),
@@ -60,7 +60,7 @@ fn is_head_right(l: &[u8], sort: Sort) -> bool
 
 // The byte from which no field of a line of this sort is named.
 fn blank_from(sort: Sort) -> usize
-    ensures byte { result ≡ blankFrom sort }
+    ensures byte { result ≡ blank_from sort }
 {
     match sort {
         Sort::Unit => 8,
@@ -71,7 +71,7 @@ fn blank_from(sort: Sort) -> usize
 // The flags and the byte behind them, which must be 0, are one number: 2 would be dry gas without a monitor.
 fn is_unit_head_right(u: &[u8]) -> bool
     requires whole { 32 ≤ length u.now }
-    ensures head { result ≡ unitHeadOk u.now }
+    ensures head { result ≡ unit_head_ok u.now }
 {
     let flags = bytes::read_word(u, 2, 2);
     let rating = listed::rating(u);
@@ -80,7 +80,7 @@ fn is_unit_head_right(u: &[u8]) -> bool
 
 fn is_fuel_head_right(f: &[u8]) -> bool
     requires whole { 32 ≤ length f.now }
-    ensures head { result ≡ fuelHeadOk f.now }
+    ensures head { result ≡ fuel_head_ok f.now }
 {
     let fits = do_agree(listed::fuel_kind(f), listed::fuel_class(f));
     let heat = listed::default_heat(f);
@@ -97,14 +97,14 @@ fn is_fuel_head_right(f: &[u8]) -> bool
 }
 
 fn is_molar_volume_right(volume: u32) -> bool
-    ensures right { result ≡ molarVolumeOk volume }
+    ensures right { result ≡ molar_volume_ok volume }
 {
     ((volume == 0) | (20000 <= volume)) & (volume <= 27000)
 }
 
 // Class 1 goes with kind 3, 2 with 2 and 3 with 1: the two come to 4.
 fn do_agree(kind: u8, class: u8) -> bool
-    ensures agree { result ≡ kindClassOk kind class }
+    ensures agree { result ≡ kind_class_ok kind class }
 {
     let known = (1 <= kind) & (kind <= 3);
     known & ((class == 0) | (kind as u32 + class as u32 == 4))
@@ -120,7 +120,7 @@ pub enum Found {
 // line may stand. A hint is held against the line and never trusted, so that any bytes serve.
 pub(crate) fn find(s: &[u8], hints: &[u8], x: u64) -> Found
     requires rising { Rising s.now }
-    ensures place { result ≡ place x 0 (linesIn s.now) }
+    ensures place { result ≡ place x 0 (lines_in s.now) }
 {
     let last = (x % 1024) as usize;
     if last < hints.len() {
@@ -138,7 +138,7 @@ pub(crate) fn find(s: &[u8], hints: &[u8], x: u64) -> Found
 // and the line that is left is held against the number.
 fn halve(s: &[u8], x: u64) -> Found
     requires rising { Rising s.now }
-    ensures place { result ≡ place x 0 (linesIn s.now) }
+    ensures place { result ≡ place x 0 (lines_in s.now) }
 {
     let mut width = s.len() / 32;
     if width == 0 {

@@ -1,6 +1,6 @@
 // The method by which a fuel record's CO2 is worked out.
 ghost use Rattle.std.specs.Prelude.{◌≡◌, ◌≤◌, length};
-ghost use Rattle.rules.specs.Method.{methodOf};
+ghost use Rattle.rules.specs.Method.{method_of};
 
 use crate::{field, listed};
 
@@ -11,7 +11,7 @@ pub(crate) const SMALL_RATING: u64 = 2500;
 // default.
 pub(crate) fn choose_method(l: &[u8], u: &[u8], f: &[u8]) -> u8
     requires whole { (32 ≤ length l.now) × (32 ≤ length u.now) × (32 ≤ length f.now) }
-    ensures chosen { result ≡ methodOf l.now u.now f.now }
+    ensures chosen { result ≡ method_of l.now u.now f.now }
 {
     if listed::is_monitored(u) {
         return 4;

@@ -1,8 +1,8 @@
 // Records looked at one by one, of any bytes: a book that is unsound is told as such.
 ghost use Rattle.std.specs.Prelude.{◌≡◌, ◌-◌};
 ghost use Rattle.rules.specs.Book.{opened, accepted};
-ghost use Rattle.rules.specs.Reader.{sightBy, sightAt, sight, kind_at, leftFrom, placeAfter, advanced};
-ghost use Rattle.rules.specs.Table.{notingBy, notingAt, KnownAt};
+ghost use Rattle.rules.specs.Reader.{sight_by, sight_at, sight, kind_at, left_from, place_after, advanced};
+ghost use Rattle.rules.specs.Table.{noting_by, noting_at, KnownAt};
 
 use crate::book::{Fault, Head, Opened};
 use crate::record::Outcome;
@@ -47,7 +47,7 @@ struct Onward {
 
 // Record i of a book.
 pub fn look(book: &[u8], i: usize) -> Seen
-    ensures shown { sight result ≡ sightAt book.now i }
+    ensures shown { sight result ≡ sight_at book.now i }
 {
     match book::open(book) {
         Opened::Wrong(fault) => Seen::Refused(fault),
@@ -57,7 +57,7 @@ pub fn look(book: &[u8], i: usize) -> Seen
 
 fn look_in(book: &[u8], h: Head, i: usize) -> Seen
     requires opened { opened book.now ≡ accepted h }
-    ensures shown { sight result ≡ sightBy (accepted h) book.now i }
+    ensures shown { sight result ≡ sight_by (accepted h) book.now i }
 {
     let n = h.n;
     if i < n {
@@ -69,8 +69,8 @@ fn look_in(book: &[u8], h: Head, i: usize) -> Seen
 // The same by a table of the records before, to which this one is added.
 fn look_noted(book: &[u8], i: usize, table: &mut [u64]) -> Seen
     requires known { KnownAt book.now i table.old }
-    ensures shown { sight result ≡ sightAt book.now i }
-    ensures noted { table.new ≡ notingAt book.now i table.old }
+    ensures shown { sight result ≡ sight_at book.now i }
+    ensures noted { table.new ≡ noting_at book.now i table.old }
 {
     match book::open(book) {
         Opened::Wrong(fault) => Seen::Refused(fault),
@@ -81,8 +81,8 @@ fn look_noted(book: &[u8], i: usize, table: &mut [u64]) -> Seen
 fn look_noted_in(book: &[u8], h: Head, i: usize, table: &mut [u64]) -> Seen
     requires opened { opened book.now ≡ accepted h }
     requires known { KnownAt book.now i table.old }
-    ensures shown { sight result ≡ sightBy (accepted h) book.now i }
-    ensures noted { table.new ≡ notingBy (accepted h) book.now i table.old }
+    ensures shown { sight result ≡ sight_by (accepted h) book.now i }
+    ensures noted { table.new ≡ noting_by (accepted h) book.now i table.old }
 {
     let n = h.n;
     if i < n {
@@ -102,7 +102,7 @@ fn find_kind(book: &[u8], i: usize) -> u8
 
 // How many records there are from place i on; none of a book that is refused.
 pub(crate) fn count_from(book: &[u8], i: usize) -> usize
-    ensures left { result ≡ leftFrom book.now i }
+    ensures left { result ≡ left_from book.now i }
 {
     match book::open(book) {
         Opened::Wrong(_) => 0,
@@ -121,7 +121,7 @@ fn count_between(i: usize, n: usize) -> usize
 
 // The place after i. From the book's length on, past any record, it stays where it is.
 pub(crate) fn step_from(book: &[u8], i: usize) -> usize
-    ensures after { result ≡ placeAfter book.now i }
+    ensures after { result ≡ place_after book.now i }
 {
     if i < book.len() {
         return i + 1;
@@ -131,14 +131,14 @@ pub(crate) fn step_from(book: &[u8], i: usize) -> usize
 
 // What is seen of the next record.
 pub fn look_next<'a>(r: Reader<'a>) -> Seen
-    ensures shown { sight result ≡ sightAt r.entry.book.now r.entry.next }
+    ensures shown { sight result ≡ sight_at r.entry.book.now r.entry.next }
 {
     look(r.book, r.next)
 }
 
 // How many records are left.
 pub fn count_left<'a>(r: Reader<'a>) -> usize
-    ensures left { result ≡ leftFrom r.entry.book.now r.entry.next }
+    ensures left { result ≡ left_from r.entry.book.now r.entry.next }
 {
     count_from(r.book, r.next)
 }
@@ -155,11 +155,11 @@ pub fn advance<'a>(r: Reader<'a>) -> Reader<'a>
 // serves at place 0, so that a book takes one pass.
 pub fn take_step(book: &[u8], at: usize, table: &mut [u64]) -> Step
     requires known { KnownAt book.now at table.old }
-    ensures shown { sight result.seen ≡ sightAt book.now at }
+    ensures shown { sight result.seen ≡ sight_at book.now at }
     ensures kind { result.kind ≡ kind_at book.now at }
-    ensures after { result.next ≡ placeAfter book.now at }
-    ensures left { result.left ≡ leftFrom book.now result.next }
-    ensures noted { table.new ≡ notingAt book.now at table.old }
+    ensures after { result.next ≡ place_after book.now at }
+    ensures left { result.left ≡ left_from book.now result.next }
+    ensures noted { table.new ≡ noting_at book.now at table.old }
 {
     let seen = look_noted(book, at, table);
     let kind = find_kind(book, at);
@@ -174,8 +174,8 @@ pub fn take_step(book: &[u8], at: usize, table: &mut [u64]) -> Step
 
 // Where a reader leads from a place. The parameters are plain, so that no caller is proved by hand.
 fn go_past(book: &[u8], at: usize) -> Onward
-    ensures after { result.next ≡ placeAfter book.now at }
-    ensures left { result.left ≡ leftFrom book.now result.next }
+    ensures after { result.next ≡ place_after book.now at }
+    ensures left { result.left ≡ left_from book.now result.next }
 {
     let r = Reader { book, next: at };
     let after = advance(r);

@@ -1,9 +1,9 @@
 // What becomes of a record that was sent before, and whether it was, by a look at each earlier one.
 ghost use Rattle.std.specs.Prelude.{◌≡◌, ℕ, ◌+◌, ◌-◌, ◌/◌, ◌<◌, ◌≤◌, List, length};
 ghost use Rattle.rules.specs.Bytes.{line, lines};
-ghost use Rattle.rules.specs.Repeat.{standsAmong, repeatable, repeated};
-ghost use Rattle.rules.specs.Record.{unlessRepeated};
-ghost use Rattle.rules.specs.Key.{Start, Keyed, standsIn};
+ghost use Rattle.rules.specs.Repeat.{stands_among, repeatable, repeated};
+ghost use Rattle.rules.specs.Record.{unless_repeated};
+ghost use Rattle.rules.specs.Key.{Start, Keyed, stands_in};
 
 use crate::record::Outcome;
 use crate::{bytes, field};
@@ -14,7 +14,7 @@ const MASK: u64 = 0xFFFF_0000_FFFF_00FF;
 // The outcome of record i, that of its own line being o. Only one that would count is looked for.
 pub(crate) fn look_back(book: &[u8], i: usize, o: Outcome) -> Outcome
     requires there { i < length book.now / 32 }
-    ensures outcome { result ≡ unlessRepeated (repeated (line i book.now) (lines i book.now)) o }
+    ensures outcome { result ≡ unless_repeated (repeated (line i book.now) (lines i book.now)) o }
 {
     match o {
         Outcome::SetAside(_) => o,
@@ -23,7 +23,7 @@ pub(crate) fn look_back(book: &[u8], i: usize, o: Outcome) -> Outcome
 }
 
 pub(crate) fn withhold(o: Outcome, repeated: bool) -> Outcome
-    ensures outcome { result ≡ unlessRepeated repeated o }
+    ensures outcome { result ≡ unless_repeated repeated o }
 {
     match o {
         Outcome::SetAside(_) => o,
@@ -60,7 +60,7 @@ fn is_repeated(book: &[u8], i: usize) -> bool
 // over single ones waits for each compare, and a line of the cache holds two records.
 fn does_stand(book: &[u8], i: usize) -> bool
     requires there { i < length book.now / 32 }
-    ensures stands { result ≡ standsAmong (line i book.now) (lines i book.now) }
+    ensures stands { result ≡ stands_among (line i book.now) (lines i book.now) }
 {
     let key = read_key(bytes::take_line(book, i));
     let mut j = 0;
@@ -76,7 +76,7 @@ fn does_stand(book: &[u8], i: usize) -> bool
 // Whether one of the four records from j on has this key.
 fn is_one_of_four(book: &[u8], j: usize, key: u64) -> bool
     requires there { j + 4 ≤ length book.now / 32 }
-    ensures one { (l : List ℕ) → Keyed l key → result ≡ standsIn l j 4 book.now }
+    ensures one { (l : List ℕ) → Keyed l key → result ≡ stands_in l j 4 book.now }
 {
     let a = has_key(book, j, key);
     let b = has_key(book, j + 1, key);
@@ -88,7 +88,7 @@ fn is_one_of_four(book: &[u8], j: usize, key: u64) -> bool
 // Whether one of the records from `from` up to `to` has it: what is left where no four are.
 fn is_one_of(book: &[u8], from: usize, to: usize, key: u64) -> bool
     requires there { to ≤ length book.now / 32 }
-    ensures one { (l : List ℕ) → Keyed l key → result ≡ standsIn l from (to - from) book.now }
+    ensures one { (l : List ℕ) → Keyed l key → result ≡ stands_in l from (to - from) book.now }
 {
     let mut j = from;
     while j < to {
@@ -102,7 +102,7 @@ fn is_one_of(book: &[u8], from: usize, to: usize, key: u64) -> bool
 
 fn has_key(book: &[u8], j: usize, key: u64) -> bool
     requires there { j < length book.now / 32 }
-    ensures has { (l : List ℕ) → Keyed l key → result ≡ standsIn l j 1 book.now }
+    ensures has { (l : List ℕ) → Keyed l key → result ≡ stands_in l j 1 book.now }
 {
     read_key(bytes::take_line(book, j)) == key
 }

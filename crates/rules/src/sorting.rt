@@ -4,10 +4,10 @@
 ghost use Rattle.std.specs.Prelude.{◌≡◌, ◌+◌, ◌-◌, ◌*◌, ◌<◌, ◌≤◌, true, length};
 ghost use Rattle.rules.specs.Bytes.{line};
 ghost use Rattle.rules.specs.Fields.{kind};
-ghost use Rattle.rules.specs.Book.{unitLines, fuelLines, opened, accepted};
+ghost use Rattle.rules.specs.Book.{unit_lines, fuel_lines, opened, accepted};
 ghost use Rattle.rules.specs.Index.{UnitsNoted, FuelsNoted, Small};
-ghost use Rattle.rules.specs.Sorting.{heatLimits, Settled, NoGas};
-ghost use Rattle.rules.specs.AtOnce.{formRight, heatRight, carbonRight, gasRight, allowedBy, amountBurned};
+ghost use Rattle.rules.specs.Sorting.{heat_limits, Settled, NoGas};
+ghost use Rattle.rules.specs.AtOnce.{form_right, heat_right, carbon_right, gas_right, allowed_by, amount_burned};
 
 use crate::book::Head;
 use crate::{bytes, entry, field, index};
@@ -54,8 +54,8 @@ pub fn sort_fuel(
 ) -> Sorted
     requires opened { opened book.now ≡ accepted h }
     requires there { (i < h.n) × (kind (line i book.now) ≡ 1) }
-    requires units { UnitsNoted (unitLines h book.now) units.now × Small by_unit.now }
-    requires fuels { FuelsNoted (fuelLines h book.now) fuels.now × Small by_fuel.now × (limits.now ≡ heatLimits) }
+    requires units { UnitsNoted (unit_lines h book.now) units.now × Small by_unit.now }
+    requires fuels { FuelsNoted (fuel_lines h book.now) fuels.now × Small by_fuel.now × (limits.now ≡ heat_limits) }
     ensures settled { Settled h book.now i result }
     ensures alone { NoGas result }
 {
@@ -86,7 +86,7 @@ pub fn sort_fuel(
 
 fn is_form_right(l: &[u8]) -> bool
     requires whole { 32 ≤ length l.now }
-    ensures right { result ≡ formRight l.now }
+    ensures right { result ≡ form_right l.now }
 {
     let flags = field::flags(l);
     let month = field::period(l);
@@ -101,8 +101,8 @@ fn is_form_right(l: &[u8]) -> bool
 // The most heat is looked up by the flags, so that no jump hangs on these: of a book's flags a processor foresees half.
 fn is_heat_right(l: &[u8], limits: &[u32; 8]) -> bool
     requires whole { 32 ≤ length l.now }
-    requires limits { limits.now ≡ heatLimits }
-    ensures right { result ≡ heatRight l.now }
+    requires limits { limits.now ≡ heat_limits }
+    ensures right { result ≡ heat_right l.now }
 {
     let flags = field::flags(l);
     let heat = field::heat(l);
@@ -112,7 +112,7 @@ fn is_heat_right(l: &[u8], limits: &[u32; 8]) -> bool
 fn is_carbon_right(l: &[u8], limit: u32) -> bool
     requires whole { 32 ≤ length l.now }
     requires small { limit ≤ 4000000 }
-    ensures right { result ≡ carbonRight limit l.now }
+    ensures right { result ≡ carbon_right limit l.now }
 {
     let measured = field::flags(l) as u32 / 2 % 2;
     let carbon = field::carbon(l);
@@ -122,7 +122,7 @@ fn is_carbon_right(l: &[u8], limit: u32) -> bool
 // Whether a method is permitted and there is a heat in use, by a bit for each of eight flags.
 fn is_allowed(l: &[u8], allowed: u32) -> bool
     requires whole { 32 ≤ length l.now }
-    ensures allowed { result ≡ allowedBy l.now allowed }
+    ensures allowed { result ≡ allowed_by l.now allowed }
 {
     let flags = field::flags(l) as u32 % 32;
     (allowed >> flags) % 2 == 1
@@ -130,8 +130,8 @@ fn is_allowed(l: &[u8], allowed: u32) -> bool
 
 fn find_burned(l: &[u8]) -> u64
     requires whole { 32 ≤ length l.now }
-    requires right { heatRight l.now ≡ true }
-    ensures burned { result ≡ amountBurned l.now }
+    requires right { heat_right l.now ≡ true }
+    ensures burned { result ≡ amount_burned l.now }
 {
     let measured = field::flags(l) as u64 % 2;
     let heat = entry::find_measured(l);
@@ -151,8 +151,8 @@ pub fn sort_gas(
 ) -> Sorted
     requires opened { opened book.now ≡ accepted h }
     requires there { (i < h.n) × (kind (line i book.now) ≡ 3) }
-    requires units { UnitsNoted (unitLines h book.now) units.now × Small by_unit.now }
-    requires fuels { FuelsNoted (fuelLines h book.now) fuels.now × Small by_fuel.now × (limits.now ≡ heatLimits) }
+    requires units { UnitsNoted (unit_lines h book.now) units.now × Small by_unit.now }
+    requires fuels { FuelsNoted (fuel_lines h book.now) fuels.now × Small by_fuel.now × (limits.now ≡ heat_limits) }
     ensures settled { Settled h book.now i result }
 {
     let l = bytes::take_line(book, i);
@@ -185,7 +185,7 @@ pub fn sort_gas(
 
 fn is_gas_right(l: &[u8]) -> bool
     requires whole { 32 ≤ length l.now }
-    ensures right { result ≡ gasRight l.now }
+    ensures right { result ≡ gas_right l.now }
 {
     let flags = field::flags(l);
     let month = field::period(l);

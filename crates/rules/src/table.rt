@@ -1,9 +1,9 @@
 // Which hours and months stand in records already: a row of words for each unit line, with a bit for each
 // hour of a year, and then for each month. By one look a record is then told to be a repeat or not, however many stand before it.
 ghost use Rattle.std.specs.Prelude.{◌≡◌, ◌+◌, ◌*◌, ◌/◌, ◌<◌, ◌≤◌, true, length};
-ghost use Rattle.rules.specs.Bytes.{lines, linesIn};
-ghost use Rattle.rules.specs.Fields.{unitNumber};
-ghost use Rattle.rules.specs.Book.{unitLines, opened, accepted};
+ghost use Rattle.rules.specs.Bytes.{lines, lines_in};
+ghost use Rattle.rules.specs.Fields.{unit_number};
+ghost use Rattle.rules.specs.Book.{unit_lines, opened, accepted};
 ghost use Rattle.rules.specs.Place.{place};
 ghost use Rattle.rules.specs.Listing.{Rising};
 ghost use Rattle.rules.specs.Table as spec;
@@ -22,7 +22,7 @@ pub const WIDE: usize = 8832;
 // Whether a table has a row for each unit line. No words at all are no table.
 pub(crate) fn is_table(units: &[u8], table: &[u64]) -> bool
     requires few { length units.now / 32 ≤ 64 }
-    ensures table { result ≡ spec.isTable units.now table.now }
+    ensures table { result ≡ spec.is_table units.now table.now }
 {
     (1 <= table.len()) & (ROW * (units.len() / 32) <= table.len())
 }
@@ -30,7 +30,7 @@ pub(crate) fn is_table(units: &[u8], table: &[u64]) -> bool
 // Whether a table serves a book that was opened.
 pub fn does_serve(book: &[u8], h: Head, table: &[u64]) -> bool
     requires opened { opened book.now ≡ accepted h }
-    ensures table { result ≡ spec.isTable (unitLines h book.now) table.now }
+    ensures table { result ≡ spec.is_table (unit_lines h book.now) table.now }
 {
     let from = h.units;
     let to = h.fuels;
@@ -41,8 +41,8 @@ pub fn does_serve(book: &[u8], h: Head, table: &[u64]) -> bool
 pub fn note_records(book: &[u8], h: Head, n: usize, hints: &[u8], table: &mut [u64])
     requires opened { opened book.now ≡ accepted h }
     requires there { n ≤ h.n }
-    requires table { spec.isTable (unitLines h book.now) table.old ≡ true }
-    ensures noted { table.new ≡ spec.notedAll (lines n book.now) (unitLines h book.now) table.old }
+    requires table { spec.is_table (unit_lines h book.now) table.old ≡ true }
+    ensures noted { table.new ≡ spec.noted_all (lines n book.now) (unit_lines h book.now) table.old }
 {
     let from = h.units;
     let to = h.fuels;
@@ -52,8 +52,8 @@ pub fn note_records(book: &[u8], h: Head, n: usize, hints: &[u8], table: &mut [u
 fn note_lines(book: &[u8], n: usize, units: &[u8], hints: &[u8], table: &mut [u64])
     requires there { n ≤ length book.now / 32 }
     requires rising { Rising units.now }
-    requires table { spec.isTable units.now table.old ≡ true }
-    ensures noted { table.new ≡ spec.notedAll (lines n book.now) units.now table.old }
+    requires table { spec.is_table units.now table.old ≡ true }
+    ensures noted { table.new ≡ spec.noted_all (lines n book.now) units.now table.old }
 {
     let mut i = 0;
     while i < n {
@@ -65,7 +65,7 @@ fn note_lines(book: &[u8], n: usize, units: &[u8], hints: &[u8], table: &mut [u6
 fn note_line(l: &[u8], units: &[u8], hints: &[u8], table: &mut [u64])
     requires whole { 32 ≤ length l.now }
     requires rising { Rising units.now }
-    requires table { spec.isTable units.now table.old ≡ true }
+    requires table { spec.is_table units.now table.old ≡ true }
     ensures noted { table.new ≡ spec.noted l.now units.now table.old }
 {
     // Most records of some books can't be repeats, and need no unit.
@@ -80,9 +80,9 @@ fn note_line(l: &[u8], units: &[u8], hints: &[u8], table: &mut [u64])
 // noted before.
 pub(crate) fn note(l: &[u8], units: &[u8], unit: Found, table: &mut [u64]) -> bool
     requires whole { 32 ≤ length l.now }
-    requires found { unit ≡ place (unitNumber l.now) 0 (linesIn units.now) }
-    requires table { spec.isTable units.now table.old ≡ true }
-    ensures was { result ≡ marks.wasNoted l.now units.now table.old }
+    requires found { unit ≡ place (unit_number l.now) 0 (lines_in units.now) }
+    requires table { spec.is_table units.now table.old ≡ true }
+    ensures was { result ≡ marks.was_noted l.now units.now table.old }
     ensures noted { table.new ≡ spec.noted l.now units.now table.old }
 {
     let kind = field::kind(l);
@@ -103,7 +103,7 @@ pub(crate) fn note(l: &[u8], units: &[u8], unit: Found, table: &mut [u64]) -> bo
 pub(crate) fn ask(l: &[u8], units: &[u8], unit: Found, table: &mut [u64]) -> bool
     requires whole { 32 ≤ length l.now }
     requires few { length units.now / 32 ≤ 64 }
-    requires found { unit ≡ place (unitNumber l.now) 0 (linesIn units.now) }
+    requires found { unit ≡ place (unit_number l.now) 0 (lines_in units.now) }
     ensures told { result ≡ marks.told l.now units.now table.old }
     ensures noted { table.new ≡ spec.noting l.now units.now table.old }
 {
@@ -114,14 +114,14 @@ pub(crate) fn ask(l: &[u8], units: &[u8], unit: Found, table: &mut [u64]) -> boo
 }
 
 fn has_bit(kind: u8, period: u64) -> bool
-    ensures bit { result ≡ spec.hasBit kind period }
+    ensures bit { result ≡ spec.has_bit kind period }
 {
     let last = find_last_period(kind);
     (1 <= period) & (period <= last)
 }
 
 fn find_last_period(kind: u8) -> u64
-    ensures last { result ≡ spec.lastPeriod kind }
+    ensures last { result ≡ spec.last_period kind }
 {
     if kind == 2 {
         return 8784;
@@ -134,7 +134,7 @@ fn find_last_period(kind: u8) -> u64
 
 // A month's bit comes after those of the hours.
 fn find_bit(kind: u8, period: u64) -> usize
-    requires has { spec.hasBit kind period ≡ true }
+    requires has { spec.has_bit kind period ≡ true }
     ensures bit { result ≡ spec.bit_of kind period }
 {
     if kind == 4 {
@@ -153,7 +153,7 @@ pub(crate) fn is_marked(table: &[u64], j: usize, bit: usize) -> bool
 
 pub(crate) fn mark(table: &mut [u64], j: usize, bit: usize)
     requires there { 138 * j + bit / 64 < length table.old }
-    ensures marked { table.new ≡ spec.withMark table.old j bit }
+    ensures marked { table.new ≡ spec.with_mark table.old j bit }
 {
     let word = ROW * j + bit / 64;
     table[word] = table[word] | (1u64 << (bit % 64));

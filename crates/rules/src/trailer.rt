@@ -19,21 +19,21 @@ pub(crate) fn is_signed(l: &[u8]) -> bool
 // numbers than the field can hold only if these bytes are 0.
 pub(crate) fn is_version_right(l: &[u8]) -> bool
     requires whole { 32 ≤ length l.now }
-    ensures right { result ≡ (nat_eq (fields.version l.now) 1 also fields.trailerGap l.now) }
+    ensures right { result ≡ (nat_eq (fields.version l.now) 1 also fields.trailer_gap l.now) }
 {
     bytes::read_word(l, 4, 4) == 1
 }
 
 pub(crate) fn unit_start(l: &[u8]) -> usize
     requires whole { 32 ≤ length l.now }
-    ensures field { result ≡ fields.unitStart l.now }
+    ensures field { result ≡ fields.unit_start l.now }
 {
     bytes::read_word(l, 8, 4) as usize
 }
 
 pub(crate) fn fuel_start(l: &[u8]) -> usize
     requires whole { 32 ≤ length l.now }
-    ensures field { result ≡ fields.fuelStart l.now }
+    ensures field { result ≡ fields.fuel_start l.now }
 {
     bytes::read_word(l, 12, 4) as usize
 }
@@ -47,7 +47,7 @@ pub(crate) fn year(l: &[u8]) -> u64
 
 pub(crate) fn is_year_right(l: &[u8]) -> bool
     requires whole { 32 ≤ length l.now }
-    ensures right { result ≡ (nat_le 2000 (fields.year l.now) also nat_le (fields.year l.now) 2099 also fields.yearGap l.now) }
+    ensures right { result ≡ (nat_le 2000 (fields.year l.now) also nat_le (fields.year l.now) 2099 also fields.year_gap l.now) }
 {
     let year = bytes::read_word(l, 16, 4);
     (2000 <= year) & (year <= 2099)
@@ -55,14 +55,14 @@ pub(crate) fn is_year_right(l: &[u8]) -> bool
 
 pub(crate) fn warming_set(l: &[u8]) -> u8
     requires whole { 32 ≤ length l.now }
-    ensures field { result ≡ fields.warmingSet l.now }
+    ensures field { result ≡ fields.warming_set l.now }
 {
     l[20]
 }
 
 pub(crate) fn is_set_right(l: &[u8]) -> bool
     requires whole { 32 ≤ length l.now }
-    ensures right { result ≡ (nat_le (fields.warmingSet l.now) 1 also fields.trailerBlank l.now) }
+    ensures right { result ≡ (nat_le (fields.warming_set l.now) 1 also fields.trailer_blank l.now) }
 {
     let set = bytes::read_word(l, 20, 4);
     (set <= 1) & bytes::are_zero(l, 24, 32)

@@ -5,7 +5,7 @@ use mathlib.Core.Path.{◌≡◌, refl, ap, ◌∙◌}
 use native.Mathlib.Omega.{arith}
 use lib.Dec.{eqb}
 use borrow.Author.Tests.{eq-eqb, ne_eqb}
-use Rattle.choice.proofs.TestsLaws.{choose-t, choose-f}
+use Rattle.choice.proofs.TestsLaws.{choose_t, choose_f}
 use Rattle.rules.specs.declared.book.Fault.{Fault}
 use Rattle.rules.specs.declared.entry.Destination.{Destination}
 use Rattle.rules.specs.declared.entry.Destination.TheVariants.{Fossil, Biomass, Nowhere}
@@ -14,75 +14,75 @@ use Rattle.rules.specs.declared.reader.Seen.{Seen}
 use Rattle.rules.specs.declared.reader.Seen.TheVariants.{Refused, Missing, Record}
 use Rattle.rules.specs.declared.record.Outcome.{Outcome}
 use Rattle.rules.specs.declared.record.Outcome.TheVariants.{SetAside, Counted}
-use Rattle.rules.specs.Book.{faultNumber}
-use Rattle.rules.specs.Reader.{Sight, turnedAway, missing, shown, sight}
-use Rattle.rules.proofs.ReaderLaws.{sight-refused, sight-missing, sight-record}
+use Rattle.rules.specs.Book.{fault_number}
+use Rattle.rules.specs.Reader.{Sight, turned_away, missing, shown, sight}
+use Rattle.rules.proofs.ReaderLaws.{sight-refused, sight-missing, sight_record}
 use Rattle.text.specs.Words.{ascii, newline, field}
-use Rattle.text.specs.Report.{refusedText}
-use Rattle.text.specs.Lines.{methodText, ledgerText, massesText, outcomeText, lineText}
+use Rattle.text.specs.Report.{refused_text}
+use Rattle.text.specs.Lines.{method_text, ledger_text, masses_text, outcome_text, line_text}
 use Rattle.text.proofs.WordsLaws.{AtMost, append-le, choose-le, word-le, field-le, wider}
-use Rattle.text.proofs.ReportLaws.{refusedText-le}
+use Rattle.text.proofs.ReportLaws.{refused_text-le}
 
 module _ (k m : ℕ) where
-  pub methodText-fuel : (m ≡ 0 → ⊥) → methodText k m ≡ field (ascii " method ") m
-  unfolding methodText
-  methodText-fuel e = choose-f _ (ne_eqb m 0 e) refl
+  pub method_text-fuel : (m ≡ 0 → ⊥) → method_text k m ≡ field (ascii " method ") m
+  unfolding method_text
+  method_text-fuel e = choose_f _ (ne_eqb m 0 e) refl
 
-  pub methodText-anodes : m ≡ 0 → k ≡ 4 → methodText k m ≡ ascii " anodes"
-  unfolding methodText
-  methodText-anodes e used = choose-t _ (eq-eqb m 0 e) (choose-t _ (eq-eqb k 4 used) refl)
+  pub method_text_anodes : m ≡ 0 → k ≡ 4 → method_text k m ≡ ascii " anodes"
+  unfolding method_text
+  method_text_anodes e used = choose_t _ (eq-eqb m 0 e) (choose_t _ (eq-eqb k 4 used) refl)
 
-  pub methodText-hour : m ≡ 0 → (k ≡ 4 → ⊥) → methodText k m ≡ ascii " hour"
-  unfolding methodText
-  methodText-hour e other = choose-t _ (eq-eqb m 0 e) (choose-f _ (ne_eqb k 4 other) refl)
+  pub method_text-hour : m ≡ 0 → (k ≡ 4 → ⊥) → method_text k m ≡ ascii " hour"
+  unfolding method_text
+  method_text-hour e other = choose_t _ (eq-eqb m 0 e) (choose_f _ (ne_eqb k 4 other) refl)
 
-pub outcomeText-setAside : {o : Outcome} (k r : ℕ) → o ≡ SetAside r → outcomeText k o ≡ field (ascii " reason ") r
-unfolding outcomeText
-outcomeText-setAside k r e = ap (outcomeText k) e
+pub outcome_text_set_aside : {o : Outcome} (k r : ℕ) → o ≡ SetAside r → outcome_text k o ≡ field (ascii " reason ") r
+unfolding outcome_text
+outcome_text_set_aside k r e = ap (outcome_text k) e
 
 -- ---- what was seen
 module _ (i k : ℕ) {r : Seen} where
-  pub lineText-refused : (x : Fault) → r ≡ Refused x → lineText i k (sight r) ≡ refusedText (faultNumber x) []
-  unfolding lineText
-  lineText-refused x e = ap (λ (s : Seen). lineText i k (sight s)) e ∙ ap (lineText i k) (sight-refused x)
+  pub line_text-refused : (x : Fault) → r ≡ Refused x → line_text i k (sight r) ≡ refused_text (fault_number x) []
+  unfolding line_text
+  line_text-refused x e = ap (λ (s : Seen). line_text i k (sight s)) e ∙ ap (line_text i k) (sight-refused x)
 
-  pub lineText-missing : r ≡ Missing → lineText i k (sight r) ≡ []
-  unfolding lineText
-  lineText-missing e = ap (λ (s : Seen). lineText i k (sight s)) e ∙ ap (lineText i k) sight-missing
+  pub line_text-missing : r ≡ Missing → line_text i k (sight r) ≡ []
+  unfolding line_text
+  line_text-missing e = ap (λ (s : Seen). line_text i k (sight s)) e ∙ ap (line_text i k) sight-missing
 
-  pub lineText-record : (o : Outcome) → r ≡ Record o
-      → lineText i k (sight r) ≡ field (ascii "record ") i ++ outcomeText k o ++ newline
-  unfolding lineText
-  lineText-record o e = ap (λ (s : Seen). lineText i k (sight s)) e ∙ ap (lineText i k) (sight-record o)
+  pub line_text_record : (o : Outcome) → r ≡ Record o
+      → line_text i k (sight r) ≡ field (ascii "record ") i ++ outcome_text k o ++ newline
+  unfolding line_text
+  line_text_record o e = ap (λ (s : Seen). line_text i k (sight s)) e ∙ ap (line_text i k) (sight_record o)
 
 -- ---- how long a line is at most
-methodText-le : (k m : ℕ) → AtMost 28 (methodText k m)
-unfolding methodText
-methodText-le k m =
+method_text-le : (k m : ℕ) → AtMost 28 (method_text k m)
+unfolding method_text
+method_text-le k m =
     choose-le (eqb m 0)
     (choose-le (eqb k 4) (wider (word-le (ascii " anodes")) (omega arith)) (wider (word-le (ascii " hour")) (omega arith)))
     (field-le (ascii " method ") m)
 
-ledgerText-le : (d : Destination) → AtMost 8 (ledgerText d)
-ledgerText-le Fossil = wider (word-le (ascii " fossil")) (omega arith)
-ledgerText-le Biomass = word-le (ascii " biomass")
-ledgerText-le Nowhere = wider (word-le (ascii " none")) (omega arith)
+ledger_text-le : (d : Destination) → AtMost 8 (ledger_text d)
+ledger_text-le Fossil = wider (word-le (ascii " fossil")) (omega arith)
+ledger_text-le Biomass = word-le (ascii " biomass")
+ledger_text-le Nowhere = wider (word-le (ascii " none")) (omega arith)
 
-massesText-le : (e : Entry) → AtMost 84 (massesText e)
-unfolding massesText
-massesText-le e =
+masses_text-le : (e : Entry) → AtMost 84 (masses_text e)
+unfolding masses_text
+masses_text-le e =
     append-le (append-le (field-le (ascii " co2-ug ") e.co2.0) (field-le (ascii " ch4-ng ") e.ch4.0))
     (field-le (ascii " n2o-ng ") e.n2o.0)
 
-outcomeText-le : (k : ℕ) (o : Outcome) → AtMost 120 (outcomeText k o)
-unfolding outcomeText
-outcomeText-le k (SetAside r) = wider (field-le (ascii " reason ") r) (omega arith)
-outcomeText-le k (Counted e) =
-    append-le (append-le (methodText-le k e.method) (ledgerText-le e.destination)) (massesText-le e)
+outcome_text-le : (k : ℕ) (o : Outcome) → AtMost 120 (outcome_text k o)
+unfolding outcome_text
+outcome_text-le k (SetAside r) = wider (field-le (ascii " reason ") r) (omega arith)
+outcome_text-le k (Counted e) =
+    append-le (append-le (method_text-le k e.method) (ledger_text-le e.destination)) (masses_text-le e)
 
-pub lineText-le : (i k : ℕ) (x : Sight) → AtMost 148 (lineText i k x)
-unfolding lineText
-lineText-le i k (turnedAway n) = wider (refusedText-le n []) (omega arith)
-lineText-le i k missing = wider (word-le []) (omega arith)
-lineText-le i k (shown o) =
-    append-le (append-le (field-le (ascii "record ") i) (outcomeText-le k o)) (word-le newline)
+pub line_text-le : (i k : ℕ) (x : Sight) → AtMost 148 (line_text i k x)
+unfolding line_text
+line_text-le i k (turned_away n) = wider (refused_text-le n []) (omega arith)
+line_text-le i k missing = wider (word-le []) (omega arith)
+line_text-le i k (shown o) =
+    append-le (append-le (field-le (ascii "record ") i) (outcome_text-le k o)) (word-le newline)

@@ -8,28 +8,28 @@ use lib.Dec.{eqb}
 use lib.ListN.{length, get_or, take, drop, length-drop, drop_of_length-le}
 use lib.Seq.{take_all, drop-cons}
 use Rattle.choice.specs.Tests.{◌also◌, ◌either◌}
-use Rattle.choice.proofs.Splitting.{if-test}
-use Rattle.choice.proofs.TestsLaws.{also-t, also-f, either-t, either-f}
+use Rattle.choice.proofs.Splitting.{if_test}
+use Rattle.choice.proofs.TestsLaws.{also_t, also_f, either_t, either_f}
 use Rattle.roster.specs.Bytes.{same}
 use Rattle.roster.proofs.BytesLaws.{same-nil, same-cons}
 use Rattle.text.specs.Words.{ascii}
 use Rattle.text.specs.Refusal.{begins, tells}
 
 -- The byte at i is next.
-drop-next : (t : List ℕ) (i : ℕ) → i < length t → drop i t ≡ get_or t i 0 ∷ drop (i + 1) t
-drop-next t i l =
+drop_next : (t : List ℕ) (i : ℕ) → i < length t → drop i t ≡ get_or t i 0 ∷ drop (i + 1) t
+drop_next t i l =
     let after : suc i ≡ i + 1 = omega arith in
     drop-cons t i 0 l ∙ ap (λ (j : ℕ). get_or t i 0 ∷ drop j t) after
 
 -- ---- the word at the front of a text
-pub begins-short : (w t : List ℕ) → length t < length w → false ≡ begins w t
+pub begins_short : (w t : List ℕ) → length t < length w → false ≡ begins w t
 unfolding begins
-begins-short [] t l = absurd (omega arith)
-begins-short (x ∷ w) [] l = refl
-begins-short (x ∷ w) (y ∷ t) l =
-    if-test (eqb y x)
-    (λ e. begins-short w t (omega arith) ∙ sym (also-t e refl))
-    (λ e. sym (also-f (begins w t) e))
+begins_short [] t l = absurd (omega arith)
+begins_short (x ∷ w) [] l = refl
+begins_short (x ∷ w) (y ∷ t) l =
+    if_test (eqb y x)
+    (λ e. begins_short w t (omega arith) ∙ sym (also_t e refl))
+    (λ e. sym (also_f (begins w t) e))
 
 pub begins-same : (w t : List ℕ) → length w ≤ length t → same (take (length w) t) w ≡ begins w t
 unfolding begins
@@ -40,32 +40,32 @@ begins-same (x ∷ w) (y ∷ t) l =
     ∙ ap (λ (b : Bool). eqb y x also b) (begins-same w t (omega arith))
 
 -- ---- one byte more
-abbrev refusedAt : Bool → List ℕ → Bool
-refusedAt first t = first also begins (ascii "refused ") t
+abbrev refused_at : Bool → List ℕ → Bool
+refused_at first t = first also begins (ascii "refused ") t
 
 -- What is left of a text, from its byte i on, says the rest.
 module _ {r : Bool} (first : Bool) (t : List ℕ) (i : ℕ) (whole : tells first (drop i t) ≡ r) where
   module _ (there : i < length t) where
-    turn : (refusedAt first (drop i t) either tells (eqb (get_or t i 0) 10) (drop (i + 1) t)) ≡ r
+    turn : (refused_at first (drop i t) either tells (eqb (get_or t i 0) 10) (drop (i + 1) t)) ≡ r
     unfolding tells
     turn =
-        let at = drop-next t i there in
-        ap (λ (u : List ℕ). refusedAt first u either tells (eqb (get_or t i 0) 10) (drop (i + 1) t)) at
+        let at = drop_next t i there in
+        ap (λ (u : List ℕ). refused_at first u either tells (eqb (get_or t i 0) 10) (drop (i + 1) t)) at
         ∙ ap (tells first) (sym at)
         ∙ whole
 
     -- The code looks at what is left of the slice.
     seen : {b : Bool} → b ≡ (first also begins (ascii "refused ") (take (length t - i) (drop i t)))
-        → b ≡ refusedAt first (drop i t)
-    seen e = e ∙ ap (refusedAt first) (take_all (length t - i) (drop i t) (omega (arith, length-drop i t)))
+        → b ≡ refused_at first (drop i t)
+    seen e = e ∙ ap (refused_at first) (take_all (length t - i) (drop i t) (omega (arith, length-drop i t)))
 
-    pub tells-here : refusedAt first (take (length t - i) (drop i t)) ≡ true → true ≡ r
-    tells-here e = sym (either-t (tells (eqb (get_or t i 0) 10) (drop (i + 1) t)) (sym (seen refl) ∙ e)) ∙ turn
+    pub tells_here : refused_at first (take (length t - i) (drop i t)) ≡ true → true ≡ r
+    tells_here e = sym (either_t (tells (eqb (get_or t i 0) 10) (drop (i + 1) t)) (sym (seen refl) ∙ e)) ∙ turn
 
-    pub tells-next : refusedAt first (take (length t - i) (drop i t)) ≡ false
+    pub tells_next : refused_at first (take (length t - i) (drop i t)) ≡ false
         → tells (eqb (get_or t i 0) 10) (drop (i + 1) t) ≡ r
-    tells-next e = sym (either-f (sym (seen refl) ∙ e) refl) ∙ turn
+    tells_next e = sym (either_f (sym (seen refl) ∙ e) refl) ∙ turn
 
-  pub tells-end : length t ≤ i → false ≡ r
+  pub tells_end : length t ≤ i → false ≡ r
   unfolding tells
-  tells-end l = ap (tells first) (sym (drop_of_length-le t {i = i} l)) ∙ whole
+  tells_end l = ap (tells first) (sym (drop_of_length-le t {i = i} l)) ∙ whole

@@ -6,8 +6,8 @@ use mathlib.Core.Path.{◌≡◌, refl, sym, ap, ◌∙◌}
 use lib.Dec.{eqb, ltb}
 use lib.ListN.{length}
 use Rattle.choice.specs.Tests.{◌either◌, choose}
-use Rattle.choice.proofs.Splitting.{if-test}
-use Rattle.choice.proofs.TestsLaws.{worked-out, either-t, either-f, choose-t, choose-f, if-choose}
+use Rattle.choice.proofs.Splitting.{if_test}
+use Rattle.choice.proofs.TestsLaws.{worked-out, either_t, either_f, choose_t, choose_f, if_choose}
 use Rattle.rules.specs.declared.book.Head.{Head}
 use Rattle.rules.specs.declared.entry.Destination.{Destination}
 use Rattle.rules.specs.declared.entry.Destination.TheVariants.{Fossil, Biomass, Nowhere}
@@ -15,34 +15,34 @@ use Rattle.rules.specs.declared.entry.Entry.{Entry}
 use Rattle.rules.specs.declared.record.Outcome.{Outcome}
 use Rattle.rules.specs.declared.record.Outcome.TheVariants.{SetAside, Counted}
 use Rattle.rules.specs.Book.{Answer, refused, accepted, opened}
-use Rattle.rules.specs.Reader.{Sight, turnedAway, missing, shown}
+use Rattle.rules.specs.Reader.{Sight, turned_away, missing, shown}
 use Rattle.job.specs.State.{first}
 use Rattle.job.specs.Reply.{Reply, reply}
-use Rattle.job.specs.Wake.{ifOpen}
-use Rattle.job.specs.Report.{replyAt, reportReply}
-use Rattle.job.proofs.WakeLaws.{ifOpen-refused, ifOpen-accepted}
+use Rattle.job.specs.Wake.{if_open}
+use Rattle.job.specs.Report.{reply_at, report_reply}
+use Rattle.job.proofs.WakeLaws.{if_open-refused, if_open-accepted}
 use Rattle.text.specs.Words.{ascii, newline, decimal, field, line}
-use Rattle.text.specs.Report.{value, refusedText, decisionText, figuresText, replyText, yearText, annualMost, annualText}
-use Rattle.text.specs.Refusal.{tells, hasRefusal}
-use Rattle.text.specs.Progress.{movedText, progressBy, progressWith, progressText, turnText}
-use Rattle.text.specs.Lines.{methodText, ledgerText, massesText, outcomeText, lineText}
-use Rattle.text.proofs.QuietLaws.{Plain, plain_word, plain-append, plain-choose, plain-decimal, plain-field, tells-plain, tells-newline, other, other-append, other-field, tells-other, Quiet, quiet-append, quiet-choose, quiet-ended, quiet_line, hasRefusal-quiet, hasRefusal-behind, hasRefusal-refusedText}
+use Rattle.text.specs.Report.{value, refused_text, decision_text, figures_text, reply_text, year_text, annual_most, annual_text}
+use Rattle.text.specs.Refusal.{tells, has_refusal}
+use Rattle.text.specs.Progress.{moved_text, progress_by, progress_with, progress_text, turn_text}
+use Rattle.text.specs.Lines.{method_text, ledger_text, masses_text, outcome_text, line_text}
+use Rattle.text.proofs.QuietLaws.{Plain, plain_word, plain_append, plain_choose, plain_decimal, plain_field, tells_plain, tells-newline, other, other_append, other_field, tells_other, Quiet, quiet_append, quiet_choose, quiet_ended, quiet_line, has_refusal_quiet, has_refusal_behind, has_refusal-refused_text}
 
 -- ---- a report
 -- The reply to a report gives figures if its number is 0.
 abbrev pub refuses : Reply → Bool
 refuses (reply n vs) = not (eqb n 0)
 
-quiet-decisionText : (d : ℕ) → Quiet (decisionText d)
-unfolding decisionText
-quiet-decisionText d =
-    quiet-choose (eqb d 1)
-    (quiet-ended (ascii "must-report yes") (other _ (simp worked-out) (simp worked-out)))
-    (quiet-ended (ascii "must-report no") (other _ (simp worked-out) (simp worked-out)))
+quiet_decision_text : (d : ℕ) → Quiet (decision_text d)
+unfolding decision_text
+quiet_decision_text d =
+    quiet_choose (eqb d 1)
+    (quiet_ended (ascii "must-report yes") (other _ (simp worked-out) (simp worked-out)))
+    (quiet_ended (ascii "must-report no") (other _ (simp worked-out) (simp worked-out)))
 
-quiet-figuresText : (h : Head) (vs : List ℕ) → Quiet (figuresText h vs)
-unfolding figuresText
-quiet-figuresText h vs =
+quiet_figures_text : (h : Head) (vs : List ℕ) → Quiet (figures_text h vs)
+unfolding figures_text
+quiet_figures_text h vs =
     let year = quiet_line (ascii "year ") h.year (simp worked-out) (simp worked-out) in
     let records = quiet_line (ascii "records ") h.n (simp worked-out) (simp worked-out) in
     let fossil = quiet_line (ascii "fossil-co2-kg ") (value vs 0) (simp worked-out) (simp worked-out) in
@@ -50,155 +50,155 @@ quiet-figuresText h vs =
     let ch4 = quiet_line (ascii "ch4-kg ") (value vs 2) (simp worked-out) (simp worked-out) in
     let n2o = quiet_line (ascii "n2o-kg ") (value vs 3) (simp worked-out) (simp worked-out) in
     let co2e = quiet_line (ascii "co2e-kg ") (value vs 4) (simp worked-out) (simp worked-out) in
-    let co2 = quiet-append (quiet-append (quiet-append year records) fossil) biomass in
-    quiet-append (quiet-append (quiet-append (quiet-append co2 ch4) n2o) co2e) (quiet-decisionText (value vs 5))
+    let co2 = quiet_append (quiet_append (quiet_append year records) fossil) biomass in
+    quiet_append (quiet_append (quiet_append (quiet_append co2 ch4) n2o) co2e) (quiet_decision_text (value vs 5))
 
-hasRefusal-replyText : (h : Head) (r : Reply) → hasRefusal (replyText h r) ≡ refuses r
-unfolding replyText
-hasRefusal-replyText h (reply n vs) =
-    if-test (eqb n 0)
+has_refusal-reply_text : (h : Head) (r : Reply) → has_refusal (reply_text h r) ≡ refuses r
+unfolding reply_text
+has_refusal-reply_text h (reply n vs) =
+    if_test (eqb n 0)
     (λ e.
-    ap hasRefusal (choose-t _ e refl)
-    ∙ hasRefusal-quiet (figuresText h vs) (quiet-figuresText h vs)
+    ap has_refusal (choose_t _ e refl)
+    ∙ has_refusal_quiet (figures_text h vs) (quiet_figures_text h vs)
     ∙ ap not (sym e))
-    (λ e. ap hasRefusal (choose-f _ e refl) ∙ hasRefusal-refusedText n vs ∙ ap not (sym e))
+    (λ e. ap has_refusal (choose_f _ e refl) ∙ has_refusal-refused_text n vs ∙ ap not (sym e))
 
 -- A book that is refused is told so, and of an open one what becomes of it.
-hasRefusal-ifOpen : (a : Answer) (f : Head → List ℕ) (x : Head → Bool) → ((h : Head) → hasRefusal (f h) ≡ x h)
-    → hasRefusal (ifOpen a (λ n. refusedText n []) f) ≡ ifOpen a (λ n. true) x
-hasRefusal-ifOpen (refused n) f x p =
-    ap hasRefusal (ifOpen-refused (refused n) _ f refl)
-    ∙ hasRefusal-refusedText n []
-    ∙ sym (ifOpen-refused (refused n) _ x refl)
-hasRefusal-ifOpen (accepted h) f x p =
-    ap hasRefusal (ifOpen-accepted (accepted h) _ f refl)
+has_refusal-if_open : (a : Answer) (f : Head → List ℕ) (x : Head → Bool) → ((h : Head) → has_refusal (f h) ≡ x h)
+    → has_refusal (if_open a (λ n. refused_text n []) f) ≡ if_open a (λ n. true) x
+has_refusal-if_open (refused n) f x p =
+    ap has_refusal (if_open-refused (refused n) _ f refl)
+    ∙ has_refusal-refused_text n []
+    ∙ sym (if_open-refused (refused n) _ x refl)
+has_refusal-if_open (accepted h) f x p =
+    ap has_refusal (if_open-accepted (accepted h) _ f refl)
     ∙ p h
-    ∙ sym (ifOpen-accepted (accepted h) _ x refl)
+    ∙ sym (if_open-accepted (accepted h) _ x refl)
 
-hasRefusal-yearText : (k : List ℕ)
-    → hasRefusal (yearText k) ≡ ifOpen (opened k) (λ n. true) (λ h. refuses (replyAt h (first h k h.n)))
-unfolding yearText
-hasRefusal-yearText k =
-    hasRefusal-ifOpen (opened k) _ _ (λ h. hasRefusal-replyText h (replyAt h (first h k h.n)))
+has_refusal-year_text : (k : List ℕ)
+    → has_refusal (year_text k) ≡ if_open (opened k) (λ n. true) (λ h. refuses (reply_at h (first h k h.n)))
+unfolding year_text
+has_refusal-year_text k =
+    has_refusal-if_open (opened k) _ _ (λ h. has_refusal-reply_text h (reply_at h (first h k h.n)))
 
-pub hasRefusal-annualText : (k : List ℕ) → hasRefusal (annualText k)
-    ≡ ltb annualMost (length k) either ifOpen (opened k) (λ n. true) (λ h. refuses (replyAt h (first h k h.n)))
-unfolding annualText
-hasRefusal-annualText k =
-    if-test (ltb annualMost (length k))
-    (λ t. ap hasRefusal (choose-t _ t refl) ∙ hasRefusal-refusedText 20 [] ∙ sym (either-t _ t))
-    (λ f. ap hasRefusal (choose-f _ f refl) ∙ hasRefusal-yearText k ∙ sym (either-f f refl))
+pub has_refusal-annual_text : (k : List ℕ) → has_refusal (annual_text k)
+    ≡ ltb annual_most (length k) either if_open (opened k) (λ n. true) (λ h. refuses (reply_at h (first h k h.n)))
+unfolding annual_text
+has_refusal-annual_text k =
+    if_test (ltb annual_most (length k))
+    (λ t. ap has_refusal (choose_t _ t refl) ∙ has_refusal-refused_text 20 [] ∙ sym (either_t _ t))
+    (λ f. ap has_refusal (choose_f _ f refl) ∙ has_refusal-year_text k ∙ sym (either_f f refl))
 
 -- ---- a wake
 -- 40 is no refusal of a wake: it says how far the job is.
-abbrev pub refusesWake : Reply → Bool
-refusesWake (reply n vs) = choose (eqb n 40) false (not (eqb n 0))
+abbrev pub refuses_wake : Reply → Bool
+refuses_wake (reply n vs) = choose (eqb n 40) false (not (eqb n 0))
 
 neither : (a b : Bool) → (a either b) ≡ false → a ≡ false
-neither a b e = if-test a (λ t. absurd (false≢true (sym e ∙ either-t b t))) (λ f. f)
+neither a b e = if_test a (λ t. absurd (false≢true (sym e ∙ either_t b t))) (λ f. f)
 
 -- What stands between the two parts of how far a wake went begins no refusal's line.
 abbrev Gap : List ℕ → Type 0
 Gap gap = (t : List ℕ) → tells false (gap ++ t) ≡ tells false t
 
 module _ (gap : List ℕ) (between : Gap gap) (h : Head) (m : ℕ) where
-  quiet-movedText : (d : ℕ) → Quiet (movedText gap h m d)
-  unfolding movedText
-  quiet-movedText d = record {
+  quiet_moved_text : (d : ℕ) → Quiet (moved_text gap h m d)
+  unfolding moved_text
+  quiet_moved_text d = record {
     passed = λ t.
         let moved = field (ascii "moved ") m in
         let all = field (ascii " of ") h.n in
         let last = line (ascii " of ") h.n ++ t in
         ap (tells true) (append_assoc (moved ++ field gap d) (line (ascii " of ") h.n) t)
         ∙ ap (tells true) (append_assoc moved (field gap d) last)
-        ∙ tells-other moved (field gap d ++ last) (other-field (ascii "moved ") m (simp worked-out) (simp worked-out))
+        ∙ tells_other moved (field gap d ++ last) (other_field (ascii "moved ") m (simp worked-out) (simp worked-out))
         ∙ ap (tells false) (append_assoc gap (decimal d) last)
         ∙ between (decimal d ++ last)
-        ∙ tells-plain (decimal d) last (plain-decimal d)
+        ∙ tells_plain (decimal d) last (plain_decimal d)
         ∙ ap (tells false) (append_assoc all newline t)
-        ∙ tells-plain all (newline ++ t) (plain-field (ascii " of ") h.n (simp worked-out))
+        ∙ tells_plain all (newline ++ t) (plain_field (ascii " of ") h.n (simp worked-out))
         ∙ tells-newline t;
   }
 
-  hasRefusal-progressBy : (r : Reply) → hasRefusal (progressBy gap h m r) ≡ refusesWake r
-  unfolding progressBy
-  hasRefusal-progressBy (reply n vs) =
-      if-test (eqb n 40)
+  has_refusal-progress_by : (r : Reply) → has_refusal (progress_by gap h m r) ≡ refuses_wake r
+  unfolding progress_by
+  has_refusal-progress_by (reply n vs) =
+      if_test (eqb n 40)
       (λ e.
-      ap hasRefusal (choose-t _ e refl)
-      ∙ hasRefusal-quiet _ (quiet-movedText (value vs 0))
-      ∙ sym (choose-t _ e refl))
+      ap has_refusal (choose_t _ e refl)
+      ∙ has_refusal_quiet _ (quiet_moved_text (value vs 0))
+      ∙ sym (choose_t _ e refl))
       (λ e.
-      ap hasRefusal (choose-f _ e refl)
-      ∙ if-choose (λ (s : List ℕ). hasRefusal s ≡ not (eqb n 0)) (eqb n 0 either eqb n 41)
-      (λ i. hasRefusal-behind _ _ (quiet-movedText h.n) ∙ hasRefusal-replyText h (reply n vs))
-      (λ i. hasRefusal-refusedText n vs ∙ sym (ap not (neither (eqb n 0) (eqb n 41) i)))
-      ∙ sym (choose-f _ e refl))
+      ap has_refusal (choose_f _ e refl)
+      ∙ if_choose (λ (s : List ℕ). has_refusal s ≡ not (eqb n 0)) (eqb n 0 either eqb n 41)
+      (λ i. has_refusal_behind _ _ (quiet_moved_text h.n) ∙ has_refusal-reply_text h (reply n vs))
+      (λ i. has_refusal-refused_text n vs ∙ sym (ap not (neither (eqb n 0) (eqb n 41) i)))
+      ∙ sym (choose_f _ e refl))
 
 module _ (k c : List ℕ) (m : ℕ) where
-  hasRefusal-progressWith : (gap : List ℕ) → Gap gap
-      → hasRefusal (progressWith gap k c m) ≡ ifOpen (opened k) (λ n. true) (λ h. refusesWake (reportReply k c))
-  unfolding progressWith
-  hasRefusal-progressWith gap between =
-      hasRefusal-ifOpen (opened k) _ _ (λ h. hasRefusal-progressBy gap between h m (reportReply k c))
+  has_refusal-progress_with : (gap : List ℕ) → Gap gap
+      → has_refusal (progress_with gap k c m) ≡ if_open (opened k) (λ n. true) (λ h. refuses_wake (report_reply k c))
+  unfolding progress_with
+  has_refusal-progress_with gap between =
+      has_refusal-if_open (opened k) _ _ (λ h. has_refusal-progress_by gap between h m (report_reply k c))
 
-  pub hasRefusal-progressText :
-      hasRefusal (progressText k c m) ≡ ifOpen (opened k) (λ n. true) (λ h. refusesWake (reportReply k c))
-  unfolding progressText
-  hasRefusal-progressText =
-      hasRefusal-progressWith (ascii "\ndone ")
+  pub has_refusal-progress_text :
+      has_refusal (progress_text k c m) ≡ if_open (opened k) (λ n. true) (λ h. refuses_wake (report_reply k c))
+  unfolding progress_text
+  has_refusal-progress_text =
+      has_refusal-progress_with (ascii "\ndone ")
       (λ t.
       tells-newline (ascii "done " ++ t)
-      ∙ tells-other (ascii "done ") t (other _ (simp worked-out) (simp worked-out)))
+      ∙ tells_other (ascii "done ") t (other _ (simp worked-out) (simp worked-out)))
 
-  pub hasRefusal-turnText :
-      hasRefusal (turnText k c m) ≡ ifOpen (opened k) (λ n. true) (λ h. refusesWake (reportReply k c))
-  unfolding turnText
-  hasRefusal-turnText =
-      hasRefusal-progressWith (ascii " done ")
-      (λ t. tells-plain (ascii " done ") t (plain_word (ascii " done ") (simp worked-out)))
+  pub has_refusal-turn_text :
+      has_refusal (turn_text k c m) ≡ if_open (opened k) (λ n. true) (λ h. refuses_wake (report_reply k c))
+  unfolding turn_text
+  has_refusal-turn_text =
+      has_refusal-progress_with (ascii " done ")
+      (λ t. tells_plain (ascii " done ") t (plain_word (ascii " done ") (simp worked-out)))
 
 -- ---- the line of a record
 -- A refused book has no records to see.
-abbrev pub refusesSight : Sight → Bool
-refusesSight (turnedAway n) = true
-refusesSight missing = false
-refusesSight (shown o) = false
+abbrev pub refuses_sight : Sight → Bool
+refuses_sight (turned_away n) = true
+refuses_sight missing = false
+refuses_sight (shown o) = false
 
-plain-methodText : (k m : ℕ) → Plain (methodText k m)
-unfolding methodText
-plain-methodText k m =
-    plain-choose (eqb m 0)
-    (plain-choose (eqb k 4) (plain_word (ascii " anodes") (simp worked-out)) (plain_word (ascii " hour") (simp worked-out)))
-    (plain-field (ascii " method ") m (simp worked-out))
+plain_method_text : (k m : ℕ) → Plain (method_text k m)
+unfolding method_text
+plain_method_text k m =
+    plain_choose (eqb m 0)
+    (plain_choose (eqb k 4) (plain_word (ascii " anodes") (simp worked-out)) (plain_word (ascii " hour") (simp worked-out)))
+    (plain_field (ascii " method ") m (simp worked-out))
 
-plain-ledgerText : (d : Destination) → Plain (ledgerText d)
-plain-ledgerText Fossil = plain_word (ascii " fossil") (simp worked-out)
-plain-ledgerText Biomass = plain_word (ascii " biomass") (simp worked-out)
-plain-ledgerText Nowhere = plain_word (ascii " none") (simp worked-out)
+plain_ledger_text : (d : Destination) → Plain (ledger_text d)
+plain_ledger_text Fossil = plain_word (ascii " fossil") (simp worked-out)
+plain_ledger_text Biomass = plain_word (ascii " biomass") (simp worked-out)
+plain_ledger_text Nowhere = plain_word (ascii " none") (simp worked-out)
 
-plain-massesText : (e : Entry) → Plain (massesText e)
-unfolding massesText
-plain-massesText e =
-    let co2 = plain-field (ascii " co2-ug ") e.co2.0 (simp worked-out) in
-    let ch4 = plain-field (ascii " ch4-ng ") e.ch4.0 (simp worked-out) in
-    plain-append (plain-append co2 ch4) (plain-field (ascii " n2o-ng ") e.n2o.0 (simp worked-out))
+plain_masses_text : (e : Entry) → Plain (masses_text e)
+unfolding masses_text
+plain_masses_text e =
+    let co2 = plain_field (ascii " co2-ug ") e.co2.0 (simp worked-out) in
+    let ch4 = plain_field (ascii " ch4-ng ") e.ch4.0 (simp worked-out) in
+    plain_append (plain_append co2 ch4) (plain_field (ascii " n2o-ng ") e.n2o.0 (simp worked-out))
 
-plain-outcomeText : (k : ℕ) (o : Outcome) → Plain (outcomeText k o)
-unfolding outcomeText
-plain-outcomeText k (SetAside r) = plain-field (ascii " reason ") r (simp worked-out)
-plain-outcomeText k (Counted e) =
-    plain-append (plain-append (plain-methodText k e.method) (plain-ledgerText e.destination)) (plain-massesText e)
+plain_outcome_text : (k : ℕ) (o : Outcome) → Plain (outcome_text k o)
+unfolding outcome_text
+plain_outcome_text k (SetAside r) = plain_field (ascii " reason ") r (simp worked-out)
+plain_outcome_text k (Counted e) =
+    plain_append (plain_append (plain_method_text k e.method) (plain_ledger_text e.destination)) (plain_masses_text e)
 
-hasRefusal-nil : hasRefusal [] ≡ false
-unfolding hasRefusal tells
-hasRefusal-nil = refl
+has_refusal-nil : has_refusal [] ≡ false
+unfolding has_refusal tells
+has_refusal-nil = refl
 
-pub hasRefusal-lineText : (i k : ℕ) (x : Sight) → hasRefusal (lineText i k x) ≡ refusesSight x
-unfolding lineText
-hasRefusal-lineText i k (turnedAway n) = hasRefusal-refusedText n []
-hasRefusal-lineText i k missing = hasRefusal-nil
-hasRefusal-lineText i k (shown o) =
-    hasRefusal-quiet _
-    (quiet-ended (field (ascii "record ") i ++ outcomeText k o)
-    (other-append (other-field (ascii "record ") i (simp worked-out) (simp worked-out)) (plain-outcomeText k o)))
+pub has_refusal-line_text : (i k : ℕ) (x : Sight) → has_refusal (line_text i k x) ≡ refuses_sight x
+unfolding line_text
+has_refusal-line_text i k (turned_away n) = has_refusal-refused_text n []
+has_refusal-line_text i k missing = has_refusal-nil
+has_refusal-line_text i k (shown o) =
+    has_refusal_quiet _
+    (quiet_ended (field (ascii "record ") i ++ outcome_text k o)
+    (other_append (other_field (ascii "record ") i (simp worked-out) (simp worked-out)) (plain_outcome_text k o)))

@@ -16,57 +16,57 @@ use Rattle.text.proofs.frame.answer_report.Reads as answer-report
 use Rattle.text.proofs.frame.answer_record.Reads as answer-record
 use Rattle.text.proofs.frame.tell_broken.Reads as tell-broken
 
-pub tell-annual-unique : (κs : _) (a : _) (r s : _) (x y : _)
+pub tell_annual_unique : (κs : _) (a : _) (r s : _) (x y : _)
     → tell-annual.Post κs a r x → tell-annual.Post κs a s y → r ≡ s
-tell-annual-unique κs a r s x y p q = p ∙ sym q
+tell_annual_unique κs a r s x y p q = p ∙ sym q
 
-pub refuse-unique : (κs : _) (a : _) (r s : _) (x y : _)
+pub refuse_unique : (κs : _) (a : _) (r s : _) (x y : _)
     → refuse.Post κs a r x → refuse.Post κs a s y → r ≡ s
-refuse-unique κs a r s x y p q = p ∙ sym q
+refuse_unique κs a r s x y p q = p ∙ sym q
 
-pub is-told-unique : (κs : _) (a : _) (r s : _) (x y : _)
+pub is_told_unique : (κs : _) (a : _) (r s : _) (x y : _)
     → is-told.Post κs a r x → is-told.Post κs a s y → r ≡ s
-is-told-unique κs a r s x y p q = p ∙ sym q
+is_told_unique κs a r s x y p q = p ∙ sym q
 
-pub tell-progress-unique : (κs : _) (a : _) (r s : _) (x y : _)
+pub tell_progress_unique : (κs : _) (a : _) (r s : _) (x y : _)
     → tell-progress.Post κs a r x → tell-progress.Post κs a s y → r ≡ s
-tell-progress-unique κs a r s x y p q = p ∙ sym q
+tell_progress_unique κs a r s x y p q = p ∙ sym q
 
-pub tell-turn-unique : (κs : _) (a : _) (r s : _) (x y : _)
+pub tell_turn_unique : (κs : _) (a : _) (r s : _) (x y : _)
     → tell-turn.Post κs a r x → tell-turn.Post κs a s y → r ≡ s
-tell-turn-unique κs a r s x y p q = p ∙ sym q
+tell_turn_unique κs a r s x y p q = p ∙ sym q
 
-pub hint-unique : (κs : _) (a : _) (r s : _) (x y : _) → hint.Post κs a r x → hint.Post κs a s y → r ≡ s
-hint-unique κs a r s x y p q = p ∙ sym q
+pub hint_unique : (κs : _) (a : _) (r s : _) (x y : _) → hint.Post κs a r x → hint.Post κs a s y → r ≡ s
+hint_unique κs a r s x y p q = p ∙ sym q
 
-pub tell-fault-unique : (κs : _) (a : _) (r s : _) (x y : _)
+pub tell_fault_unique : (κs : _) (a : _) (r s : _) (x y : _)
     → tell-fault.Post κs a r x → tell-fault.Post κs a s y → r ≡ s
-tell-fault-unique κs a r s x y p q = p ∙ sym q
+tell_fault_unique κs a r s x y p q = p ∙ sym q
 
-pub tell-record-unique : (κs : _) (a : _) (r s : _) (x y : _)
+pub tell_record_unique : (κs : _) (a : _) (r s : _) (x y : _)
     → tell-record.Post κs a r x → tell-record.Post κs a s y → r ≡ s
-tell-record-unique κs a r s x y p q = p ∙ sym q
+tell_record_unique κs a r s x y p q = p ∙ sym q
 
-pub budget-read-unique : (κs : _) (a : _) (r s : _) (x y : _)
+pub budget_read_unique : (κs : _) (a : _) (r s : _) (x y : _)
     → budget-read.Post κs a r x → budget-read.Post κs a s y → r ≡ s
-budget-read-unique κs a r s x y p q = p ∙ sym q
+budget_read_unique κs a r s x y p q = p ∙ sym q
 
-pub frame-read-unique : (κs : _) (a : _) (r s : _) (x y : _)
+pub frame_read_unique : (κs : _) (a : _) (r s : _) (x y : _)
     → frame-read.Post κs a r x → frame-read.Post κs a s y → r ≡ s
-frame-read-unique κs a r s x y p q = p ∙ sym q
+frame_read_unique κs a r s x y p q = p ∙ sym q
 
-pub answer-call-unique : (κs : _) (a : _) (r s : _) (x y : _)
+pub answer_call_unique : (κs : _) (a : _) (r s : _) (x y : _)
     → answer-call.Post κs a r x → answer-call.Post κs a s y → r ≡ s
-answer-call-unique κs a r s x y p q = p ∙ sym q
+answer_call_unique κs a r s x y p q = p ∙ sym q
 
-pub answer-report-unique : (κs : _) (a : _) (r s : _) (x y : _)
+pub answer_report_unique : (κs : _) (a : _) (r s : _) (x y : _)
     → answer-report.Post κs a r x → answer-report.Post κs a s y → r ≡ s
-answer-report-unique κs a r s x y p q = p ∙ sym q
+answer_report_unique κs a r s x y p q = p ∙ sym q
 
-pub answer-record-unique : (κs : _) (a : _) (r s : _) (x y : _)
+pub answer_record_unique : (κs : _) (a : _) (r s : _) (x y : _)
     → answer-record.Post κs a r x → answer-record.Post κs a s y → r ≡ s
-answer-record-unique κs a r s x y p q = p ∙ sym q
+answer_record_unique κs a r s x y p q = p ∙ sym q
 
-pub tell-broken-unique : (κs : _) (a : _) (r s : _) (x y : _)
+pub tell_broken_unique : (κs : _) (a : _) (r s : _) (x y : _)
     → tell-broken.Post κs a r x → tell-broken.Post κs a s y → r ≡ s
-tell-broken-unique κs a r s x y p q = p ∙ sym q
+tell_broken_unique κs a r s x y p q = p ∙ sym q

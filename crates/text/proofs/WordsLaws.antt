@@ -8,49 +8,49 @@ use native.Mathlib.Omega.{arith}
 use lib.ListN.{length, length-append}
 use borrow.Author.Tests.{lt-ltb, le-ltb}
 use Rattle.choice.specs.Tests.{choose}
-use Rattle.choice.proofs.Splitting.{if-test, if-lt}
-use Rattle.choice.proofs.TestsLaws.{choose-t, choose-f}
+use Rattle.choice.proofs.Splitting.{if_test, if_lt}
+use Rattle.choice.proofs.TestsLaws.{choose_t, choose_f}
 use Rattle.text.specs.Words.{newline, digit, digits, decimal, field, line}
 
 -- ---- one digit more
 digits-few : (k n : ℕ) → n < 10 → digits (suc k) n ≡ digit n ∷ []
 unfolding digits
-digits-few k n l = choose-t _ (lt-ltb n 10 l) refl
+digits-few k n l = choose_t _ (lt-ltb n 10 l) refl
 
-digits-many : (k n : ℕ) → 10 ≤ n → digits (suc k) n ≡ digits k (n / 10) ++ digit (n % 10) ∷ []
+digits_many : (k n : ℕ) → 10 ≤ n → digits (suc k) n ≡ digits k (n / 10) ++ digit (n % 10) ∷ []
 unfolding digits
-digits-many k n l = choose-f _ (le-ltb n 10 l) refl
+digits_many k n l = choose_f _ (le-ltb n 10 l) refl
 
 -- Room for more digits than there are changes nothing.
-digits-room : (k n : ℕ) → n < 10 ^ suc k → digits (suc k) n ≡ digits (suc (suc k)) n
-digits-room zero n l = digits-few 0 n (omega arith) ∙ sym (digits-few 1 n (omega arith))
-digits-room (suc k) n l =
-    if-lt n 10
+digits_room : (k n : ℕ) → n < 10 ^ suc k → digits (suc k) n ≡ digits (suc (suc k)) n
+digits_room zero n l = digits-few 0 n (omega arith) ∙ sym (digits-few 1 n (omega arith))
+digits_room (suc k) n l =
+    if_lt n 10
     (λ few. digits-few (suc k) n few ∙ sym (digits-few (suc (suc k)) n few))
     (λ many.
-    digits-many (suc k) n many
-    ∙ ap (λ (w : List ℕ). w ++ digit (n % 10) ∷ []) (digits-room k (n / 10) (omega (arith, pow-suc 10 (suc k))))
-    ∙ sym (digits-many (suc (suc k)) n many))
+    digits_many (suc k) n many
+    ∙ ap (λ (w : List ℕ). w ++ digit (n % 10) ∷ []) (digits_room k (n / 10) (omega (arith, pow-suc 10 (suc k))))
+    ∙ sym (digits_many (suc (suc k)) n many))
 
 pub decimal-few : (n : ℕ) → n < 10 → decimal n ≡ digit n ∷ []
 unfolding decimal
 decimal-few n l = digits-few 19 n l
 
-pub decimal-many : (n : ℕ) → 10 ≤ n → n < 2 ^ 64 → decimal n ≡ decimal (n / 10) ++ digit (n % 10) ∷ []
+pub decimal_many : (n : ℕ) → 10 ≤ n → n < 2 ^ 64 → decimal n ≡ decimal (n / 10) ++ digit (n % 10) ∷ []
 unfolding decimal
-decimal-many n l h =
-    digits-many 19 n l
-    ∙ ap (λ (w : List ℕ). w ++ digit (n % 10) ∷ []) (digits-room 18 (n / 10) (omega arith))
+decimal_many n l h =
+    digits_many 19 n l
+    ∙ ap (λ (w : List ℕ). w ++ digit (n % 10) ∷ []) (digits_room 18 (n / 10) (omega arith))
 
 -- ---- how many there are
 digits_le : (k n : ℕ) → length (digits k n) ≤ k
 unfolding digits
 digits_le zero n = omega arith
 digits_le (suc k) n =
-    if-lt n 10
+    if_lt n 10
     (λ few. omega (arith, ap length (digits-few k n few)))
     (λ many.
-    let split = ap length (digits-many k n many) ∙ length-append (digits k (n / 10)) (digit (n % 10) ∷ []) in
+    let split = ap length (digits_many k n many) ∙ length-append (digits k (n / 10)) (digit (n % 10) ∷ []) in
     omega (arith, split, digits_le k (n / 10)))
 
 decimal-le : (n : ℕ) → length (decimal n) ≤ 20
@@ -66,9 +66,9 @@ append-le {s} {t} a b = let l = a.le in let h = b.le in record { le = omega (ari
 
 pub choose-le : (c : Bool) {s t : List ℕ} {m : ℕ} → AtMost m s → AtMost m t → AtMost m (choose c s t)
 choose-le c {s} {t} {m} a b =
-    if-test c
-    (λ e. subst (AtMost m) (sym (choose-t t e refl)) a)
-    (λ e. subst (AtMost m) (sym (choose-f s e refl)) b)
+    if_test c
+    (λ e. subst (AtMost m) (sym (choose_t t e refl)) a)
+    (λ e. subst (AtMost m) (sym (choose_f s e refl)) b)
 
 pub word-le : (s : List ℕ) → AtMost (length s) s
 word-le s = record { le = le_refl _ }

@@ -1,8 +1,8 @@
 -- What an operator is told of a wrong list of plants, behind the list's name. RULES, "List of plants".
 --
---     mistakeText x    what is wrong with a line
---     wrongText i l    the line for line i of a list, which is l and no plant's
---     faultText t x    the line for the verdict x on the list t, whose lines are counted from 1; nothing if it
+--     mistake_text x    what is wrong with a line
+--     wrong_text i l    the line for line i of a list, which is l and no plant's
+--     fault_text t x    the line for the verdict x on the list t, whose lines are counted from 1; nothing if it
 --                      is right
 --
 -- Laws: proofs/PlantsLaws.antt. Definitions only.
@@ -12,21 +12,21 @@ use Rattle.roster.specs.declared.mistake.Mistake.TheVariants.{Comment, Return, S
 use Rattle.roster.specs.declared.plants.Listed.{Listed}
 use Rattle.roster.specs.declared.plants.Listed.TheVariants.{Plants, Wrong, Again, Many}
 use Rattle.roster.specs.Lines.{line_at}
-use Rattle.roster.specs.Mistake.{mistakeIn}
+use Rattle.roster.specs.Mistake.{mistake_in}
 use Rattle.text.specs.Words.{ascii, field}
 
-abbrev pub mistakeText : Mistake → List ℕ
-mistakeText Comment = ascii " is a comment, and a list has none\n"
-mistakeText Return = ascii " ends in a return: save the list with plain newlines\n"
-mistakeText Space = ascii " has a space too many: no path in a list has one\n"
-mistakeText Long = ascii " has a path that is too long\n"
-mistakeText Form = ascii " isn't BOOK CHECKPOINT\n"
+abbrev pub mistake_text : Mistake → List ℕ
+mistake_text Comment = ascii " is a comment, and a list has none\n"
+mistake_text Return = ascii " ends in a return: save the list with plain newlines\n"
+mistake_text Space = ascii " has a space too many: no path in a list has one\n"
+mistake_text Long = ascii " has a path that is too long\n"
+mistake_text Form = ascii " isn't BOOK CHECKPOINT\n"
 
-unfoldable pub wrongText : ℕ → List ℕ → List ℕ
-wrongText i l = field (ascii "line ") (i + 1) ++ mistakeText (mistakeIn l)
+unfoldable pub wrong_text : ℕ → List ℕ → List ℕ
+wrong_text i l = field (ascii "line ") (i + 1) ++ mistake_text (mistake_in l)
 
-unfoldable pub faultText : List ℕ → Listed → List ℕ
-faultText t (Plants n) = []
-faultText t (Wrong i) = wrongText i (line_at i t)
-faultText t (Again i) = field (ascii "line ") (i + 1) ++ ascii " names a checkpoint again\n"
-faultText t Many = ascii "more than 16 plants\n"
+unfoldable pub fault_text : List ℕ → Listed → List ℕ
+fault_text t (Plants n) = []
+fault_text t (Wrong i) = wrong_text i (line_at i t)
+fault_text t (Again i) = field (ascii "line ") (i + 1) ++ ascii " names a checkpoint again\n"
+fault_text t Many = ascii "more than 16 plants\n"

@@ -2,7 +2,7 @@
 --
 --     begins w t       t begins with w
 --     tells first t    a line of t tells a refusal, where t begins a line if it is first
---     hasRefusal t     a line of t tells a refusal
+--     has_refusal t     a line of t tells a refusal
 --
 -- Laws: proofs/RefusalLaws.antt. Definitions only.
 use Rattle.std.specs.Prelude.{ℕ, Bool, true, false, List, [], ◌∷◌, eqb}
@@ -19,5 +19,5 @@ unfoldable pub tells : Bool → List ℕ → Bool
 tells first [] = false
 tells first (x ∷ t) = (first also begins (ascii "refused ") (x ∷ t)) either tells (eqb x 10) t
 
-unfoldable pub hasRefusal : List ℕ → Bool
-hasRefusal t = tells true t
+unfoldable pub has_refusal : List ℕ → Bool
+has_refusal t = tells true t

@@ -1,6 +1,6 @@
 // A budget, read from an argument.
 ghost use Rattle.std.specs.Prelude.{◌≡◌};
-ghost use Rattle.text.specs.Budget.{isDigit, budgetIn};
+ghost use Rattle.text.specs.Budget.{is_digit, budget_in};
 
 #[derive(Drop)]
 pub enum Budget {
@@ -12,7 +12,7 @@ pub enum Budget {
 const HIGHEST: u64 = 4294967295;
 
 pub fn read(word: &[u8]) -> Budget
-    ensures budget { result ≡ budgetIn word.now }
+    ensures budget { result ≡ budget_in word.now }
 {
     if word.len() == 0 {
         return Budget::Wrong;
@@ -35,7 +35,7 @@ pub fn read(word: &[u8]) -> Budget
 }
 
 fn is_digit(b: u8) -> bool
-    ensures digit { result ≡ isDigit b }
+    ensures digit { result ≡ is_digit b }
 {
     (48 <= b) & (b <= 57)
 }

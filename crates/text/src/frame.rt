@@ -4,7 +4,7 @@ ghost use Rattle.choice.specs.Tests.{choose};
 ghost use Rattle.rules.specs.Reader.{shown, sight};
 ghost use Rattle.text.specs.Page.{page_of};
 ghost use Rattle.text.specs.Extended.{extended};
-ghost use Rattle.text.specs.Frame.{argumentOk, headOk, frameIn, askedIn, callAnswer, same, figuresPart, changePart, reportPart, reportAnswer, ledgerNumber, uncounted, toldOf, toldBytes, recordAnswer, breachText, brokenText};
+ghost use Rattle.text.specs.Frame.{argument_ok, head_ok, frame_in, asked_in, call_answer, same, figures_part, change_part, report_part, report_answer, ledger_number, uncounted, told_of, told_bytes, record_answer, breach_text, broken_text};
 
 use crate::page::Page;
 use crate::{number, page};
@@ -64,7 +64,7 @@ const BLANK: usize = 20;
 pub const MOST_BEHIND: u64 = 5242880;
 
 pub fn read(head: &[u8]) -> Asked
-    ensures asked { result ≡ askedIn head.now }
+    ensures asked { result ≡ asked_in head.now }
 {
     if head.len() != SIZE {
         return Asked::Stop;
@@ -77,7 +77,7 @@ pub fn read(head: &[u8]) -> Asked
 
 fn is_right(head: &[u8]) -> bool
     requires whole { length head.now ≡ 24 }
-    ensures right { result ≡ headOk head.now }
+    ensures right { result ≡ head_ok head.now }
 {
     let call = read_word(head, CALL, 1);
     let gap = are_zero(head, GAP, ARGUMENT);
@@ -95,14 +95,14 @@ fn is_right(head: &[u8]) -> bool
 }
 
 fn is_argument_right(call: u64, argument: u64) -> bool
-    ensures right { result ≡ argumentOk call argument }
+    ensures right { result ≡ argument_ok call argument }
 {
     (call == 2) | (call == 4) | (argument == 0)
 }
 
 fn take_frame(head: &[u8]) -> Frame
     requires whole { length head.now ≡ 24 }
-    ensures frame { result ≡ frameIn head.now }
+    ensures frame { result ≡ frame_in head.now }
 {
     let call = read_word(head, CALL, 1) as u8;
     let argument = read_word(head, ARGUMENT, 4) as u32;
@@ -120,7 +120,7 @@ fn take_frame(head: &[u8]) -> Frame
 
 // The answer to a fresh start or a wake: the reply word of the C face.
 pub fn answer_call(word: u64) -> Page
-    ensures answer { result ≡ page_of (callAnswer word) }
+    ensures answer { result ≡ page_of (call_answer word) }
 {
     let p = number::say_bytes(page::take_blank(), 8, word);
     number::say_bytes(p, 56, 0)
@@ -128,7 +128,7 @@ pub fn answer_call(word: u64) -> Page
 
 // The answer to a report: the reply word, and the figures as they stood before the call and after.
 pub fn answer_report(word: u64, before: [u64; 6], after: [u64; 6]) -> Page
-    ensures answer { result ≡ page_of (reportAnswer word before after) }
+    ensures answer { result ≡ page_of (report_answer word before after) }
 {
     let p = number::say_bytes(page::take_blank(), 8, word);
     let p = say_part(p, word % 256, before, after);
@@ -136,7 +136,7 @@ pub fn answer_report(word: u64, before: [u64; 6], after: [u64; 6]) -> Page
 }
 
 fn say_part(p: Page, n: u64, before: [u64; 6], after: [u64; 6]) -> Page
-    ensures said { result ≡ extended p (reportPart n before after) }
+    ensures said { result ≡ extended p (report_part n before after) }
 {
     if n == 0 {
         return say_figures(p, after);
@@ -145,7 +145,7 @@ fn say_part(p: Page, n: u64, before: [u64; 6], after: [u64; 6]) -> Page
 }
 
 fn say_figures(p: Page, figures: [u64; 6]) -> Page
-    ensures said { result ≡ extended p (figuresPart figures) }
+    ensures said { result ≡ extended p (figures_part figures) }
 {
     let p = number::say_bytes(p, 8, figures[0]);
     let p = number::say_bytes(p, 8, figures[1]);
@@ -157,7 +157,7 @@ fn say_figures(p: Page, figures: [u64; 6]) -> Page
 }
 
 fn say_change(p: Page, before: [u64; 6], after: [u64; 6]) -> Page
-    ensures said { result ≡ extended p (changePart before after) }
+    ensures said { result ≡ extended p (change_part before after) }
 {
     let p = number::say_bytes(p, 41, 0);
     number::say_bytes(p, 1, tell_change(before, after))
@@ -203,7 +203,7 @@ struct Told {
 
 // The answer to a look at a record.
 pub fn answer_record(seen: Seen) -> Page
-    ensures answer { result ≡ page_of (recordAnswer (sight seen)) }
+    ensures answer { result ≡ page_of (record_answer (sight seen)) }
 {
     let t = tell(seen);
     let p = number::say_bytes(page::take_blank(), 1, t.number);
@@ -218,7 +218,7 @@ pub fn answer_record(seen: Seen) -> Page
 }
 
 fn tell(seen: Seen) -> Told
-    ensures told { result ≡ toldOf (sight seen) }
+    ensures told { result ≡ told_of (sight seen) }
 {
     match seen {
         Seen::Refused(fault) => tell_uncounted(book::number_fault(fault) as u64, 0, 0),
@@ -228,7 +228,7 @@ fn tell(seen: Seen) -> Told
 }
 
 fn tell_outcome(o: Outcome) -> Told
-    ensures told { result ≡ toldOf (shown o) }
+    ensures told { result ≡ told_of (shown o) }
 {
     match o {
         Outcome::SetAside(reason) => tell_uncounted(0, reason as u64, 0),
@@ -251,7 +251,7 @@ fn tell_uncounted(number: u64, reason: u64, method: u64) -> Told
 }
 
 fn tell_counted(e: Entry) -> Told
-    ensures told { result ≡ toldOf (shown (Outcome.Counted e)) }
+    ensures told { result ≡ told_of (shown (Outcome.Counted e)) }
 {
     let destination = e.destination;
     let ledger = number_ledger(destination);
@@ -270,7 +270,7 @@ fn tell_counted(e: Entry) -> Told
 }
 
 fn number_ledger(d: Destination) -> u64
-    ensures number { result ≡ ledgerNumber d }
+    ensures number { result ≡ ledger_number d }
 {
     match d {
         Destination::Fossil => 1,
@@ -281,14 +281,14 @@ fn number_ledger(d: Destination) -> u64
 
 // The line on the frame at which the answers end; the first frame is frame 0.
 pub fn tell_broken(i: u64, x: Broken) -> Page
-    ensures text { result ≡ page_of (brokenText i x) }
+    ensures text { result ≡ page_of (broken_text i x) }
 {
     let p = number::say_field(page::take_blank(), b"frame ", i);
     say_breach(p, x)
 }
 
 fn say_breach(p: Page, x: Broken) -> Page
-    ensures said { result ≡ extended p (breachText x) }
+    ensures said { result ≡ extended p (breach_text x) }
 {
     match x {
         Broken::Head => page::say(p, b" has a head that breaks the rules\n"),

@@ -4,7 +4,7 @@ ghost use Rattle.rules.specs.Reader.{sight};
 ghost use Rattle.text.specs.Page.{page_of};
 ghost use Rattle.text.specs.Extended.{extended};
 ghost use Rattle.text.specs.Words.{ascii, newline, field};
-ghost use Rattle.text.specs.Lines.{methodText, ledgerText, massesText, outcomeText, lineText};
+ghost use Rattle.text.specs.Lines.{method_text, ledger_text, masses_text, outcome_text, line_text};
 
 use crate::page::Page;
 use crate::{number, page, report};
@@ -15,13 +15,13 @@ use rules::record::Outcome;
 // The line of what is seen at place i of a book, where a record of this kind stands; none past the last
 // record.
 pub fn tell_record(i: usize, kind: u8, seen: Seen) -> Page
-    ensures text { result ≡ page_of (lineText i kind (sight seen)) }
+    ensures text { result ≡ page_of (line_text i kind (sight seen)) }
 {
     say_seen(page::take_blank(), i, kind, seen)
 }
 
 fn say_seen(p: Page, i: usize, kind: u8, seen: Seen) -> Page
-    ensures said { result ≡ extended p (lineText i kind (sight seen)) }
+    ensures said { result ≡ extended p (line_text i kind (sight seen)) }
 {
     match seen {
         Seen::Refused(fault) => report::say_fault(p, fault),
@@ -31,7 +31,7 @@ fn say_seen(p: Page, i: usize, kind: u8, seen: Seen) -> Page
 }
 
 fn say_record(p: Page, i: usize, kind: u8, o: Outcome) -> Page
-    ensures said { result ≡ extended p (field (ascii "record ") i ++ outcomeText kind o ++ newline) }
+    ensures said { result ≡ extended p (field (ascii "record ") i ++ outcome_text kind o ++ newline) }
 {
     let q = number::say_field(p, b"record ", i as u64);
     let q = say_outcome(q, kind, o);
@@ -39,7 +39,7 @@ fn say_record(p: Page, i: usize, kind: u8, o: Outcome) -> Page
 }
 
 fn say_outcome(p: Page, kind: u8, o: Outcome) -> Page
-    ensures said { result ≡ extended p (outcomeText kind o) }
+    ensures said { result ≡ extended p (outcome_text kind o) }
 {
     match o {
         Outcome::SetAside(reason) => number::say_field(p, b" reason ", reason as u64),
@@ -48,7 +48,7 @@ fn say_outcome(p: Page, kind: u8, o: Outcome) -> Page
 }
 
 fn say_entry(p: Page, kind: u8, e: Entry) -> Page
-    ensures said { result ≡ extended p (outcomeText kind (Outcome.Counted e)) }
+    ensures said { result ≡ extended p (outcome_text kind (Outcome.Counted e)) }
 {
     let destination = e.destination;
     let q = say_method(p, kind, e.method);
@@ -57,7 +57,7 @@ fn say_entry(p: Page, kind: u8, e: Entry) -> Page
 }
 
 fn say_method(p: Page, kind: u8, method: u8) -> Page
-    ensures said { result ≡ extended p (methodText kind method) }
+    ensures said { result ≡ extended p (method_text kind method) }
 {
     if method != 0 {
         return number::say_field(p, b" method ", method as u64);
@@ -69,7 +69,7 @@ fn say_method(p: Page, kind: u8, method: u8) -> Page
 }
 
 fn say_ledger(p: Page, d: Destination) -> Page
-    ensures said { result ≡ extended p (ledgerText d) }
+    ensures said { result ≡ extended p (ledger_text d) }
 {
     match d {
         Destination::Fossil => page::say(p, b" fossil"),
@@ -79,7 +79,7 @@ fn say_ledger(p: Page, d: Destination) -> Page
 }
 
 fn say_masses(p: Page, e: Entry) -> Page
-    ensures said { result ≡ extended p (massesText e) }
+    ensures said { result ≡ extended p (masses_text e) }
 {
     let q = number::say_field(p, b" co2-ug ", e.co2.0);
     let q = number::say_field(q, b" ch4-ng ", e.ch4.0);

@@ -22,7 +22,7 @@ pub(crate) fn take_blank() -> Page
 }
 
 pub(crate) fn say_byte(p: Page, b: u8) -> Page
-    ensures said { result ≡ spec.withByte p b }
+    ensures said { result ≡ spec.with_byte p b }
 {
     let at = p.len;
     if at < SIZE {

@@ -3,7 +3,7 @@ ghost use Rattle.std.specs.Prelude.{◌+◌, ◌++◌, ◌≡◌};
 ghost use Rattle.text.specs.Page.{page_of};
 ghost use Rattle.text.specs.Extended.{extended};
 ghost use Rattle.text.specs.Words as words;
-ghost use Rattle.text.specs.Plants.{wrongText, faultText};
+ghost use Rattle.text.specs.Plants.{wrong_text, fault_text};
 
 use crate::page::Page;
 use crate::{number, page};
@@ -13,13 +13,13 @@ use roster::{lines, mistake};
 
 // The line that is told behind the name of a list with this verdict; nothing of a list that is right.
 pub fn tell_fault(list: &[u8], x: Listed) -> Page
-    ensures text { result ≡ page_of (faultText list.now x) }
+    ensures text { result ≡ page_of (fault_text list.now x) }
 {
     say_fault(page::take_blank(), list, x)
 }
 
 fn say_fault(p: Page, list: &[u8], x: Listed) -> Page
-    ensures said { result ≡ extended p (faultText list.now x) }
+    ensures said { result ≡ extended p (fault_text list.now x) }
 {
     match x {
         Listed::Plants(_) => p,
@@ -30,7 +30,7 @@ fn say_fault(p: Page, list: &[u8], x: Listed) -> Page
 }
 
 fn say_wrong(p: Page, i: u8, line: &[u8]) -> Page
-    ensures said { result ≡ extended p (wrongText i line.now) }
+    ensures said { result ≡ extended p (wrong_text i line.now) }
 {
     match mistake::find(line) {
         Mistake::Comment => say_of_line(p, i, b" is a comment, and a list has none\n"),

@@ -1,10 +1,10 @@
 // What a wake prints once it has saved, and what an operator is told beside a refusal.
 ghost use Rattle.std.specs.Prelude.{◌≡◌, ◌≤◌, length};
 ghost use Rattle.rules.specs.Book.{opened, accepted};
-ghost use Rattle.job.specs.Reply.{refusalNumber, reported};
+ghost use Rattle.job.specs.Reply.{refusal_number, reported};
 ghost use Rattle.text.specs.Page.{page_of};
 ghost use Rattle.text.specs.Extended.{extended};
-ghost use Rattle.text.specs.Progress.{movedText, progressBy, progressWith, progressText, turnText, hintText};
+ghost use Rattle.text.specs.Progress.{moved_text, progress_by, progress_with, progress_text, turn_text, hint_text};
 
 use crate::page::Page;
 use crate::{number, page, report};
@@ -14,21 +14,21 @@ use rules::book::{Head, Opened};
 
 // How far a wake went that saved a checkpoint and, once the book is finished, its report.
 pub fn tell_progress(book: &[u8], saved: &[u8], moved: u32) -> Page
-    ensures text { result ≡ page_of (progressText book.now saved.now moved) }
+    ensures text { result ≡ page_of (progress_text book.now saved.now moved) }
 {
     tell(b"\ndone ", book, saved, moved)
 }
 
 // The same where wakes of several books are printed one below the other, each behind its name.
 pub fn tell_turn(book: &[u8], saved: &[u8], moved: u32) -> Page
-    ensures text { result ≡ page_of (turnText book.now saved.now moved) }
+    ensures text { result ≡ page_of (turn_text book.now saved.now moved) }
 {
     tell(b" done ", book, saved, moved)
 }
 
 fn tell(gap: &[u8], book: &[u8], saved: &[u8], moved: u32) -> Page
     requires short { length gap.now ≤ 6 }
-    ensures text { result ≡ page_of (progressWith gap.now book.now saved.now moved) }
+    ensures text { result ≡ page_of (progress_with gap.now book.now saved.now moved) }
 {
     match book::open(book) {
         Opened::Wrong(fault) => report::refuse_book(fault),
@@ -39,14 +39,14 @@ fn tell(gap: &[u8], book: &[u8], saved: &[u8], moved: u32) -> Page
 fn tell_open(gap: &[u8], book: &[u8], h: Head, saved: &[u8], moved: u32) -> Page
     requires short { length gap.now ≤ 6 }
     requires opened { opened book.now ≡ accepted h }
-    ensures text { result ≡ page_of (progressWith gap.now book.now saved.now moved) }
+    ensures text { result ≡ page_of (progress_with gap.now book.now saved.now moved) }
 {
     let r = job::report::report(book, saved);
     say_progress(page::take_blank(), gap, h, moved, r)
 }
 
 fn say_progress(p: Page, gap: &[u8], h: Head, moved: u32, r: Reported) -> Page
-    ensures said { result ≡ extended p (progressBy gap.now h moved (reported r)) }
+    ensures said { result ≡ extended p (progress_by gap.now h moved (reported r)) }
 {
     match r {
         Reported::NotReported(x) => report::say_refusal(p, x),
@@ -63,7 +63,7 @@ fn say_progress(p: Page, gap: &[u8], h: Head, moved: u32, r: Reported) -> Page
 }
 
 fn say_moved(p: Page, gap: &[u8], h: Head, moved: u32, done: u64) -> Page
-    ensures said { result ≡ extended p (movedText gap.now h moved done) }
+    ensures said { result ≡ extended p (moved_text gap.now h moved done) }
 {
     let q = number::say_field(p, b"moved ", moved as u64);
     let q = number::say_field(q, gap, done);
@@ -73,7 +73,7 @@ fn say_moved(p: Page, gap: &[u8], h: Head, moved: u32, done: u64) -> Page
 // What the operator does about a refusal, where there is something: the words stand behind the checkpoint's
 // path.
 pub fn hint(x: Refusal) -> Page
-    ensures text { result ≡ page_of (hintText (refusalNumber x)) }
+    ensures text { result ≡ page_of (hint_text (refusal_number x)) }
 {
     match x {
         Refusal::Book(_) => page::take_blank(),
@@ -84,7 +84,7 @@ pub fn hint(x: Refusal) -> Page
 }
 
 fn hint_fresh() -> Page
-    ensures text { result ≡ page_of (hintText 30) }
+    ensures text { result ≡ page_of (hint_text 30) }
 {
     page::say(
         page::take_blank(),

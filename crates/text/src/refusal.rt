@@ -1,6 +1,6 @@
 // Whether a refusal is told.
 ghost use Rattle.std.specs.Prelude.{◌≡◌};
-ghost use Rattle.text.specs.Refusal.{begins, hasRefusal};
+ghost use Rattle.text.specs.Refusal.{begins, has_refusal};
 
 use roster::bytes;
 
@@ -8,7 +8,7 @@ const NEWLINE: u8 = 10;
 
 // Whether a line of the text is that of a refusal.
 pub fn is_told(text: &[u8]) -> bool
-    ensures told { result ≡ hasRefusal text.now }
+    ensures told { result ≡ has_refusal text.now }
 {
     let mut first = true;
     let mut i = 0;

@@ -1,11 +1,11 @@
 // The report, and each refusal, as text.
 ghost use Rattle.std.specs.Prelude.{[], ◌∷◌, ◌≡◌, ◌≤◌};
 ghost use Rattle.choice.specs.Tests.{choose};
-ghost use Rattle.rules.specs.Book.{faultNumber, opened, accepted};
-ghost use Rattle.job.specs.Reply.{refusalNumber, figureValues, reported};
+ghost use Rattle.rules.specs.Book.{fault_number, opened, accepted};
+ghost use Rattle.job.specs.Reply.{refusal_number, figure_values, reported};
 ghost use Rattle.text.specs.Page.{page_of};
 ghost use Rattle.text.specs.Extended.{extended};
-ghost use Rattle.text.specs.Report.{refusedText, decisionText, figuresText, replyText, yearText, annualHeld};
+ghost use Rattle.text.specs.Report.{refused_text, decision_text, figures_text, reply_text, year_text, annual_held};
 
 use crate::page::Page;
 use crate::{number, page};
@@ -20,7 +20,7 @@ pub const ANNUAL_MOST: usize = 65536;
 
 // What `annual` prints of the bytes that start with these, `more` saying whether others follow.
 pub fn tell_annual(book: &[u8], more: bool) -> Page
-    ensures text { result ≡ page_of (annualHeld book.now more) }
+    ensures text { result ≡ page_of (annual_held book.now more) }
 {
     if more {
         return refuse_book(Fault::Length);
@@ -33,7 +33,7 @@ pub fn tell_annual(book: &[u8], more: bool) -> Page
 
 // The report of the book, whatever bytes it is.
 fn tell_year(book: &[u8]) -> Page
-    ensures text { result ≡ page_of (yearText book.now) }
+    ensures text { result ≡ page_of (year_text book.now) }
 {
     match book::open(book) {
         Opened::Wrong(fault) => refuse_book(fault),
@@ -43,7 +43,7 @@ fn tell_year(book: &[u8]) -> Page
 
 fn tell_open(book: &[u8], h: Head) -> Page
     requires opened { opened book.now ≡ accepted h }
-    ensures text { result ≡ page_of (yearText book.now) }
+    ensures text { result ≡ page_of (year_text book.now) }
 {
     let mut begun = [0u8; checkpoint::SIZE];
     job::wake::fresh(book, &mut begun);
@@ -55,20 +55,20 @@ fn tell_open(book: &[u8], h: Head) -> Page
 
 // The line of a refusal.
 pub fn refuse(x: Refusal) -> Page
-    ensures text { result ≡ page_of (refusedText (refusalNumber x) []) }
+    ensures text { result ≡ page_of (refused_text (refusal_number x) []) }
 {
     say_refusal(page::take_blank(), x)
 }
 
 // The line of a book that is refused.
 pub(crate) fn refuse_book(x: Fault) -> Page
-    ensures text { result ≡ page_of (refusedText (faultNumber x) []) }
+    ensures text { result ≡ page_of (refused_text (fault_number x) []) }
 {
     say_fault(page::take_blank(), x)
 }
 
 pub(crate) fn say_reported(p: Page, h: Head, r: Reported) -> Page
-    ensures said { result ≡ extended p (replyText h (reported r)) }
+    ensures said { result ≡ extended p (reply_text h (reported r)) }
 {
     match r {
         Reported::NotReported(x) => say_refusal(p, x),
@@ -79,13 +79,13 @@ pub(crate) fn say_reported(p: Page, h: Head, r: Reported) -> Page
 }
 
 pub(crate) fn say_refusal(p: Page, x: Refusal) -> Page
-    ensures said { result ≡ extended p (refusedText (refusalNumber x) []) }
+    ensures said { result ≡ extended p (refused_text (refusal_number x) []) }
 {
     say_number(p, reply::number_refusal(x))
 }
 
 pub(crate) fn say_fault(p: Page, x: Fault) -> Page
-    ensures said { result ≡ extended p (refusedText (faultNumber x) []) }
+    ensures said { result ≡ extended p (refused_text (fault_number x) []) }
 {
     say_number(p, book::number_fault(x))
 }
@@ -93,13 +93,13 @@ pub(crate) fn say_fault(p: Page, x: Fault) -> Page
 // The line of a number that stands alone.
 fn say_number(p: Page, n: u8) -> Page
     requires alone { n ≤ 40 }
-    ensures said { result ≡ extended p (refusedText n []) }
+    ensures said { result ≡ extended p (refused_text n []) }
 {
     number::say_line(p, b"refused ", n as u64)
 }
 
 fn say_aside(p: Page, i: u32, reason: u8) -> Page
-    ensures said { result ≡ extended p (refusedText 41 (i ∷ reason ∷ [])) }
+    ensures said { result ≡ extended p (refused_text 41 (i ∷ reason ∷ [])) }
 {
     let q = number::say_field(p, b"refused ", 41);
     let q = number::say_field(q, b" record ", i as u64);
@@ -107,7 +107,7 @@ fn say_aside(p: Page, i: u32, reason: u8) -> Page
 }
 
 fn say_figures(p: Page, h: Head, f: Figures) -> Page
-    ensures said { result ≡ extended p (figuresText h (figureValues f)) }
+    ensures said { result ≡ extended p (figures_text h (figure_values f)) }
 {
     let q = number::say_line(p, b"year ", h.year);
     let q = number::say_line(q, b"records ", h.n as u64);
@@ -120,7 +120,7 @@ fn say_figures(p: Page, h: Head, f: Figures) -> Page
 }
 
 fn say_decision(p: Page, must: bool) -> Page
-    ensures said { result ≡ extended p (decisionText (choose must 1 0)) }
+    ensures said { result ≡ extended p (decision_text (choose must 1 0)) }
 {
     if must {
         return page::say(p, b"must-report yes\n");

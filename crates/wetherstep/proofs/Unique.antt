@@ -6,27 +6,27 @@ use Rattle.wetherstep.proofs.face.wetherstep_wake.Reads as wake
 use Rattle.wetherstep.proofs.face.wetherstep_report.Reads as report
 use Rattle.wetherstep.proofs.face.wetherstep_left.Reads as left
 
-pub fresh-unique : (κs : _) (a : _) (r s : _) (x y : _) → fresh.Post κs a r x → fresh.Post κs a s y → r ≡ s
-fresh-unique κs a r s x y p q = p.0 ∙ sym q.0
+pub fresh_unique : (κs : _) (a : _) (r s : _) (x y : _) → fresh.Post κs a r x → fresh.Post κs a s y → r ≡ s
+fresh_unique κs a r s x y p q = p.0 ∙ sym q.0
 
-pub fresh-bytes-unique : (κs : _) (a : _) (r s : _) (x y : _)
+pub fresh_bytes_unique : (κs : _) (a : _) (r s : _) (x y : _)
     → fresh.Post κs a r x → fresh.Post κs a s y → x.1.0.now ≡ y.1.0.now
-fresh-bytes-unique κs a r s x y p q = p.1 ∙ sym q.1
+fresh_bytes_unique κs a r s x y p q = p.1 ∙ sym q.1
 
-pub wake-unique : (κs : _) (a : _) (r s : _) (x y : _) → wake.Post κs a r x → wake.Post κs a s y → r ≡ s
-wake-unique κs a r s x y p q = p.0 ∙ sym q.0
+pub wake_unique : (κs : _) (a : _) (r s : _) (x y : _) → wake.Post κs a r x → wake.Post κs a s y → r ≡ s
+wake_unique κs a r s x y p q = p.0 ∙ sym q.0
 
-pub wake-bytes-unique : (κs : _) (a : _) (r s : _) (x y : _)
+pub wake_bytes_unique : (κs : _) (a : _) (r s : _) (x y : _)
     → wake.Post κs a r x → wake.Post κs a s y → x.1.1.1.0.now ≡ y.1.1.1.0.now
-wake-bytes-unique κs a r s x y p q = p.1 ∙ sym q.1
+wake_bytes_unique κs a r s x y p q = p.1 ∙ sym q.1
 
-pub report-unique : (κs : _) (a : _) (r s : _) (x y : _)
+pub report_unique : (κs : _) (a : _) (r s : _) (x y : _)
     → report.Post κs a r x → report.Post κs a s y → r ≡ s
-report-unique κs a r s x y p q = p.0 ∙ sym q.0
+report_unique κs a r s x y p q = p.0 ∙ sym q.0
 
-pub report-figures-unique : (κs : _) (a : _) (r s : _) (x y : _)
+pub report_figures_unique : (κs : _) (a : _) (r s : _) (x y : _)
     → report.Post κs a r x → report.Post κs a s y → x.1.1.0.now ≡ y.1.1.0.now
-report-figures-unique κs a r s x y p q = p.1 ∙ sym q.1
+report_figures_unique κs a r s x y p q = p.1 ∙ sym q.1
 
 pub left_unique : (κs : _) (a : _) (r s : _) (x y : _) → left.Post κs a r x → left.Post κs a s y → r ≡ s
 left_unique κs a r s x y p q = p ∙ sym q

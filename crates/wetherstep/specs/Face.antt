@@ -4,7 +4,7 @@
 --     packed n k m d c       the word with the number n, the reason k, the method m, the ledger d and the
 --                            count c
 --     word_of r               the word of a reply
---     figuresAfter r fs      the buffer for figures after the reply r, which held fs before
+--     figures_after r fs      the buffer for figures after the reply r, which held fs before
 --
 -- Laws: proofs/FaceLaws.antt. Definitions only.
 use Rattle.std.specs.Prelude.{ℕ, ◌+◌, ◌*◌, List, [], ◌∷◌, eqb, length}
@@ -23,5 +23,5 @@ word_of (reply n (i ∷ k ∷ [])) = packed n k 0 0 i
 word_of (reply n (a ∷ b ∷ c ∷ vs)) = packed n 0 0 0 0
 
 -- Six figures are written, and nothing else is.
-unfoldable pub figuresAfter : Reply → List ℕ → List ℕ
-figuresAfter (reply n vs) fs = choose (eqb (length vs) 6 also eqb n 0) vs fs
+unfoldable pub figures_after : Reply → List ℕ → List ℕ
+figures_after (reply n vs) fs = choose (eqb (length vs) 6 also eqb n 0) vs fs

@@ -1,10 +1,10 @@
 // The calls of the job for C: a reply is one word, and figures go to a buffer that the caller lends.
 // include/wetherstep.h declares them.
 ghost use Rattle.std.specs.Prelude.{◌≡◌};
-ghost use Rattle.job.specs.Reply.{figureValues, started, woken, reported, remaining};
-ghost use Rattle.job.specs.Wake.{freshReply, freshBytes, wakeReply, wakeBytes};
-ghost use Rattle.job.specs.Report.{reportReply, leftReply};
-ghost use Rattle.wetherstep.specs.Face.{packed, word_of, figuresAfter};
+ghost use Rattle.job.specs.Reply.{figure_values, started, woken, reported, remaining};
+ghost use Rattle.job.specs.Wake.{fresh_reply, fresh_bytes, wake_reply, wake_bytes};
+ghost use Rattle.job.specs.Report.{report_reply, left_reply};
+ghost use Rattle.wetherstep.specs.Face.{packed, word_of, figures_after};
 
 use job::reply::{Remaining, Reported, Started, Woken};
 use job::{reply, report, wake};
@@ -23,8 +23,8 @@ const RECORD_ASIDE: u8 = 41;
 
 #[unsafe(no_mangle)]
 pub extern "C" fn wetherstep_fresh(book: &[u8], out: &mut [u8]) -> u64
-    ensures word { result ≡ word_of (freshReply book.now out.old) }
-    ensures bytes { out.new ≡ freshBytes book.now out.old }
+    ensures word { result ≡ word_of (fresh_reply book.now out.old) }
+    ensures bytes { out.new ≡ fresh_bytes book.now out.old }
 {
     tell_start(wake::fresh(book, out))
 }
@@ -36,23 +36,23 @@ pub extern "C" fn wetherstep_wake(
     budget: u32,
     out: &mut [u8],
 ) -> u64
-    ensures word { result ≡ word_of (wakeReply book.now checkpoint.now budget out.old) }
-    ensures bytes { out.new ≡ wakeBytes book.now checkpoint.now budget out.old }
+    ensures word { result ≡ word_of (wake_reply book.now checkpoint.now budget out.old) }
+    ensures bytes { out.new ≡ wake_bytes book.now checkpoint.now budget out.old }
 {
     tell_wake(wake::wake(book, checkpoint, budget, out))
 }
 
 #[unsafe(no_mangle)]
 pub extern "C" fn wetherstep_report(book: &[u8], checkpoint: &[u8], figures: &mut [u64; 6]) -> u64
-    ensures word { result ≡ word_of (reportReply book.now checkpoint.now) }
-    ensures figures { figures.new ≡ figuresAfter (reportReply book.now checkpoint.now) figures.old }
+    ensures word { result ≡ word_of (report_reply book.now checkpoint.now) }
+    ensures figures { figures.new ≡ figures_after (report_reply book.now checkpoint.now) figures.old }
 {
     tell_report(report::report(book, checkpoint), figures)
 }
 
 #[unsafe(no_mangle)]
 pub extern "C" fn wetherstep_left(book: &[u8], checkpoint: &[u8]) -> u64
-    ensures word { result ≡ word_of (leftReply book.now checkpoint.now) }
+    ensures word { result ≡ word_of (left_reply book.now checkpoint.now) }
 {
     tell_left(report::count_left(book, checkpoint))
 }
@@ -77,7 +77,7 @@ fn tell_wake(w: Woken) -> u64
 
 fn tell_report(s: Reported, figures: &mut [u64; 6]) -> u64
     ensures word { result ≡ word_of (reported s) }
-    ensures figures { figures.new ≡ figuresAfter (reported s) figures.old }
+    ensures figures { figures.new ≡ figures_after (reported s) figures.old }
 {
     match s {
         Reported::NotReported(x) => pack(reply::number_refusal(x), 0, 0),
@@ -91,7 +91,7 @@ fn tell_report(s: Reported, figures: &mut [u64; 6]) -> u64
 }
 
 fn list(f: Figures) -> [u64; 6]
-    ensures values { result ≡ figureValues f }
+    ensures values { result ≡ figure_values f }
 {
     let mut must = 0;
     if f.reportable {

@@ -4,43 +4,43 @@ use mathlib.Core.List.{List}
 use mathlib.Core.Path.{◌≡◌, sym, ap, ◌∙◌}
 use Rattle.rules.specs.declared.entry.Entry.{Entry}
 use Rattle.rules.specs.declared.record.Outcome.TheVariants.{SetAside, Counted}
-use Rattle.rules.specs.Reader.{Sight, turnedAway, missing, shown}
+use Rattle.rules.specs.Reader.{Sight, turned_away, missing, shown}
 use Rattle.wetherstep.specs.Face.{packed}
-use Rattle.wetherstep_record.specs.Face.{noRecord, ledgerNumber, recordWord, massesOf, massesAfter}
+use Rattle.wetherstep_record.specs.Face.{no_record, ledger_number, record_word, masses_of, masses_after}
 
-module _ {x : Sight} {n : ℕ} (e : x ≡ turnedAway n) where
-  pub recordWord-refused : {w m : ℕ} → m ≡ n → w ≡ packed m 0 0 0 0 → w ≡ recordWord x
-  unfolding recordWord
-  recordWord-refused q p = p ∙ ap (λ (m : ℕ). packed m 0 0 0 0) q ∙ ap recordWord (sym e)
+module _ {x : Sight} {n : ℕ} (e : x ≡ turned_away n) where
+  pub record_word-refused : {w m : ℕ} → m ≡ n → w ≡ packed m 0 0 0 0 → w ≡ record_word x
+  unfolding record_word
+  record_word-refused q p = p ∙ ap (λ (m : ℕ). packed m 0 0 0 0) q ∙ ap record_word (sym e)
 
-  pub massesAfter-refused : (ms : List ℕ) → massesAfter x ms ≡ ms
-  unfolding massesAfter
-  massesAfter-refused ms = ap (λ (x : Sight). massesAfter x ms) e
+  pub masses_after-refused : (ms : List ℕ) → masses_after x ms ≡ ms
+  unfolding masses_after
+  masses_after-refused ms = ap (λ (x : Sight). masses_after x ms) e
 
 module _ {x : Sight} (e : x ≡ missing) where
-  pub recordWord-missing : {w : ℕ} → w ≡ packed 0 0 noRecord 0 0 → w ≡ recordWord x
-  unfolding recordWord
-  recordWord-missing p = p ∙ ap recordWord (sym e)
+  pub record_word-missing : {w : ℕ} → w ≡ packed 0 0 no_record 0 0 → w ≡ record_word x
+  unfolding record_word
+  record_word-missing p = p ∙ ap record_word (sym e)
 
-  pub massesAfter-missing : (ms : List ℕ) → massesAfter x ms ≡ ms
-  unfolding massesAfter
-  massesAfter-missing ms = ap (λ (x : Sight). massesAfter x ms) e
+  pub masses_after-missing : (ms : List ℕ) → masses_after x ms ≡ ms
+  unfolding masses_after
+  masses_after-missing ms = ap (λ (x : Sight). masses_after x ms) e
 
 module _ {x : Sight} {k : ℕ} (e : x ≡ shown (SetAside k)) where
-  pub recordWord-aside : {w : ℕ} → w ≡ packed 0 k 0 0 0 → w ≡ recordWord x
-  unfolding recordWord
-  recordWord-aside p = p ∙ ap recordWord (sym e)
+  pub record_word_aside : {w : ℕ} → w ≡ packed 0 k 0 0 0 → w ≡ record_word x
+  unfolding record_word
+  record_word_aside p = p ∙ ap record_word (sym e)
 
-  pub massesAfter-aside : (ms : List ℕ) → massesAfter x ms ≡ ms
-  unfolding massesAfter
-  massesAfter-aside ms = ap (λ (x : Sight). massesAfter x ms) e
+  pub masses_after_aside : (ms : List ℕ) → masses_after x ms ≡ ms
+  unfolding masses_after
+  masses_after_aside ms = ap (λ (x : Sight). masses_after x ms) e
 
 module _ {x : Sight} {f : Entry} (e : x ≡ shown (Counted f)) where
-  pub recordWord-counted : {w d : ℕ} → d ≡ ledgerNumber f.destination → w ≡ packed 0 0 f.method d 0
-      → w ≡ recordWord x
-  unfolding recordWord
-  recordWord-counted q p = p ∙ ap (λ (d : ℕ). packed 0 0 f.method d 0) q ∙ ap recordWord (sym e)
+  pub record_word-counted : {w d : ℕ} → d ≡ ledger_number f.destination → w ≡ packed 0 0 f.method d 0
+      → w ≡ record_word x
+  unfolding record_word
+  record_word-counted q p = p ∙ ap (λ (d : ℕ). packed 0 0 f.method d 0) q ∙ ap record_word (sym e)
 
-  pub massesAfter-counted : (ms : List ℕ) → massesAfter x ms ≡ massesOf f
-  unfolding massesAfter
-  massesAfter-counted ms = ap (λ (x : Sight). massesAfter x ms) e
+  pub masses_after-counted : (ms : List ℕ) → masses_after x ms ≡ masses_of f
+  unfolding masses_after
+  masses_after-counted ms = ap (λ (x : Sight). masses_after x ms) e

@@ -3,9 +3,9 @@
 use mathlib.Core.Path.{◌≡◌, sym, ◌∙◌}
 use Rattle.wetherstep_record.proofs.face.wetherstep_record.Reads as look
 
-pub record-unique : (κs : _) (a : _) (r s : _) (x y : _) → look.Post κs a r x → look.Post κs a s y → r ≡ s
-record-unique κs a r s x y p q = p.0 ∙ sym q.0
+pub record_unique : (κs : _) (a : _) (r s : _) (x y : _) → look.Post κs a r x → look.Post κs a s y → r ≡ s
+record_unique κs a r s x y p q = p.0 ∙ sym q.0
 
-pub record-masses-unique : (κs : _) (a : _) (r s : _) (x y : _)
+pub record_masses_unique : (κs : _) (a : _) (r s : _) (x y : _)
     → look.Post κs a r x → look.Post κs a s y → x.1.1.0.now ≡ y.1.1.0.now
-record-masses-unique κs a r s x y p q = p.1 ∙ sym q.1
+record_masses_unique κs a r s x y p q = p.1 ∙ sym q.1

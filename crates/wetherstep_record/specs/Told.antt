@@ -1,11 +1,11 @@
 -- What a C caller reads of a record, from a word and, where the record counts, from its masses. No
 -- contract cites these: they say that a caller loses nothing.
 --
---     toldMethod w, toldLedger w      two more fields of a word
---     toldCounts w           the word tells that the record counts
---     destinationTold d      the ledger with the number d
---     entryTold w ms         the entry that the word and the masses of such a record tell
---     recordTold w ms        what the word tells of the record, ms being the masses after it
+--     told_method w, told_ledger w      two more fields of a word
+--     told_counts w           the word tells that the record counts
+--     destination_told d      the ledger with the number d
+--     entry_told w ms         the entry that the word and the masses of such a record tell
+--     record_told w ms        what the word tells of the record, ms being the masses after it
 --
 -- Laws: proofs/ToldLaws.antt. Definitions only.
 use Rattle.std.specs.Prelude.{ℕ, ◌/◌, ◌%◌, Bool, List, eqb, ltb, get_or}
@@ -14,34 +14,34 @@ use Rattle.rules.specs.declared.entry.Destination.{Destination}
 use Rattle.rules.specs.declared.entry.Destination.TheVariants.{Fossil, Biomass, Nowhere}
 use Rattle.rules.specs.declared.entry.Entry.{Entry}
 use Rattle.rules.specs.declared.record.Outcome.TheVariants.{SetAside, Counted}
-use Rattle.rules.specs.Reader.{Sight, turnedAway, missing, shown}
-use Rattle.wetherstep.specs.Told.{toldNumber, toldReason}
-use Rattle.wetherstep_record.specs.Face.{noRecord}
+use Rattle.rules.specs.Reader.{Sight, turned_away, missing, shown}
+use Rattle.wetherstep.specs.Told.{told_number, told_reason}
+use Rattle.wetherstep_record.specs.Face.{no_record}
 
-unfoldable pub toldMethod : ℕ → ℕ
-toldMethod w = w / 65536 % 256
+unfoldable pub told_method : ℕ → ℕ
+told_method w = w / 65536 % 256
 
-unfoldable pub toldLedger : ℕ → ℕ
-toldLedger w = w / 16777216 % 256
+unfoldable pub told_ledger : ℕ → ℕ
+told_ledger w = w / 16777216 % 256
 
-unfoldable pub toldCounts : ℕ → Bool
-toldCounts w = eqb (toldNumber w) 0 also eqb (toldReason w) 0 also ltb (toldMethod w) noRecord
+unfoldable pub told_counts : ℕ → Bool
+told_counts w = eqb (told_number w) 0 also eqb (told_reason w) 0 also ltb (told_method w) no_record
 
-unfoldable pub destinationTold : ℕ → Destination
-destinationTold d = choose (eqb d 1) Fossil (choose (eqb d 2) Biomass Nowhere)
+unfoldable pub destination_told : ℕ → Destination
+destination_told d = choose (eqb d 1) Fossil (choose (eqb d 2) Biomass Nowhere)
 
-unfoldable pub entryTold : ℕ → List ℕ → Entry
-entryTold w ms = record {
-  method = toldMethod w;
-  destination = destinationTold (toldLedger w);
+unfoldable pub entry_told : ℕ → List ℕ → Entry
+entry_told w ms = record {
+  method = told_method w;
+  destination = destination_told (told_ledger w);
   co2 = record { 0 = get_or ms 0 0 };
   ch4 = record { 0 = get_or ms 1 0 };
   n2o = record { 0 = get_or ms 2 0 };
 }
 
-unfoldable pub recordTold : ℕ → List ℕ → Sight
-recordTold w ms =
-    choose (toldCounts w) (shown (Counted (entryTold w ms)))
-    (choose (ltb 0 (toldNumber w)) (turnedAway (toldNumber w))
-    (choose (ltb 0 (toldReason w)) (shown (SetAside (toldReason w)))
+unfoldable pub record_told : ℕ → List ℕ → Sight
+record_told w ms =
+    choose (told_counts w) (shown (Counted (entry_told w ms)))
+    (choose (ltb 0 (told_number w)) (turned_away (told_number w))
+    (choose (ltb 0 (told_reason w)) (shown (SetAside (told_reason w)))
     missing))

@@ -2,9 +2,9 @@
 // include/wetherstep.h declares it. It is a library of its own: beside a second caller the compiler no
 // longer puts the judging of a record into the loop of a wake.
 ghost use Rattle.std.specs.Prelude.{◌≡◌};
-ghost use Rattle.rules.specs.Reader.{shown, sightAt, sight};
+ghost use Rattle.rules.specs.Reader.{shown, sight_at, sight};
 ghost use Rattle.wetherstep.specs.Face.{packed};
-ghost use Rattle.wetherstep_record.specs.Face.{ledgerNumber, recordWord, massesOf, massesAfter};
+ghost use Rattle.wetherstep_record.specs.Face.{ledger_number, record_word, masses_of, masses_after};
 
 use rules::entry::{Destination, Entry};
 use rules::reader::Seen;
@@ -25,15 +25,15 @@ const NO_RECORD: u8 = 255;
 
 #[unsafe(no_mangle)]
 pub extern "C" fn wetherstep_record(book: &[u8], index: u32, masses: &mut [u64; 3]) -> u64
-    ensures word { result ≡ recordWord (sightAt book.now index) }
-    ensures masses { masses.new ≡ massesAfter (sightAt book.now index) masses.old }
+    ensures word { result ≡ record_word (sight_at book.now index) }
+    ensures masses { masses.new ≡ masses_after (sight_at book.now index) masses.old }
 {
     tell_record(reader::look(book, index as usize), masses)
 }
 
 fn tell_record(x: Seen, masses: &mut [u64; 3]) -> u64
-    ensures word { result ≡ recordWord (sight x) }
-    ensures masses { masses.new ≡ massesAfter (sight x) masses.old }
+    ensures word { result ≡ record_word (sight x) }
+    ensures masses { masses.new ≡ masses_after (sight x) masses.old }
 {
     match x {
         Seen::Refused(fault) => pack(book::number_fault(fault), 0, 0, 0),
@@ -43,8 +43,8 @@ fn tell_record(x: Seen, masses: &mut [u64; 3]) -> u64
 }
 
 fn tell_outcome(o: Outcome, masses: &mut [u64; 3]) -> u64
-    ensures word { result ≡ recordWord (shown o) }
-    ensures masses { masses.new ≡ massesAfter (shown o) masses.old }
+    ensures word { result ≡ record_word (shown o) }
+    ensures masses { masses.new ≡ masses_after (shown o) masses.old }
 {
     match o {
         Outcome::SetAside(reason) => pack(ACCEPTED, reason, 0, 0),
@@ -53,8 +53,8 @@ fn tell_outcome(o: Outcome, masses: &mut [u64; 3]) -> u64
 }
 
 fn tell_counted(e: Entry, masses: &mut [u64; 3]) -> u64
-    ensures word { result ≡ recordWord (shown (Outcome.Counted e)) }
-    ensures masses { masses.new ≡ massesOf e }
+    ensures word { result ≡ record_word (shown (Outcome.Counted e)) }
+    ensures masses { masses.new ≡ masses_of e }
 {
     let destination = e.destination;
     *masses = [e.co2.0, e.ch4.0, e.n2o.0];
@@ -62,7 +62,7 @@ fn tell_counted(e: Entry, masses: &mut [u64; 3]) -> u64
 }
 
 fn number_ledger(d: Destination) -> u8
-    ensures number { result ≡ ledgerNumber d }
+    ensures number { result ≡ ledger_number d }
 {
     match d {
         Destination::Fossil => 1,

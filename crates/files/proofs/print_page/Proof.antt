@@ -1,7 +1,7 @@
 -- The refusal is asked of the bytes that are printed. Assumes nothing.
 use mathlib.Core.Path.{sym, ap, ◌∙◌}
 use borrow.Author.Rules.{rules}
-use Rattle.text.specs.Refusal.{hasRefusal}
+use Rattle.text.specs.Refusal.{has_refusal}
 use Rattle.files.proofs.print_page.Statement.{statement}
 use Rattle.files.proofs.print_page.Tie as tie
 
@@ -23,12 +23,12 @@ is-told-requires c κs = search rules
 returns-2 : tie.Need-returns-2
 returns-2 c =
     let printed = c.before.before.before.before.take-front.ensures in
-    ap hasRefusal (sym printed) ∙ sym c.before.is-told.ensures ∙ c.if2.true
+    ap has_refusal (sym printed) ∙ sym c.before.is-told.ensures ∙ c.if2.true
 
 returns-3 : tie.Need-returns-3
 returns-3 c =
     let printed = c.before.before.before.before.take-front.ensures in
-    ap hasRefusal (sym printed) ∙ sym c.before.is-told.ensures ∙ c.if2.false
+    ap has_refusal (sym printed) ∙ sym c.before.is-told.ensures ∙ c.if2.false
 
 pub print-page-spec : {M : Type 1} → statement M
 print-page-spec =

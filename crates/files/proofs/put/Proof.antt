@@ -2,14 +2,14 @@
 use native.Mathlib.Omega.{arith}
 use borrow.Author.Rules.{rules}
 use Rattle.io.proofs.Counting.{prefix_len_of_le}
-use Rattle.files.proofs.PutLaws.{putEnd-le, put-past, fitting-le, put-copied}
+use Rattle.files.proofs.PutLaws.{put_end-le, put_past, fitting_le, put_copied}
 use Rattle.files.proofs.put.Statement.{statement}
 use Rattle.files.proofs.put.Tie as tie
 
 returns : tie.Need-returns
 returns c =
     let a = c.before.before.before.args in
-    (prefix_len_of_le _ _ (omega arith), put-past a.n a.dst.now a.src.now c.if1.true)
+    (prefix_len_of_le _ _ (omega arith), put_past a.n a.dst.now a.src.now c.if1.true)
 
 take-front-requires : tie.Need-take-front-requires
 take-front-requires c κs = search rules
@@ -26,7 +26,7 @@ part-copy-end c = search rules
 copy-requires : tie.Need-copy-requires
 copy-requires c κs =
     let a = c.before.before.before.before.before.args in
-    fitting-le a.n a.dst.now a.src.now c.before.before.if1.false c.before.take-front.ensures
+    fitting_le a.n a.dst.now a.src.now c.before.before.if1.false c.before.take-front.ensures
 
 add-result : tie.Need-overflow-add-result
 add-result c = search rules
@@ -39,9 +39,9 @@ returns-2 c =
     let copy = c.before.before in
     let cut = copy.before.before in
     let a = cut.before.before.before.before.args in
-    let behind = put-copied a.n a.dst.now a.src.now cut.before.if1.false in
+    let behind = put_copied a.n a.dst.now a.src.now cut.before.if1.false in
     let put = behind cut.take-front.ensures copy.copy.ensures.0 copy.copy.ensures.1 in
-    let within = putEnd-le a.n a.dst.now a.src.now in
+    let within = put_end-le a.n a.dst.now a.src.now in
     (prefix_len_of_le _ _ (omega (arith, put.0, within, c.before.dst.given.1)), put)
 
 pub put_spec : {M : Type 1} → statement M

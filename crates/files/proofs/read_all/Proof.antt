@@ -8,8 +8,8 @@ use borrow.Author.Rules.{rules}
 use borrow.Rule.Slice.PartMut.{put_mid}
 use Rattle.io.proofs.Counting.{prefix_len_of_le}
 use Rattle.files.specs.declared.Got.TheVariants.{Bytes}
-use Rattle.files.proofs.GotLaws.{counts-of-within}
-use Rattle.files.proofs.PartLaws.{within-part}
+use Rattle.files.proofs.GotLaws.{counts_of_within}
+use Rattle.files.proofs.PartLaws.{within_part}
 use Rattle.files.proofs.read_all.Statement.{statement}
 use Rattle.files.proofs.read_all.Tie as tie
 
@@ -51,8 +51,8 @@ whole c = kept c ∙ c.before.before.before.before.loop.invariant.1
 -- So many bytes more are still within the buffer.
 more : (c : Read) (m : ℕ) → c.before.read_Some.result ≡ Bytes m → place c + m ≤ length (bytes c)
 more c m e =
-    let few = counts-of-within (part c) c.before.read_Some.ensures e in
-    within-part (place c) m (bytes c) (part c) (held c) few.0 c.buf.given.0
+    let few = counts_of_within (part c) c.before.read_Some.ensures e in
+    within_part (place c) m (bytes c) (part c) (held c) few.0 c.buf.given.0
 
 loop-holds : tie.Need-loop-init invariant-loop decreases-loop
 loop-holds c = (omega arith, refl)

@@ -3,7 +3,7 @@ use Prim.Native.Nat.{ℕ, ◌+◌}
 use mathlib.Core.Path.{sym}
 use lib.ListN.{length-replicate}
 use borrow.Author.Rules.{rules}
-use Rattle.rules.specs.Book.{longestBook}
+use Rattle.rules.specs.Book.{longest_book}
 use Rattle.lines.proofs.run.Statement.{statement}
 use Rattle.lines.proofs.run.Tie as tie
 
@@ -20,7 +20,7 @@ returns : tie.Need-returns
 returns c = search rules
 
 slice-aggregate-print-book : tie.Need-slice-aggregate-print-book
-slice-aggregate-print-book c = sym (length-replicate {A = ℕ} (longestBook + 1) 0)
+slice-aggregate-print-book c = sym (length-replicate {A = ℕ} (longest_book + 1) 0)
 
 print-book-requires : tie.Need-print-book-requires
 print-book-requires c κs = search rules

@@ -1,7 +1,7 @@
 -- Each case is a line of the definition. Assumes nothing.
 use mathlib.Core.Path.{refl}
 use borrow.Author.Rules.{rules}
-use Rattle.files.specs.Ended.{isDone}
+use Rattle.files.specs.Ended.{is_done}
 use Rattle.files.proofs.ended.is_done.Statement.{statement}
 use Rattle.files.proofs.ended.is_done.Tie as tie
 
@@ -18,19 +18,19 @@ enum-told-4 : tie.Need-enum-told-4
 enum-told-4 c = search rules
 
 returns : tie.Need-returns
-unfolding isDone
+unfolding is_done
 returns c = rw c.enum_told.given.1 refl
 
 returns-2 : tie.Need-returns-2
-unfolding isDone
+unfolding is_done
 returns-2 c = rw c.enum-told2.given.1 refl
 
 returns-3 : tie.Need-returns-3
-unfolding isDone
+unfolding is_done
 returns-3 c = rw c.enum-told3.given.1 refl
 
 returns-4 : tie.Need-returns-4
-unfolding isDone
+unfolding is_done
 returns-4 c = rw c.enum-told4.given.1 refl
 
 pub is-done-spec : {M : Type 1} → statement M

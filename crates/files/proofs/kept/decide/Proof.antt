@@ -2,7 +2,7 @@
 -- nothing.
 use mathlib.Core.Path.{refl}
 use borrow.Author.Rules.{rules}
-use Rattle.files.specs.Guard.{dueOf}
+use Rattle.files.specs.Guard.{due_of}
 use Rattle.files.proofs.kept.decide.Statement.{statement}
 use Rattle.files.proofs.kept.decide.Tie as tie
 
@@ -16,30 +16,30 @@ enum-told-3 : tie.Need-enum-told-3
 enum-told-3 c = search rules
 
 returns : tie.Need-returns
-unfolding dueOf
+unfolding due_of
 returns c = rw (c.before.enum-told3.given.1, c.if1.true) refl
 
 enum-told-4 : tie.Need-enum-told-4
 enum-told-4 c = search rules
 
 returns-2 : tie.Need-returns-2
-unfolding dueOf
+unfolding due_of
 returns-2 c = rw (c.before.enum-told4.given.1, c.if2.true) refl
 
 returns-3 : tie.Need-returns-3
-unfolding dueOf
+unfolding due_of
 returns-3 c = rw c.enum_told.given.1 refl
 
 returns-4 : tie.Need-returns-4
-unfolding dueOf
+unfolding due_of
 returns-4 c = rw c.enum-told2.given.1 refl
 
 returns-5 : tie.Need-returns-5
-unfolding dueOf
+unfolding due_of
 returns-5 c = rw (c.before.enum-told3.given.1, c.if1.false) refl
 
 returns-6 : tie.Need-returns-6
-unfolding dueOf
+unfolding due_of
 returns-6 c = rw (c.before.enum-told4.given.1, c.if2.false) refl
 
 pub decide-spec : {M : Type 1} → statement M

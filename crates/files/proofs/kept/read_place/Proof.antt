@@ -1,7 +1,7 @@
 -- A read's count lies within, and so does a start's; only a start refuses. Assumes nothing.
 use borrow.Author.Rules.{rules}
-use Rattle.files.proofs.GotLaws.{counts-of-within}
-use Rattle.files.proofs.KeptLaws.{found-anew}
+use Rattle.files.proofs.GotLaws.{counts_of_within}
+use Rattle.files.proofs.KeptLaws.{found_anew}
 use Rattle.files.proofs.kept.read_place.Statement.{statement}
 use Rattle.files.proofs.kept.read_place.Tie as tie
 
@@ -28,7 +28,7 @@ same-length-2 c = search rules
 
 returns-2 : tie.Need-returns-2
 returns-2 c =
-    counts-of-within _ c.before.before.before.before.before.read-open.ensures c.before.n.given.1
+    counts_of_within _ c.before.before.before.before.before.read-open.ensures c.before.n.given.1
 
 errno-requires : tie.Need-errno-requires
 errno-requires c κs = search rules
@@ -42,7 +42,7 @@ same-length-3 c = search rules
 returns-3 : tie.Need-returns-3
 returns-3 c =
     let start = c.before.before.start-anew in
-    found-anew _ _ start.result start.ensures.0 start.ensures.1 c.before.room2.given
+    found_anew _ _ start.result start.ensures.0 start.ensures.1 c.before.room2.given
 
 fail-requires : tie.Need-fail-requires
 fail-requires c κs = search rules

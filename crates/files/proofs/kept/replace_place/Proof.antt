@@ -1,6 +1,6 @@
 -- A fresh start is taken over, and nothing else stands there but a failure. Assumes nothing.
 use borrow.Author.Rules.{rules}
-use Rattle.files.proofs.KeptLaws.{begun-anew}
+use Rattle.files.proofs.KeptLaws.{begun_anew}
 use Rattle.files.proofs.kept.replace_place.Statement.{statement}
 use Rattle.files.proofs.kept.replace_place.Tie as tie
 
@@ -16,7 +16,7 @@ same_length c = search rules
 returns : tie.Need-returns
 returns c =
     let start = c.before.before.start-anew in
-    begun-anew _ _ start.result start.ensures.0 start.ensures.1
+    begun_anew _ _ start.result start.ensures.0 start.ensures.1
 
 returns-2 : tie.Need-returns-2
 returns-2 c = search rules

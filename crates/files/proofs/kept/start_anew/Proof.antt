@@ -6,9 +6,9 @@ use mathlib.Core.Path.{sym, ap, ◌∙◌}
 use lib.ListN.{drop}
 use lib.Seq.{length-take-le}
 use borrow.Author.Rules.{rules}
-use Rattle.job.specs.Checkpoint.{checkpointSize}
-use Rattle.files.specs.Kept.{replied, anewReply, anewBytes}
-use Rattle.files.proofs.KeptLaws.{anewReply-short, anewBytes-short}
+use Rattle.job.specs.Checkpoint.{checkpoint_size}
+use Rattle.files.specs.Kept.{replied, anew_reply, anew_bytes}
+use Rattle.files.proofs.KeptLaws.{anew_reply_short, anew_bytes_short}
 use Rattle.files.proofs.kept.start_anew.Statement.{statement}
 use Rattle.files.proofs.kept.start_anew.Tie as tie
 
@@ -23,8 +23,8 @@ returns c =
     let a = c.before.before.before.before.before.before.before.args in
     let short = c.before.before.before.before.if1.true in
     let begun = c.before.before.begin.ensures in (
-      begun.0 ∙ ap replied (anewReply-short a.book.now a.room.now short),
-      begun.1 ∙ anewBytes-short a.book.now a.room.now short,
+      begun.0 ∙ ap replied (anew_reply_short a.book.now a.room.now short),
+      begun.1 ∙ anew_bytes_short a.book.now a.room.now short,
     )
 
 slice-relend-prefix-begin : tie.Need-slice-relend-prefix-begin
@@ -33,7 +33,7 @@ slice-relend-prefix-begin c = search rules
 slice-aggregate-begin : tie.Need-slice-aggregate-begin
 slice-aggregate-begin c =
     let room = c.before.before.before.before.args.room.now in
-    sym (length-take-le checkpointSize room c.before.if1.false)
+    sym (length-take-le checkpoint_size room c.before.if1.false)
 
 begin-requires-2 : tie.Need-begin-requires-2
 begin-requires-2 c κs = search rules
@@ -42,11 +42,11 @@ same-length-2 : tie.Need-same-length-2
 same-length-2 c = search rules
 
 returns-2 : tie.Need-returns-2
-unfolding anewReply anewBytes
+unfolding anew_reply anew_bytes
 returns-2 c =
     let room = c.before.before.before.before.before.before.before.args.room.now in
     let begun = c.before.before.begin2.ensures in
-    (begun.0, ap (λ (xs : List ℕ). xs ++ drop checkpointSize room) begun.1)
+    (begun.0, ap (λ (xs : List ℕ). xs ++ drop checkpoint_size room) begun.1)
 
 pub start-anew-spec : {M : Type 1} → statement M
 start-anew-spec =

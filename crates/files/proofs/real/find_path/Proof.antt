@@ -11,9 +11,9 @@ use borrow.Author.Rules.{rules}
 use Rattle.files.proofs.real.find_path.Statement.{statement}
 use Rattle.files.proofs.real.find_path.Tie as tie
 
-not-below : (z : ℤ) → lt_z z (pos 0) ≡ false → T (non_neg z)
-not-below (pos n) e = tt
-not-below (negsuc n) e = absurd (subst T e tt)
+not_below : (z : ℤ) → lt_z z (pos 0) ≡ false → T (non_neg z)
+not_below (pos n) e = tt
+not_below (negsuc n) e = absurd (subst T e tt)
 
 returns : tie.Need-returns
 returns c = search rules
@@ -21,7 +21,7 @@ returns c = search rules
 cast-decimal : tie.Need-overflow-cast-decimal
 cast-decimal c =
     let fd = c.before.before.args.fd in
-    (not-below (to_z w32 (of_z w32 fd)) c.if1.false, Fits-nat_abs {w = w32} {w' = w64} tt (sfits_to_z (Fits-of_z c.before.before.ranges.fd)))
+    (not_below (to_z w32 (of_z w32 fd)) c.if1.false, Fits-nat_abs {w = w32} {w' = w64} tt (sfits_to_z (Fits-of_z c.before.before.ranges.fd)))
 
 decimal-requires : tie.Need-decimal-requires
 decimal-requires c κs = search rules

@@ -6,12 +6,12 @@ use native.Mathlib.Omega.{arith}
 use borrow.Author.Rules.{rules}
 use Rattle.choice.proofs.TestsLaws.{both}
 use Rattle.job.specs.State.{ledgers}
-use Rattle.job.specs.Checkpoint.{ledgerSound, every}
+use Rattle.job.specs.Checkpoint.{ledger_sound, every}
 use Rattle.job.proofs.checkpoint.are_ledgers_sound.Statement.{statement}
 use Rattle.job.proofs.checkpoint.are_ledgers_sound.Tie as tie
 
 abbrev invariant-loop : tie.invariant-loop
-invariant-loop c all₀ k₀ all k = (k ≤ ledgers) × (all ≡ every (ledgerSound c) k)
+invariant-loop c all₀ k₀ all k = (k ≤ ledgers) × (all ≡ every (ledger_sound c) k)
 
 abbrev decreases-loop : tie.decreases-loop
 decreases-loop c all₀ k₀ all k = ledgers - k

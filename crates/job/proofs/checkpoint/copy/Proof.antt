@@ -5,7 +5,7 @@ use native.Mathlib.Omega.{arith}
 use lib.ListN.{length, length-set}
 use lib.Seq.{paste, paste-zero}
 use borrow.Author.Rules.{rules}
-use Rattle.job.proofs.PutLaws.{copy-next, copy-all}
+use Rattle.job.proofs.PutLaws.{copy_next, copy-all}
 use Rattle.job.proofs.checkpoint.copy.Statement.{statement}
 use Rattle.job.proofs.checkpoint.copy.Tie as tie
 
@@ -22,7 +22,7 @@ loop-again : tie.Need-loop-preserved invariant-loop decreases-loop
 loop-again c =
     let turn = c.before.before in
     let a = turn.before.args in
-    (search rules, copy-next a.out.now a.from.now turn.loop.i (search rules) (search rules) turn.loop.invariant.1, rw length-set turn.loop.invariant.2)
+    (search rules, copy_next a.out.now a.from.now turn.loop.i (search rules) (search rules) turn.loop.invariant.1, rw length-set turn.loop.invariant.2)
 
 same_length : tie.Need-same-length invariant-loop decreases-loop
 same_length c = c.before.loop.invariant.2

@@ -8,15 +8,15 @@ use lib.Dec.{eqb, ltb, leb}
 use borrow.Author.Rules.{rules}
 use borrow.Author.Tests.{ne_eqb, lt-leb}
 use Rattle.choice.specs.Tests.{◌also◌}
-use Rattle.choice.proofs.TestsLaws.{both, also-assoc, also-fail, choose-t, choose-f, eq_of, ne_of}
-use Rattle.rules.specs.Record.{lastReason}
+use Rattle.choice.proofs.TestsLaws.{both, also_assoc, also_fail, choose_t, choose_f, eq_of, ne_of}
+use Rattle.rules.specs.Record.{last_reason}
 use Rattle.rules.proofs.BytesLaws.{word_wide}
-use Rattle.job.specs.Checkpoint.{indexIn, doneIn, gapIn, firstSound}
+use Rattle.job.specs.Checkpoint.{index_in, done_in, gap_in, first_sound}
 use Rattle.job.proofs.checkpoint.is_first_sound.Statement.{statement}
 use Rattle.job.proofs.checkpoint.is_first_sound.Tie as tie
 
 returns : tie.Need-returns
-unfolding firstSound
+unfolding first_sound
 returns c =
     let k = c.before.before.before.before.before.args.c.now in
     let aside = c.before.read-word3.ensures.0 in
@@ -24,22 +24,22 @@ returns c =
     let index = c.before.before.before.read_word.ensures.0 in
     let wide = word_wide (λ (x : ℕ). eqb x 0) k 12 1 13 3 4 refl refl (λ x past. ne_eqb x 0 (λ e. omega arith)) in
     both (λ i. eqb (index i) 0) ((λ i. eqb (reason i) 0) ∙ wide)
-    ∙ also-assoc _ _ _
-    ∙ ap (λ (b : Bool). b also gapIn k) (sym (choose-t _ (eq_of aside c.if1.true) refl))
+    ∙ also_assoc _ _ _
+    ∙ ap (λ (b : Bool). b also gap_in k) (sym (choose_t _ (eq_of aside c.if1.true) refl))
 
 returns-2 : tie.Need-returns-2
-unfolding firstSound
+unfolding first_sound
 returns-2 c =
     let k = c.before.before.before.before.before.before.args.c.now in
     let done = c.read-word4.ensures.0 in
     let aside = c.before.before.read-word3.ensures.0 in
     let reason = c.before.before.before.read-word2.ensures.0 in
     let index = c.before.before.before.before.read_word.ensures.0 in
-    let named : ℕ → Bool = λ x. ltb (indexIn k) (doneIn k) also leb 1 x also leb x lastReason in
-    let wide = word_wide named k 12 1 13 3 4 refl refl (λ x past. also-fail _ (lt-leb x lastReason (omega arith))) in
-    both (both (λ i. ltb (index i) (done i)) (λ i. leb 1 (reason i))) (λ i. leb (reason i) lastReason)
+    let named : ℕ → Bool = λ x. ltb (index_in k) (done_in k) also leb 1 x also leb x last_reason in
+    let wide = word_wide named k 12 1 13 3 4 refl refl (λ x past. also_fail _ (lt-leb x last_reason (omega arith))) in
+    both (both (λ i. ltb (index i) (done i)) (λ i. leb 1 (reason i))) (λ i. leb (reason i) last_reason)
     ∙ wide
-    ∙ ap (λ (b : Bool). b also gapIn k) (sym (choose-f _ (ne_of aside c.before.if1.false) refl))
+    ∙ ap (λ (b : Bool). b also gap_in k) (sym (choose_f _ (ne_of aside c.before.if1.false) refl))
 
 pub is-first-sound-spec : {M : Type 1} → statement M
 is-first-sound-spec =

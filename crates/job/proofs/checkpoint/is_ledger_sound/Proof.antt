@@ -3,17 +3,17 @@ use Prim.Native.Nat.{◌*◌}
 use lib.Dec.{ltb, leb}
 use borrow.Author.Rules.{rules}
 use Rattle.choice.proofs.TestsLaws.{both}
-use Rattle.mass.specs.Ledger.{tonne, tonnesEach}
-use Rattle.job.specs.Checkpoint.{ledgerSound}
+use Rattle.mass.specs.Ledger.{tonne, tonnes_each}
+use Rattle.job.specs.Checkpoint.{ledger_sound}
 use Rattle.job.proofs.checkpoint.is_ledger_sound.Statement.{statement}
 use Rattle.job.proofs.checkpoint.is_ledger_sound.Tie as tie
 
 returns : tie.Need-returns
-unfolding ledgerSound
+unfolding ledger_sound
 returns c =
     let done = c.before.read_word.ensures.0 in
     let ledger = c.before.before.read-ledger.ensures in
-    both (λ i. ltb (ledger i).rest.0 tonne) (λ i. leb (ledger i).tonnes (tonnesEach * done i))
+    both (λ i. ltb (ledger i).rest.0 tonne) (λ i. leb (ledger i).tonnes (tonnes_each * done i))
 
 pub is-ledger-sound-spec : {M : Type 1} → statement M
 is-ledger-sound-spec =

@@ -4,8 +4,8 @@ use mathlib.Core.Path.{◌≡◌, ap, ◌∙◌}
 use lib.Dec.{eqb, leb}
 use borrow.Author.Rules.{rules}
 use Rattle.choice.specs.Tests.{◌also◌}
-use Rattle.choice.proofs.TestsLaws.{both, also-assoc, also-swap}
-use Rattle.job.specs.Checkpoint.{doneIn, asideIn, gapIn, blankIn, firstSound, ledgerSound, every, sound}
+use Rattle.choice.proofs.TestsLaws.{both, also_assoc, also_swap}
+use Rattle.job.specs.Checkpoint.{done_in, aside_in, gap_in, blank_in, first_sound, ledger_sound, every, sound}
 use Rattle.job.specs.State.{ledgers}
 use Rattle.job.proofs.checkpoint.is_sound.Statement.{statement}
 use Rattle.job.proofs.checkpoint.is_sound.Tie as tie
@@ -13,7 +13,7 @@ use Rattle.job.proofs.checkpoint.is_sound.Tie as tie
 -- The gap is tested with the first record set aside, and named behind the ledgers.
 gap-last : (place first masses gap : Bool) → (place also (first also gap) also masses) ≡ (place also first also masses also gap)
 gap-last place first masses gap =
-    ap (λ (b : Bool). b also masses) (also-assoc place first gap) ∙ also-swap (place also first) gap masses
+    ap (λ (b : Bool). b also masses) (also_assoc place first gap) ∙ also_swap (place also first) gap masses
 
 returns : tie.Need-returns
 unfolding sound
@@ -34,9 +34,9 @@ returns c =
     let aside-read = aside.read-word4.ensures.0 in
     let head = both (λ i. eqb (length-read i) h.length) (λ i. eqb (year-read i) h.year) in
     let in-book = both head (λ i. leb (done-read i) h.n) in
-    let place = both {b' = leb (asideIn k) (doneIn k)} in-book (λ i. leb (aside-read i) (done-read i)) in
+    let place = both {b' = leb (aside_in k) (done_in k)} in-book (λ i. leb (aside-read i) (done-read i)) in
     both (both (both place first.is-first-sound.ensures) masses.are-ledgers-sound.ensures) blank.are-zero.ensures
-    ∙ ap (λ (b : Bool). b also blankIn k) (gap-last _ (firstSound k) (every (ledgerSound k) ledgers) (gapIn k))
+    ∙ ap (λ (b : Bool). b also blank_in k) (gap-last _ (first_sound k) (every (ledger_sound k) ledgers) (gap_in k))
 
 pub is-sound-spec : {M : Type 1} → statement M
 is-sound-spec =

@@ -7,10 +7,10 @@ use lib.Dec.{lit<}
 use lib.ListN.{length}
 use borrow.Author.Rules.{rules}
 use Rattle.rules.specs.Bytes.{bytes_of}
-use Rattle.job.specs.Checkpoint.{checkpointSize, front, laid, encode}
-use Rattle.job.specs.Words.{countsAt, massesOn, stateOn}
-use Rattle.job.proofs.PutLaws.{wrote_none, wrote-more, wrote-two, wrote-gap, append-blank, wrote-all}
-use Rattle.job.proofs.LaidLaws.{length-massesOn, wrote-ledgers}
+use Rattle.job.specs.Checkpoint.{checkpoint_size, front, laid, encode}
+use Rattle.job.specs.Words.{counts_at, masses_on, state_on}
+use Rattle.job.proofs.PutLaws.{wrote_none, wrote_more, wrote_two, wrote_gap, append-blank, wrote_all}
+use Rattle.job.proofs.LaidLaws.{length-masses_on, wrote_ledgers}
 use Rattle.job.proofs.checkpoint.write.Statement.{statement}
 use Rattle.job.proofs.checkpoint.write.Tie as tie
 
@@ -28,10 +28,10 @@ abbrev behind : tie.After-join3 → tie.After-write-ledgers
 behind c = c.before.before.before.before.before.before
 
 -- The buffer keeps its length.
-full : (c : tie.After-write-ledgers-arg) → length (index c).put2.new.0 ≡ checkpointSize
+full : (c : tie.After-write-ledgers-arg) → length (index c).put2.new.0 ≡ checkpoint_size
 full c = (index c).put2.auto.0 ∙ (done c).put.auto.0 ∙ (start c).requires.0.2
 
-full-behind : (c : tie.After-write-ledgers) → length c.write-ledgers.new.1.1.0 ≡ checkpointSize
+full-behind : (c : tie.After-write-ledgers) → length c.write-ledgers.new.1.1.0 ≡ checkpoint_size
 full-behind c = c.write-ledgers.auto.1.1.0 ∙ full c.before
 
 write-ledgers-requires : tie.Need-write-ledgers-requires
@@ -59,7 +59,7 @@ same_length c =
     blank.put4.auto.0 ∙ year.put3.auto.0 ∙ full-behind ledgers ∙ sym (start ledgers.before).requires.0.2
 
 returns : tie.Need-returns
-unfolding encode stateOn
+unfolding encode state_on
 returns c =
     let blank = c.before.before in
     let year = blank.before.before.before.before in
@@ -68,16 +68,16 @@ returns c =
     let a = (start first).args in
     let p = (start first).pre in
     let h = a.h in
-    let before = laid (front (countsAt a.place a.aside.now)) (massesOn a.from.now a.w.now) in
+    let before = laid (front (counts_at a.place a.aside.now)) (masses_on a.from.now a.w.now) in
     let to-0 = wrote_none a.out.now in
     let counts = (done first).before.join.ensures in
-    let to-8 = wrote-two to-0 4 4 _ _ counts.1 counts.0 (done first).put.ensures in
+    let to-8 = wrote_two to-0 4 4 _ _ counts.1 counts.0 (done first).put.ensures in
     let aside = (index first).before.join2.ensures in
-    let to-16 = wrote-gap to-8 4 1 3 _ _ aside.1 p.1.0.2 aside.0 (index first).put2.ensures in
-    let to-80 = wrote-ledgers _ (length-massesOn a.from.now a.w.now) to-16 ledgers.write-ledgers.ensures in
+    let to-16 = wrote_gap to-8 4 1 3 _ _ aside.1 p.1.0.2 aside.0 (index first).put2.ensures in
+    let to-80 = wrote_ledgers _ (length-masses_on a.from.now a.w.now) to-16 ledgers.write-ledgers.ensures in
     let told = year.before.join3.ensures in
-    let to-88 = wrote-gap to-80 4 2 2 h.length h.year p.1.0.0 p.1.0.1 told.0 year.put3.ensures in
-    wrote-all (wrote-more to-88 8 refl blank.put4.ensures) p.0.2
+    let to-88 = wrote_gap to-80 4 2 2 h.length h.year p.1.0.0 p.1.0.1 told.0 year.put3.ensures in
+    wrote_all (wrote_more to-88 8 refl blank.put4.ensures) p.0.2
     ∙ sym (append-blank (before ++ bytes_of 4 h.length ++ bytes_of 2 h.year) 2 8 0 (lit< tt))
 
 pub write_spec : {M : Type 1} → statement M

@@ -6,18 +6,18 @@ use native.Mathlib.Omega.{arith}
 use lib.ListN.{length}
 use borrow.Author.Rules.{rules}
 use Rattle.mass.specs.declared.ledger.Ledger.{Ledger}
-use Rattle.mass.specs.Ledger.{total, ledgerOf}
-use Rattle.mass.proofs.LedgerLaws.{total-parts}
+use Rattle.mass.specs.Ledger.{total, ledger_of}
+use Rattle.mass.proofs.LedgerLaws.{total_parts}
 use Rattle.job.specs.State.{ledgers}
-use Rattle.job.specs.Checkpoint.{massIn}
-use Rattle.job.specs.Words.{massAt, massesOn}
+use Rattle.job.specs.Checkpoint.{mass_in}
+use Rattle.job.specs.Words.{mass_at, masses_on}
 use Rattle.job.proofs.LaidLaws.{Laid, laid_none, laid_next}
 use Rattle.job.proofs.checkpoint.write_ledgers.Statement.{statement}
 use Rattle.job.proofs.checkpoint.write_ledgers.Tie as tie
 
 abbrev invariant-loop : tie.invariant-loop
 invariant-loop from w out₀ k₀ out k =
-    (k ≤ ledgers) × (length out ≡ length out₀) × Laid out₀ out (λ i. massIn from i + massAt w i) k
+    (k ≤ ledgers) × (length out ≡ length out₀) × Laid out₀ out (λ i. mass_in from i + mass_at w i) k
 
 abbrev decreases-loop : tie.decreases-loop
 decreases-loop from w out₀ k₀ out k = ledgers - k
@@ -34,8 +34,8 @@ read-ledger-requires c κs = ((start c.before.before).pre.0.0, c.before.loop-tes
 -- The ledger that was read stands for what the checkpoint says.
 total-read : (c : tie.After-read-ledger invariant-loop decreases-loop) →
     let turn = c.before.before in
-    total c.read-ledger.result ≡ massIn (start turn.before).args.from.now turn.before.loop.k
-total-read c = ap total c.read-ledger.ensures ∙ total-parts _
+    total c.read-ledger.result ≡ mass_in (start turn.before).args.from.now turn.before.loop.k
+total-read c = ap total c.read-ledger.ensures ∙ total_parts _
 
 gather-requires : tie.Need-gather-requires invariant-loop decreases-loop
 gather-requires c κs =
@@ -61,10 +61,10 @@ loop-again c =
     let found = read.before in
     let loop = found.before.before.loop in
     let a = (start found.before.before).args in
-    let ledger = gathered.gather.ensures ∙ ap (λ (m : ℕ). ledgerOf (m + massAt a.w.now loop.k)) (total-read read) in (
+    let ledger = gathered.gather.ensures ∙ ap (λ (m : ℕ). ledger_of (m + mass_at a.w.now loop.k)) (total-read read) in (
       search rules,
       search rules,
-      rw add-one (laid_next (λ i. massIn a.from.now i + massAt a.w.now i) loop.k loop.invariant.2
+      rw add-one (laid_next (λ i. mass_in a.from.now i + mass_at a.w.now i) loop.k loop.invariant.2
           found.find-ledger.ensures ledger tonnes.put.ensures rest.put2.ensures),
     )
 
@@ -72,7 +72,7 @@ same_length : tie.Need-same-length invariant-loop decreases-loop
 same_length c = c.before.loop.invariant.1
 
 returns : tie.Need-returns invariant-loop decreases-loop
-unfolding massesOn
+unfolding masses_on
 returns c =
     let loop = c.before.loop in
     let all : loop.k ≡ ledgers = omega arith in

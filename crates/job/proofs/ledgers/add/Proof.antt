@@ -7,19 +7,19 @@ use lib.ListN.{get_or, set, length-set}
 use lib.Seq.{get_or-set_other}
 use borrow.Author.Rules.{rules}
 use borrow.Author.Tests.{lt-ltb, le-ltb}
-use Rattle.choice.proofs.TestsLaws.{choose-t, choose-f}
+use Rattle.choice.proofs.TestsLaws.{choose_t, choose_f}
 use Rattle.job.specs.State.{ledgers}
-use Rattle.job.specs.Words.{full, lowAt, highAt, added}
+use Rattle.job.specs.Words.{full, low_at, high_at, added}
 use Rattle.job.proofs.ledgers.add.Statement.{statement}
 use Rattle.job.proofs.ledgers.add.Tie as tie
 
 -- A high digit, once its low one is set.
-high : (w : List ℕ) (k v : ℕ) → k < ledgers → get_or (set w k v) (ledgers + k) 0 ≡ highAt w k
+high : (w : List ℕ) (k v : ℕ) → k < ledgers → get_or (set w k v) (ledgers + k) 0 ≡ high_at w k
 high w k v l = get_or-set_other w k (ledgers + k) v 0 (λ e. omega arith)
 
 returns : tie.Need-returns
 unfolding added
-returns c = sym (choose-t _ (lt-ltb _ _ c.if1.true) refl)
+returns c = sym (choose_t _ (lt-ltb _ _ c.if1.true) refl)
 
 slice-read-w : tie.Need-slice-read-w
 slice-read-w c = rw length-set (omega arith)
@@ -28,7 +28,7 @@ add-w-2 : tie.Need-overflow-add-w-2
 add-w-2 c =
     let s = c.before.before.before in
     let a = s.args in
-    omega (arith, high a.w.now a.k (lowAt a.w.now a.k + a.x - full) s.requires.0.1)
+    omega (arith, high a.w.now a.k (low_at a.w.now a.k + a.x - full) s.requires.0.1)
 
 slice-write-w-3 : tie.Need-slice-write-w-3
 slice-write-w-3 c = rw length-set (omega arith)
@@ -39,9 +39,9 @@ returns-2 c =
     let test = c.before in
     let s = test.before.before in
     let a = s.args in
-    let low = lowAt a.w.now a.k + a.x - full in
+    let low = low_at a.w.now a.k + a.x - full in
     ap (λ (v : ℕ). set (set a.w.now a.k low) (ledgers + a.k) (v + 1)) (high a.w.now a.k low s.requires.0.1)
-    ∙ sym (choose-f _ (le-ltb _ _ test.if1.false) refl)
+    ∙ sym (choose_f _ (le-ltb _ _ test.if1.false) refl)
 
 pub add_spec : {M : Type 1} → statement M
 add_spec =

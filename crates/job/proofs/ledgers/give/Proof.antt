@@ -5,8 +5,8 @@ use mathlib.Core.Path.{◌≡◌, ap, ◌∙◌}
 use native.Mathlib.Nat.{le_refl}
 use borrow.Author.Rules.{rules}
 use Rattle.job.specs.State.{ch4, n2o}
-use Rattle.job.specs.Words.{carries, added, co2Place, co2Kept}
-use Rattle.job.proofs.WordsLaws.{room-co2, room-ch4, room-n2o}
+use Rattle.job.specs.Words.{carries, added, co2_place, co2_kept}
+use Rattle.job.proofs.WordsLaws.{room_co2, room_ch4, room_n2o}
 use Rattle.job.proofs.ledgers.give.Statement.{statement}
 use Rattle.job.proofs.ledgers.give.Tie as tie
 
@@ -17,12 +17,12 @@ add-requires : tie.Need-add-requires
 add-requires c κs =
     let s = start c in
     rw (c.before.find-place.ensures, c.keep.ensures)
-    (room-co2 s.args.w.now s.pre.0 s.args.e s.pre.1 (le_refl carries))
+    (room_co2 s.args.w.now s.pre.0 s.args.e s.pre.1 (le_refl carries))
 
 -- What the words are after one addition, and after two.
 once : (c : tie.After-add) →
     let e = (start c.before).args.e in
-    c.add.new.0 ≡ added (start c.before).args.w.now (co2Place e.destination) (co2Kept e.destination e.co2.0)
+    c.add.new.0 ≡ added (start c.before).args.w.now (co2_place e.destination) (co2_kept e.destination e.co2.0)
 once c =
     let keep = c.before in
     c.add.ensures
@@ -32,7 +32,7 @@ add-requires-2 : tie.Need-add-requires-2
 add-requires-2 c κs =
     let add = c.before.before.before in
     let s = start add.before in
-    rw (once add) (room-ch4 s.args.w.now s.pre.0 s.args.e s.pre.1 (le_refl carries))
+    rw (once add) (room_ch4 s.args.w.now s.pre.0 s.args.e s.pre.1 (le_refl carries))
 
 abbrev first : tie.After-add2 → tie.After-add
 first c = c.before.before.before.before
@@ -40,14 +40,14 @@ first c = c.before.before.before.before
 twice : (c : tie.After-add2) →
     let e = (start (first c).before).args.e in
     let w = (start (first c).before).args.w.now in
-    c.add2.new.0 ≡ added (added w (co2Place e.destination) (co2Kept e.destination e.co2.0)) ch4 e.ch4.0
+    c.add2.new.0 ≡ added (added w (co2_place e.destination) (co2_kept e.destination e.co2.0)) ch4 e.ch4.0
 twice c = c.add2.ensures ∙ ap (λ (w : List ℕ). added w ch4 (start (first c).before).args.e.ch4.0) (once (first c))
 
 add-requires-3 : tie.Need-add-requires-3
 add-requires-3 c κs =
     let add2 = c.before.before.before in
     let s = start (first add2).before in
-    rw (twice add2) (room-n2o s.args.w.now s.pre.0 s.args.e s.pre.1 (le_refl carries))
+    rw (twice add2) (room_n2o s.args.w.now s.pre.0 s.args.e s.pre.1 (le_refl carries))
 
 returns : tie.Need-returns
 returns c =

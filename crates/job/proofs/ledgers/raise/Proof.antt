@@ -3,7 +3,7 @@ use Prim.Native.Nat.{◌+◌, ◌*◌}
 use native.Mathlib.Omega.{arith}
 use borrow.Author.Rules.{rules}
 use Rattle.mass.specs.declared.ledger.Ledger.{Ledger}
-use Rattle.mass.proofs.LedgerLaws.{total-parts}
+use Rattle.mass.proofs.LedgerLaws.{total_parts}
 use Rattle.job.proofs.ledgers.raise.Statement.{statement}
 use Rattle.job.proofs.ledgers.raise.Tie as tie
 
@@ -13,7 +13,7 @@ returns c =
     let a = s.args in
     let more = a.tonnes * a.times in
     let g : Ledger = record { tonnes = a.g.tonnes + more; rest = a.g.rest } in
-    (omega (arith, total-parts g, total-parts a.g), record { canonical = s.requires.0; tonnes-le = s.requires.1 })
+    (omega (arith, total_parts g, total_parts a.g), record { canonical = s.requires.0; tonnes_le = s.requires.1 })
 
 pub raise-spec : {M : Type 1} → statement M
 raise-spec =

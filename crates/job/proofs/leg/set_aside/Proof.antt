@@ -4,8 +4,8 @@ use mathlib.Core.Path.{sym}
 use lib.ListN.{get_or}
 use borrow.Author.Rules.{rules}
 use Rattle.job.specs.State.{counted}
-use Rattle.job.specs.Words.{countsAt}
-use Rattle.job.proofs.StateLaws.{counted-first, counted-later}
+use Rattle.job.specs.Words.{counts_at}
+use Rattle.job.proofs.StateLaws.{counted-first, counted_later}
 use Rattle.job.proofs.leg.set_aside.Statement.{statement}
 use Rattle.job.proofs.leg.set_aside.Tie as tie
 
@@ -15,7 +15,7 @@ returns c =
     let test = c.before in
     let a = test.before.before.args in
     let none = test.if1.true in
-    let told = counted-first (countsAt a.place a.aside.now) a.reason none in
+    let told = counted-first (counts_at a.place a.aside.now) a.reason none in
     λ i. record { done = a.place + 1; aside = sym none i + 1; index = sym told.0 i; reason = sym told.1 i }
 
 returns-2 : tie.Need-returns-2
@@ -23,7 +23,7 @@ unfolding counted
 returns-2 c =
     let test = c.before.before.before.before in
     let a = test.before.before.args in
-    let told = counted-later (countsAt a.place a.aside.now) a.reason test.if1.false in
+    let told = counted_later (counts_at a.place a.aside.now) a.reason test.if1.false in
     λ i. record { done = a.place + 1; aside = get_or a.aside.now 0 0 + 1; index = sym told.0 i; reason = sym told.1 i }
 
 pub set-aside-spec : {M : Type 1} → statement M

@@ -2,9 +2,9 @@
 use mathlib.Core.Path.{sym, ◌∙◌}
 use borrow.Author.Rules.{rules}
 use borrow.Author.Tests.{not-false}
-use Rattle.job.proofs.WakeLaws.{records-le}
-use Rattle.job.proofs.LegLaws.{aside-lt}
-use Rattle.job.proofs.TakingLaws.{room-sorted, co2-sorted, taking-fuel, taking-gas, light-weighed, taking-weighed}
+use Rattle.job.proofs.WakeLaws.{records_le}
+use Rattle.job.proofs.LegLaws.{aside_lt}
+use Rattle.job.proofs.TakingLaws.{room_sorted, co2_sorted, taking_fuel, taking_gas, light_weighed, taking_weighed}
 use Rattle.job.proofs.leg.take_quickly.Statement.{statement}
 use Rattle.job.proofs.leg.take_quickly.Tie as tie
 
@@ -22,7 +22,7 @@ take-fuel-requires c κs =
     let sort = c.before in
     let s = start sort.before.before in
     let a = s.args in
-    room-sorted a.h a.book.now a.place s.pre.0 sort.sort-fuel.result sort.sort-fuel.ensures.0 s.pre.1.1.1.1.1.0
+    room_sorted a.h a.book.now a.place s.pre.0 sort.sort-fuel.result sort.sort-fuel.ensures.0 s.pre.1.1.1.1.1.0
 
 returns : tie.Need-returns
 returns c =
@@ -33,7 +33,7 @@ returns c =
     let kind = sym kinds.find-kind.ensures ∙ sort.before.if1.true in
     let room = s.pre.1.1.1.1.1 in
     let sorted = sort.sort-fuel in
-    taking-fuel a.h a.book.now a.place s.pre.0 a.stop a.aside.now a.w.now a.shares.now a.table.now
+    taking_fuel a.h a.book.now a.place s.pre.0 a.stop a.aside.now a.w.now a.shares.now a.table.now
     room.1 room.0 kind sorted.result sorted.ensures.0 sorted.ensures.1
     c.take-fuel.ensures.0 c.take-fuel.ensures.1
 
@@ -51,9 +51,9 @@ take-gas-requires c κs =
     let a = s.args in
     let room = s.pre.1.1.1.1.1 in
     let settled = sort.sort-gas.ensures in (
-      room-sorted a.h a.book.now a.place s.pre.0 sort.sort-gas.result settled room.0,
+      room_sorted a.h a.book.now a.place s.pre.0 sort.sort-gas.result settled room.0,
       room.1,
-      co2-sorted a.h a.book.now a.place s.pre.0 sort.sort-gas.result settled,
+      co2_sorted a.h a.book.now a.place s.pre.0 sort.sort-gas.result settled,
     )
 
 returns-2 : tie.Need-returns-2
@@ -65,7 +65,7 @@ returns-2 c =
     let a = s.args in
     let kind = sym kinds.find-kind.ensures ∙ sort.before.if2.true in
     let room = s.pre.1.1.1.1.1 in
-    taking-gas a.h a.book.now a.place s.pre.0 a.stop a.aside.now a.w.now a.shares.now a.table.now
+    taking_gas a.h a.book.now a.place s.pre.0 a.stop a.aside.now a.w.now a.shares.now a.table.now
     room.1 room.0 kind sort.sort-gas.result sort.sort-gas.ensures
     take.take-gas.ensures.0 take.take-gas.ensures.1
 
@@ -89,9 +89,9 @@ take-weighed-requires c κs =
     let s = start (before-hour weigh.before.before) in
     let a = s.args in
     let there = s.pre.1.0 in (
-      aside-lt there.1.aside-le there.0 (records-le a.book.now a.h s.pre.0),
+      aside_lt there.1.aside_le there.0 (records_le a.book.now a.h s.pre.0),
       s.pre.1.1.1.1.1.1,
-      light-weighed a.h a.book.now a.place s.pre.0 518 weigh.weigh-hour.result a.table.now _ weigh.weigh-hour.ensures.0,
+      light_weighed a.h a.book.now a.place s.pre.0 518 weigh.weigh-hour.result a.table.now _ weigh.weigh-hour.ensures.0,
     )
 
 returns-5 : tie.Need-returns-5
@@ -101,7 +101,7 @@ returns-5 c =
     let s = start (before-hour weigh.before.before) in
     let a = s.args in
     let taken = take.take-weighed.ensures in
-    taking-weighed a.h a.book.now a.place s.pre.0 a.stop a.aside.now a.w.now a.shares.now
+    taking_weighed a.h a.book.now a.place s.pre.0 a.stop a.aside.now a.w.now a.shares.now
     s.pre.1.1.1.1.1.1 518 weigh.weigh-hour.result a.table.now _ _ weigh.weigh-hour.ensures.0 taken.0 taken.1
 
 -- ---- anodes
@@ -124,9 +124,9 @@ take-weighed-requires-2 c κs =
     let s = start (before-anodes weigh.before.before) in
     let a = s.args in
     let there = s.pre.1.0 in (
-      aside-lt there.1.aside-le there.0 (records-le a.book.now a.h s.pre.0),
+      aside_lt there.1.aside_le there.0 (records_le a.book.now a.h s.pre.0),
       s.pre.1.1.1.1.1.1,
-      light-weighed a.h a.book.now a.place s.pre.0 1 weigh.weigh-anodes.result a.table.now _ weigh.weigh-anodes.ensures,
+      light_weighed a.h a.book.now a.place s.pre.0 1 weigh.weigh-anodes.result a.table.now _ weigh.weigh-anodes.ensures,
     )
 
 returns-6 : tie.Need-returns-6
@@ -136,7 +136,7 @@ returns-6 c =
     let s = start (before-anodes weigh.before.before) in
     let a = s.args in
     let taken = take.take-weighed2.ensures in
-    taking-weighed a.h a.book.now a.place s.pre.0 a.stop a.aside.now a.w.now a.shares.now
+    taking_weighed a.h a.book.now a.place s.pre.0 a.stop a.aside.now a.w.now a.shares.now
     s.pre.1.1.1.1.1.1 1 weigh.weigh-anodes.result a.table.now _ _ weigh.weigh-anodes.ensures taken.0 taken.1
 
 pub take-quickly-spec : {M : Type 1} → statement M

@@ -4,12 +4,12 @@ use mathlib.Core.Path.{◌≡◌, sym, ◌∙◌, subst}
 use Prim.Native.Nat.{ℕ}
 use borrow.Author.Rules.{rules}
 use Rattle.rules.specs.declared.record.Outcome.TheVariants.{Counted}
-use Rattle.rules.specs.Record.{outcomeAt}
+use Rattle.rules.specs.Record.{outcome_at}
 use Rattle.rules.specs.Bounds.{Bounded}
-use Rattle.rules.proofs.RecordLaws.{bounded-outcomeAt}
+use Rattle.rules.proofs.RecordLaws.{bounded_outcome_at}
 use Rattle.job.specs.Leg.{Took}
-use Rattle.job.proofs.WakeLaws.{records-le}
-use Rattle.job.proofs.LegLaws.{aside-lt, took-aside, took-given}
+use Rattle.job.proofs.WakeLaws.{records_le}
+use Rattle.job.proofs.LegLaws.{aside_lt, took_aside, took_given}
 use Rattle.job.proofs.leg.take_slowly.Statement.{statement}
 use Rattle.job.proofs.leg.take_slowly.Tie as tie
 
@@ -20,17 +20,17 @@ set-aside-requires : tie.Need-set-aside-requires
 set-aside-requires c κs =
     let s = start c.before.before.before.before.before.before in
     let there = s.pre.1.0 in
-    aside-lt there.1.aside-le there.0 (records-le s.args.book.now s.args.h s.pre.0)
+    aside_lt there.1.aside_le there.0 (records_le s.args.book.now s.args.h s.pre.0)
 
 -- What a record gives that counts is bounded.
 few : (c : tie.After-judged2) →
     let s = start c.before.before.before.before in
     let e = c.judged2.given.0.0 in
-    (outcomeAt s.args.h s.args.book.now s.args.place ≡ Counted e) × Bounded (Counted e)
+    (outcome_at s.args.h s.args.book.now s.args.place ≡ Counted e) × Bounded (Counted e)
 few c =
     let judge = c.before.before.before.before in
     let is = sym judge.judge-next.ensures.0 ∙ c.judged2.given.1 in
-    (is, subst Bounded is (bounded-outcomeAt _ _ _ (start judge).requires.0))
+    (is, subst Bounded is (bounded_outcome_at _ _ _ (start judge).requires.0))
 
 give-requires : tie.Need-give-requires
 give-requires c κs =
@@ -41,7 +41,7 @@ returns : tie.Need-returns
 returns c =
     let at = c.before.before.before in
     let judge = at.before.before.before.before in (
-      took-aside _ _ _ _ _ _ _ (sym judge.judge-next.ensures.0 ∙ at.judged.given.1) c.set-aside.ensures,
+      took_aside _ _ _ _ _ _ _ (sym judge.judge-next.ensures.0 ∙ at.judged.given.1) c.set_aside.ensures,
       judge.judge-next.ensures.1,
     )
 
@@ -52,7 +52,7 @@ returns-2 c =
     let judge = at.before.before.before.before in
     let a = (start judge).args in
     let is = few at in
-    let all = took-given a.h a.book.now a.place a.aside.now a.w.now _ is.0 is.1 (start judge).requires.1.1.1 in (
+    let all = took_given a.h a.book.now a.place a.aside.now a.w.now _ is.0 is.1 (start judge).requires.1.1.1 in (
       subst (λ (v : List ℕ). Took a.h a.book.now a.place a.aside.now a.w.now a.aside.now v) (sym give.give.ensures) all,
       judge.judge-next.ensures.1,
     )

@@ -29,7 +29,7 @@ returns : tie.Need-returns
 returns c = rw c.enum_told.given.1 (refl, (refl, refl))
 
 returns-2 : tie.Need-returns-2
-returns-2 c = rw c.before.before.enum-told2.given.1 (refl, (refl, c.set-aside.ensures))
+returns-2 c = rw c.before.before.enum-told2.given.1 (refl, (refl, c.set_aside.ensures))
 
 returns-3 : tie.Need-returns-3
 returns-3 c =

@@ -8,7 +8,7 @@ use lib.ListN.{length, length-set}
 use lib.Seq.{paste, paste-zero}
 use borrow.Author.Rules.{rules}
 use Rattle.rules.specs.Bytes.{bytes_of}
-use Rattle.job.proofs.PutLaws.{div-bytes, put_next, put_all}
+use Rattle.job.proofs.PutLaws.{div_bytes, put_next, put_all}
 use Rattle.job.proofs.put.put.Statement.{statement}
 use Rattle.job.proofs.put.put.Tie as tie
 
@@ -31,7 +31,7 @@ loop-again c =
     let left = loop.invariant.1 in
     let next = put_next a.out.now a.at a.n a.v loop.out loop.rest loop.i in (
       search rules,
-      rw (left, add-one) (div-bytes a.v loop.i),
+      rw (left, add-one) (div_bytes a.v loop.i),
       next (search rules) (search rules) left loop.invariant.2,
       rw length-set loop.invariant.3,
     )

@@ -1,11 +1,11 @@
 -- Each ledger is read from its place. Assumes nothing.
 use borrow.Author.Rules.{rules}
-use Rattle.job.specs.Words.{totalsIn}
+use Rattle.job.specs.Words.{totals_in}
 use Rattle.job.proofs.report.find_totals.Statement.{statement}
 use Rattle.job.proofs.report.find_totals.Tie as tie
 
 returns : tie.Need-returns
-unfolding totalsIn
+unfolding totals_in
 returns c = λ i. record {
   fossil = c.before.before.before.read-ledger.ensures i;
   biomass = c.before.before.read-ledger2.ensures i;

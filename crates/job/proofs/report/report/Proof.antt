@@ -1,28 +1,28 @@
 -- What `open` answers decides. Assumes nothing.
 use mathlib.Core.Path.{sym, ◌∙◌}
 use borrow.Author.Rules.{rules}
-use Rattle.rules.proofs.BookLaws.{opened-open, opened-wrong}
+use Rattle.rules.proofs.BookLaws.{opened_open, opened_wrong}
 use Rattle.job.specs.Reply.{reported}
-use Rattle.job.proofs.WakeLaws.{records-le}
-use Rattle.job.proofs.ReportLaws.{reportReply-book, reportReply-open}
+use Rattle.job.proofs.WakeLaws.{records_le}
+use Rattle.job.proofs.ReportLaws.{report_reply_book, report_reply_open}
 use Rattle.job.proofs.report.report.Statement.{statement}
 use Rattle.job.proofs.report.report.Tie as tie
 
 report-open-requires : tie.Need-report-open-requires
 report-open-requires c κs =
     let told = c.before in
-    records-le _ _ (opened-open _ told.before.before.«open».ensures told.h.given.1)
+    records_le _ _ (opened_open _ told.before.before.«open».ensures told.h.given.1)
 
 returns : tie.Need-returns
 unfolding reported
 returns c =
-    sym (reportReply-book _ _ (opened-wrong _ c.before.before.before.«open».ensures c.before.fault.given.1))
+    sym (report_reply_book _ _ (opened_wrong _ c.before.before.before.«open».ensures c.before.fault.given.1))
 
 returns-2 : tie.Need-returns-2
 returns-2 c =
     let told = c.before.before in
-    let is_open = opened-open _ told.before.before.«open».ensures told.h.given.1 in
-    c.report-open.ensures ∙ sym (reportReply-open _ _ is_open)
+    let is_open = opened_open _ told.before.before.«open».ensures told.h.given.1 in
+    c.report-open.ensures ∙ sym (report_reply_open _ _ is_open)
 
 pub report-spec : {M : Type 1} → statement M
 report-spec =

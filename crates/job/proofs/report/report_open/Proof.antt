@@ -3,9 +3,9 @@ use mathlib.Core.Path.{◌≡◌, sym, ◌∙◌}
 use borrow.Author.Rules.{rules}
 use Rattle.rules.specs.Book.{accepted}
 use Rattle.job.specs.Reply.{reported}
-use Rattle.job.specs.Wake.{admittedFor}
-use Rattle.job.proofs.AdmissionLaws.{admittedFor-refused, admittedFor-accepted}
-use Rattle.job.proofs.ReportLaws.{reportFor-refused, reportFor-sound}
+use Rattle.job.specs.Wake.{admitted_for}
+use Rattle.job.proofs.AdmissionLaws.{admitted_for-refused, admitted_for-accepted}
+use Rattle.job.proofs.ReportLaws.{report_for-refused, report_for-sound}
 use Rattle.job.proofs.report.report_open.Statement.{statement}
 use Rattle.job.proofs.report.report_open.Tie as tie
 
@@ -13,8 +13,8 @@ abbrev entry : tie.After-enum-told → tie.Start
 entry c = c.before.before.before.before
 
 let-in : (c : tie.After-enum-told)
-    → admittedFor (entry c).args.h (entry c).args.from.now ≡ accepted (entry c).args.h
-let-in c = admittedFor-accepted _ _ c.before.before.admit.ensures c.enum_told.given.1
+    → admitted_for (entry c).args.h (entry c).args.from.now ≡ accepted (entry c).args.h
+let-in c = admitted_for-accepted _ _ c.before.before.admit.ensures c.enum_told.given.1
 
 report-sound-requires : tie.Need-report-sound-requires
 report-sound-requires c κs = ((entry c).requires, let-in c)
@@ -23,10 +23,10 @@ returns : tie.Need-returns
 unfolding reported
 returns c =
     let admit = c.before.before.before.admit in
-    sym (reportFor-refused _ _ (admittedFor-refused _ _ admit.ensures c.before.x.given.1))
+    sym (report_for-refused _ _ (admitted_for-refused _ _ admit.ensures c.before.x.given.1))
 
 returns-2 : tie.Need-returns-2
-returns-2 c = c.report-sound.ensures ∙ sym (reportFor-sound _ _ (let-in c.before))
+returns-2 c = c.report-sound.ensures ∙ sym (report_for-sound _ _ (let-in c.before))
 
 pub report-open-spec : {M : Type 1} → statement M
 report-open-spec =

@@ -3,10 +3,10 @@ use Prim.Native.Nat.{ℕ, ◌*◌, ◌/◌, ◌≤◌}
 use native.Mathlib.Omega.{arith}
 use lib.Dec.{lit≤}
 use borrow.Author.Rules.{rules}
-use Rattle.rules.specs.Book.{unitOk}
-use Rattle.rules.proofs.BookLaws.{accepted-facts}
-use Rattle.rules.proofs.LinesLaws.{rising-linesSound}
-use Rattle.rules.proofs.TableLaws.{isTable-blank, replicate-length, unitLines-length-le}
+use Rattle.rules.specs.Book.{unit_ok}
+use Rattle.rules.proofs.BookLaws.{accepted_facts}
+use Rattle.rules.proofs.LinesLaws.{rising_lines_sound}
+use Rattle.rules.proofs.TableLaws.{is_table-blank, replicate_length, unit_lines-length-le}
 use Rattle.job.proofs.run.go_by_table.Statement.{statement}
 use Rattle.job.proofs.run.go_by_table.Tie as tie
 
@@ -14,29 +14,29 @@ few-lines : {n m k : ℕ} → n ≤ m → m ≤ 32 * k → n / 32 ≤ k
 few-lines h l = omega arith
 
 sub-lines : tie.Need-overflow-sub-lines
-sub-lines c = (accepted-facts _ _ c.before.before.before.before.before.requires.0).units-le
+sub-lines c = (accepted_facts _ _ c.before.before.before.before.before.requires.0).units_le
 
 go-noting-requires : tie.Need-go-noting-requires
 go-noting-requires c κs =
     let test = c.before.before.before.before in
     let begun = test.before.before.before.before.before.before in
     let p = begun.requires in
-    let few = few-lines {k = 8} (unitLines-length-le begun.args.h begun.args.book.now) test.if1.true in
-    (p.0, (p.1.0, (p.1.1.0, (p.1.1.1, (isTable-blank _ 1104 8 few (lit≤ tt) (lit≤ tt), replicate-length 1104)))))
+    let few = few-lines {k = 8} (unit_lines-length-le begun.args.h begun.args.book.now) test.if1.true in
+    (p.0, (p.1.0, (p.1.1.0, (p.1.1.1, (is_table-blank _ 1104 8 few (lit≤ tt) (lit≤ tt), replicate_length 1104)))))
 
 go-noting-requires-2 : tie.Need-go-noting-requires-2
 go-noting-requires-2 c κs =
     let test = c.before.before.before.before in
     let begun = test.before.before.before.before.before.before.before in
     let p = begun.requires in
-    let few = few-lines {k = 16} (unitLines-length-le begun.args.h begun.args.book.now) test.if2.true in
-    (p.0, (p.1.0, (p.1.1.0, (p.1.1.1, (isTable-blank _ 2208 16 few (lit≤ tt) (lit≤ tt), replicate-length 2208)))))
+    let few = few-lines {k = 16} (unit_lines-length-le begun.args.h begun.args.book.now) test.if2.true in
+    (p.0, (p.1.0, (p.1.1.0, (p.1.1.1, (is_table-blank _ 2208 16 few (lit≤ tt) (lit≤ tt), replicate_length 2208)))))
 
 go-noting-requires-3 : tie.Need-go-noting-requires-3
 go-noting-requires-3 c κs =
     let p = c.before.before.before.before.before.before.before.before.before.before.before.requires in
-    let few = (rising-linesSound unitOk _ (accepted-facts _ _ p.0).units-sound).few in
-    (p.0, (p.1.0, (p.1.1.0, (p.1.1.1, (isTable-blank _ 8832 64 few (lit≤ tt) (lit≤ tt), replicate-length 8832)))))
+    let few = (rising_lines_sound unit_ok _ (accepted_facts _ _ p.0).units_sound).few in
+    (p.0, (p.1.0, (p.1.1.0, (p.1.1.1, (is_table-blank _ 8832 64 few (lit≤ tt) (lit≤ tt), replicate_length 8832)))))
 
 pub go-by-table-spec : {M : Type 1} → statement M
 go-by-table-spec =

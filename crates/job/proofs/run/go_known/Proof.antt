@@ -1,12 +1,12 @@
 -- Either way the records are gone through. Assumes nothing.
 use native.Mathlib.Omega.{arith}
 use borrow.Author.Rules.{rules}
-use Rattle.rules.proofs.BookLaws.{accepted-facts}
+use Rattle.rules.proofs.BookLaws.{accepted_facts}
 use Rattle.job.proofs.run.go_known.Statement.{statement}
 use Rattle.job.proofs.run.go_known.Tie as tie
 
 has-no-fuel-requires : tie.Need-has-no-fuel-requires
-has-no-fuel-requires c κs = let k = accepted-facts _ _ c.before.before.before.requires.0 in omega arith
+has-no-fuel-requires c κs = let k = accepted_facts _ _ c.before.before.before.requires.0 in omega arith
 
 pub go-known-spec : {M : Type 1} → statement M
 go-known-spec =

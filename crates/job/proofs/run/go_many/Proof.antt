@@ -7,17 +7,17 @@ use native.Mathlib.Omega.{arith}
 use lib.Dec.{lit<}
 use lib.ListN.{length}
 use Rattle.rules.specs.Bytes.{lines}
-use Rattle.rules.specs.Book.{unitLines}
+use Rattle.rules.specs.Book.{unit_lines}
 use Rattle.rules.specs.Table.{Known}
 use Rattle.job.specs.Leg.{Went}
-use Rattle.job.proofs.WentLaws.{went-none, before-went, went_on, went-ended}
+use Rattle.job.proofs.WentLaws.{went_none, before_went, went_on, went_ended}
 use Rattle.job.proofs.run.go_many.Statement.{statement}
 use Rattle.job.proofs.run.go_many.Tie as tie
 
 abbrev invariant-loop : tie.invariant-loop
 invariant-loop book h place until table₀ stop aside₀ w₀ at₀ table aside w at =
     Went h book place until true aside₀ w₀ at aside w
-    × Known (lines at book) (unitLines h book) table × (length table ≡ length table₀) × (length w ≡ length w₀)
+    × Known (lines at book) (unit_lines h book) table × (length table ≡ length table₀) × (length w ≡ length w₀)
 
 abbrev decreases-loop : tie.decreases-loop
 decreases-loop book h place until table₀ stop aside₀ w₀ at₀ table aside w at = until - at
@@ -25,13 +25,13 @@ decreases-loop book h place until table₀ stop aside₀ w₀ at₀ table aside 
 loop-holds : tie.Need-loop-init invariant-loop decreases-loop
 loop-holds c =
     let p = c.before.before.before.requires.1 in
-    (went-none p, p.known, refl, refl)
+    (went_none p, p.known, refl, refl)
 
 abbrev start : tie.At-loop invariant-loop decreases-loop → tie.Start invariant-loop decreases-loop
 start c = c.before.before.before.before
 
 find-end-requires : tie.Need-find-end-requires invariant-loop decreases-loop
-find-end-requires c κs = c.before.loop.invariant.0.end-le
+find-end-requires c κs = c.before.loop.invariant.0.end_le
 
 go-on-requires : tie.Need-go-on-requires invariant-loop decreases-loop
 go-on-requires c κs =
@@ -41,7 +41,7 @@ go-on-requires c κs =
     let inv = test.before.loop.invariant in
     let end = ended.find-end.ensures in
     let on = end.3 test.loop-test.true (lit< tt) in
-    (s.pre.0, (before-went inv.0 s.pre.0 s.pre.1 end.0 end.1 inv.1, (on, end.2)))
+    (s.pre.0, (before_went inv.0 s.pre.0 s.pre.1 end.0 end.1 inv.1, (on, end.2)))
 
 -- From where a leg ends, the head of the turn.
 abbrev turned : tie.After-go-on invariant-loop decreases-loop → tie.At-loop invariant-loop decreases-loop
@@ -70,7 +70,7 @@ short q l = omega arith
 returns : tie.Need-returns invariant-loop decreases-loop
 returns c =
     let on = c.before.before.before.before.before in
-    went-ended (went on) (λ e. absurd (short (on.go_on.ensures.0.whole e) c.if1.true))
+    went_ended (went on) (λ e. absurd (short (on.go_on.ensures.0.whole e) c.if1.true))
 
 less : {d e r u : ℕ} → d < e → e ≤ r → r ≤ u → u - r < u - d
 less l m n = omega arith
@@ -79,7 +79,7 @@ loop-less : tie.Need-loop-smaller invariant-loop decreases-loop
 loop-less c =
     let on = c.before.before.before.before.before in
     let ended = on.before.before.before.before in
-    less (ended.find-end.ensures.3 ended.before.loop-test.true (lit< tt)) c.if1.false (went on).end-le
+    less (ended.find-end.ensures.3 ended.before.loop-test.true (lit< tt)) c.if1.false (went on).end_le
 
 loop-again : tie.Need-loop-preserved invariant-loop decreases-loop
 loop-again c =
@@ -93,7 +93,7 @@ loop-again c =
 returns-2 : tie.Need-returns-2 invariant-loop decreases-loop
 returns-2 c =
     let inv = c.before.loop.invariant in
-    went-ended inv.0 (λ _. le_antisymm inv.0.end-le c.loop-test.false)
+    went_ended inv.0 (λ _. le_antisymm inv.0.end_le c.loop-test.false)
 
 pub go-many-spec : {M : Type 1} → statement M
 go-many-spec =

@@ -6,30 +6,30 @@ use mathlib.Core.Path.{◌≡◌, refl, sym, ◌∙◌}
 use native.Mathlib.Nat.{le_refl, le_antisymm, lt_of_lt_of_le}
 use lib.ListN.{length}
 use Rattle.rules.specs.Bytes.{lines}
-use Rattle.rules.specs.Book.{unitLines}
+use Rattle.rules.specs.Book.{unit_lines}
 use Rattle.rules.specs.Table.{Known}
 use Rattle.rules.proofs.TableLaws.{known-after}
 use Rattle.job.specs.Leg.{Went}
 use Rattle.job.proofs.WordsLaws.{kept_more}
-use Rattle.job.proofs.WakeLaws.{records-le}
-use Rattle.job.proofs.LegLaws.{carriesEach-le, onward, next_le}
-use Rattle.job.proofs.RunLaws.{place-lt}
-use Rattle.job.proofs.WentLaws.{counts-before, went-none, before-went, went-next, went-ended}
+use Rattle.job.proofs.WakeLaws.{records_le}
+use Rattle.job.proofs.LegLaws.{carries_each-le, onward, next_le}
+use Rattle.job.proofs.RunLaws.{place_lt}
+use Rattle.job.proofs.WentLaws.{counts-before, went_none, before_went, went_next, went_ended}
 use Rattle.job.proofs.run.go_slowly.Statement.{statement}
 use Rattle.job.proofs.run.go_slowly.Tie as tie
 
 abbrev invariant-loop : tie.invariant-loop
-invariant-loop book h place until by-unit by-fuel table₀ stop aside₀ w₀ at₀ table aside w at =
+invariant-loop book h place until by-unit by_fuel table₀ stop aside₀ w₀ at₀ table aside w at =
     Went h book place until true aside₀ w₀ at aside w
-    × Known (lines at book) (unitLines h book) table × (length table ≡ length table₀) × (length w ≡ length w₀)
+    × Known (lines at book) (unit_lines h book) table × (length table ≡ length table₀) × (length w ≡ length w₀)
 
 abbrev decreases-loop : tie.decreases-loop
-decreases-loop book h place until by-unit by-fuel table₀ stop aside₀ w₀ at₀ table aside w at = until - at
+decreases-loop book h place until by-unit by_fuel table₀ stop aside₀ w₀ at₀ table aside w at = until - at
 
 loop-holds : tie.Need-loop-init invariant-loop decreases-loop
 loop-holds c =
     let p = c.before.before.before.before.before.requires.1 in
-    (went-none p, p.known, refl, refl)
+    (went_none p, p.known, refl, refl)
 
 abbrev start : tie.At-loop invariant-loop decreases-loop → tie.Start invariant-loop decreases-loop
 start c = c.before.before.before.before.before.before
@@ -37,12 +37,12 @@ start c = c.before.before.before.before.before.before
 does-stop-requires : tie.Need-does-stop-requires invariant-loop decreases-loop
 does-stop-requires c κs =
     let p = (start c.before).pre in
-    (p.0, lt_of_lt_of_le c.loop-test.true p.1.end-le)
+    (p.0, lt_of_lt_of_le c.loop-test.true p.1.end_le)
 
 returns : tie.Need-returns invariant-loop decreases-loop
 returns c =
     let stop = c.before.does-stop in
-    went-ended c.before.before.before.loop.invariant.0 (λ e. absurd (false≢true (sym (stop.ensures e) ∙ c.if1.true)))
+    went_ended c.before.before.before.loop.invariant.0 (λ e. absurd (false≢true (sym (stop.ensures e) ∙ c.if1.true)))
 
 take-slowly-requires : tie.Need-take-slowly-requires invariant-loop decreases-loop
 take-slowly-requires c κs =
@@ -50,10 +50,10 @@ take-slowly-requires c κs =
     let at = test.before.loop in
     let s = start test.before in
     let p = s.pre.1 in
-    let there = lt_of_lt_of_le test.loop-test.true p.end-le in
-    let fit = counts-before (before-went at.invariant.0 s.pre.0 p at.invariant.0.end-le (le_refl _) at.invariant.1) in
-    let few = lt_of_lt_of_le there (records-le s.args.book.now s.args.h s.pre.0) in
-    (s.pre.0, ((there, fit), (at.invariant.1, kept_more at.w (carriesEach-le few) at.invariant.0.kept)))
+    let there = lt_of_lt_of_le test.loop-test.true p.end_le in
+    let fit = counts-before (before_went at.invariant.0 s.pre.0 p at.invariant.0.end_le (le_refl _) at.invariant.1) in
+    let few = lt_of_lt_of_le there (records_le s.args.book.now s.args.h s.pre.0) in
+    (s.pre.0, ((there, fit), (at.invariant.1, kept_more at.w (carries_each-le few) at.invariant.0.kept)))
 
 -- From where a turn is taken, its test.
 abbrev tested : tie.After-slice-known4 invariant-loop decreases-loop → tie.In-loop invariant-loop decreases-loop
@@ -63,7 +63,7 @@ add_at : tie.Need-overflow-add-at invariant-loop decreases-loop
 add_at c =
     let test = tested c in
     let s = start test.before in
-    record { fits = place-lt _ _ _ s.pre.0 (next_le test.loop-test.taken s.pre.1.end-le) }
+    record { fits = place_lt _ _ _ s.pre.0 (next_le test.loop-test.taken s.pre.1.end_le) }
 
 loop-less : tie.Need-loop-smaller invariant-loop decreases-loop
 loop-less c = let test = tested c in (onward test.before.loop.inv.0.from_le test.loop-test.taken).less
@@ -76,8 +76,8 @@ loop-again c =
     let a = (start at).args in
     let inv = at.loop.inv in
     let taken = took.take-slowly.ensures in (
-      went-next inv.0 test.loop-test.taken taken.0,
-      known-after a.book.now (unitLines a.h a.book.now) _ at.loop.at refl refl taken.1 inv.1,
+      went_next inv.0 test.loop-test.taken taken.0,
+      known-after a.book.now (unit_lines a.h a.book.now) _ at.loop.at refl refl taken.1 inv.1,
       took.take-slowly.auto.1.1.1.1.1.0 ∙ inv.2,
       took.take-slowly.auto.1.1.1.1.1.1.1.0 ∙ inv.3,
     )
@@ -85,7 +85,7 @@ loop-again c =
 returns-2 : tie.Need-returns-2 invariant-loop decreases-loop
 returns-2 c =
     let went = c.before.loop.invariant.0 in
-    went-ended went (λ _. le_antisymm went.end-le c.loop-test.false)
+    went_ended went (λ _. le_antisymm went.end_le c.loop-test.false)
 
 pub go-slowly-spec : {M : Type 1} → statement M
 go-slowly-spec =

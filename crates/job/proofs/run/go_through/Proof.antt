@@ -10,26 +10,26 @@ use Rattle.rules.specs.Bytes.{byte}
 use Rattle.rules.proofs.TableLaws.{known-none}
 use Rattle.job.specs.declared.counts.Counts.{Counts}
 use Rattle.job.specs.State.{run}
-use Rattle.job.specs.Checkpoint.{doneIn, decode, encode}
-use Rattle.job.specs.Words.{words, countsAt, Gone}
-use Rattle.job.proofs.AdmissionLaws.{admittedFor-whole, admittedFor-so}
+use Rattle.job.specs.Checkpoint.{done_in, decode, encode}
+use Rattle.job.specs.Words.{words, counts_at, Gone}
+use Rattle.job.proofs.AdmissionLaws.{admitted_for-whole, admitted_for_so}
 use Rattle.job.proofs.CheckpointLaws.{encode-decode}
-use Rattle.job.proofs.RunLaws.{place-lt, gone-all, gone-none-yet, encode-gone, fits-gone, light-gone}
-use Rattle.job.proofs.WentLaws.{before-gone, gone-went}
+use Rattle.job.proofs.RunLaws.{place_lt, gone_all, gone_none_yet, encode_gone, fits_gone, light_gone}
+use Rattle.job.proofs.WentLaws.{before_gone, gone_went}
 use Rattle.job.proofs.run.go_through.Statement.{statement}
 use Rattle.job.proofs.run.go_through.Tie as tie
 
 begun : (s : tie.Start) → let a = s.args in Gone a.h a.book.now a.from.now a.c (replicate words 0)
-begun s = gone-none-yet _ _ _ _ s.requires.1.0.1
+begun s = gone_none_yet _ _ _ _ s.requires.1.0.1
 
 -- The records to go through, by the places where they start and end.
-place : (s : tie.Start) → s.args.c.done ≡ doneIn s.args.from.now
+place : (s : tie.Start) → s.args.c.done ≡ done_in s.args.from.now
 place s = ap (λ (t : Counts). t.done) s.requires.1.0.1
 
 copy-requires : tie.Need-copy-requires
 copy-requires c κs =
     let p = c.before.before.before.before.before.requires in
-    (admittedFor-whole _ _ p.1.0.0, p.1.1.1)
+    (admitted_for-whole _ _ p.1.0.0, p.1.1.1)
 
 -- A sound checkpoint is the one that says what it says.
 returns : tie.Need-returns
@@ -43,7 +43,7 @@ returns c =
     let admitted = s.requires.1.0.0 in
     let bytes : (i : ℕ) → byte a.from.now i < 256 = λ i. omega (arith, known.shared-slice-known2.given i) in
     copied.copy.ensures
-    ∙ sym (encode-decode a.h a.from.now bytes (admittedFor-whole _ _ admitted) (admittedFor-so _ _ admitted))
+    ∙ sym (encode-decode a.h a.from.now bytes (admitted_for-whole _ _ admitted) (admitted_for_so _ _ admitted))
     ∙ ap (λ (m : ℕ). encode a.h (run a.h a.book.now (decode a.from.now) m)) (sym test.if1.true)
 
 -- From where the end is found, the function's entry.
@@ -51,13 +51,13 @@ abbrev start : tie.After-struct-known2 → tie.Start
 start c = c.before.before.before.before.before.before
 
 add-until : tie.Need-overflow-add-until
-add-until c = let p = (start c).requires in record { fits = place-lt _ _ _ p.0 p.1.1.0 }
+add-until c = let p = (start c).requires in record { fits = place_lt _ _ _ p.0 p.1.1.0 }
 
 go-slowly-requires : tie.Need-go-slowly-requires
 go-slowly-requires c κs =
     let s = start c.before.before.before.before.before.before in
     let p = s.pre in
-    (p.0, before-gone (begun s) p.0 p.1.0.0 (le-add_right _ s.args.n) p.1.1.0 (known-none _ _ _ refl))
+    (p.0, before_gone (begun s) p.0 p.1.0.0 (le-add_right _ s.args.n) p.1.1.0 (known-none _ _ _ refl))
 
 -- From where few records are gone through, the function's entry, and what they give.
 abbrev entry : tie.After-go-slowly → tie.Start
@@ -65,11 +65,11 @@ entry c = start c.before.before.before.before.before.before.before
 
 gone : (c : tie.After-go-slowly) →
     let a = (entry c).args in
-    Gone a.h a.book.now a.from.now (countsAt c.go-slowly.result c.go-slowly.new.1.1.1.1.1.1.1.1.0) c.go-slowly.new.1.1.1.1.1.1.1.1.1.0
-gone c = gone-went (begun (entry c)) c.go-slowly.ensures
+    Gone a.h a.book.now a.from.now (counts_at c.go-slowly.result c.go-slowly.new.1.1.1.1.1.1.1.1.0) c.go-slowly.new.1.1.1.1.1.1.1.1.1.0
+gone c = gone_went (begun (entry c)) c.go-slowly.ensures
 
 ends : (c : tie.After-go-slowly) → c.go-slowly.result ≤ (entry c).args.h.n
-ends c = le_trans c.go-slowly.ensures.end-le (entry c).requires.1.1.0
+ends c = le_trans c.go-slowly.ensures.end_le (entry c).requires.1.1.0
 
 write-requires : tie.Need-write-requires
 write-requires c κs =
@@ -77,8 +77,8 @@ write-requires c κs =
     let p = (entry slow).requires in
     let a = p.1.0.0 in
     let all = gone slow in (
-      (admittedFor-whole _ _ a, all.kept.whole, p.1.1.1),
-      (fits-gone _ _ _ p.0 a _ _ all (ends slow), light-gone _ _ _ p.0 a _ _ all (ends slow)),
+      (admitted_for-whole _ _ a, all.kept.whole, p.1.1.1),
+      (fits_gone _ _ _ p.0 a _ _ all (ends slow), light_gone _ _ _ p.0 a _ _ all (ends slow)),
     )
 
 returns-2 : tie.Need-returns-2
@@ -87,9 +87,9 @@ returns-2 c =
     let slow = write.before.before.before.before.before.before in
     let s = entry slow in
     let a = s.args in
-    encode-gone _ _ _ s.pre.0 s.pre.1.0.0 _ _ (gone slow)
+    encode_gone _ _ _ s.pre.0 s.pre.1.0.0 _ _ (gone slow)
     write.write.ensures (slow.go-slowly.ensures.whole refl)
-    ∙ ap (λ (m : ℕ). encode a.h (run a.h a.book.now (decode a.from.now) m)) (gone-all a.n (place s))
+    ∙ ap (λ (m : ℕ). encode a.h (run a.h a.book.now (decode a.from.now) m)) (gone_all a.n (place s))
 
 further : (d n : ℕ) → (n ≡ 0 → ⊥) → d < d + n
 further d n more = omega arith
@@ -106,7 +106,7 @@ returns-3 c =
     let on = c.before.before.before in
     let s = start on.before.before.before.before.before in
     let a = s.args in
-    on.go-to.ensures ∙ ap (λ (m : ℕ). encode a.h (run a.h a.book.now (decode a.from.now) m)) (gone-all a.n (place s))
+    on.go-to.ensures ∙ ap (λ (m : ℕ). encode a.h (run a.h a.book.now (decode a.from.now) m)) (gone_all a.n (place s))
 
 pub go-through-spec : {M : Type 1} → statement M
 go-through-spec =

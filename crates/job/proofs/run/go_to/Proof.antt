@@ -5,10 +5,10 @@ use mathlib.Core.Path.{refl}
 use native.Mathlib.Nat.{le_trans, le_antisymm, le_of_lt}
 use borrow.Author.Rules.{rules}
 use Rattle.rules.proofs.TableLaws.{known-none}
-use Rattle.job.specs.Words.{countsAt, Gone}
-use Rattle.job.proofs.AdmissionLaws.{admittedFor-whole}
-use Rattle.job.proofs.RunLaws.{encode-gone, fits-gone, light-gone}
-use Rattle.job.proofs.WentLaws.{before-gone, gone-went}
+use Rattle.job.specs.Words.{counts_at, Gone}
+use Rattle.job.proofs.AdmissionLaws.{admitted_for-whole}
+use Rattle.job.proofs.RunLaws.{encode_gone, fits_gone, light_gone}
+use Rattle.job.proofs.WentLaws.{before_gone, gone_went}
 use Rattle.job.proofs.run.go_to.Statement.{statement}
 use Rattle.job.proofs.run.go_to.Tie as tie
 
@@ -27,7 +27,7 @@ go-legs-requires : tie.Need-go-legs-requires
 go-legs-requires c κs =
     let p = c.before.before.before.before.before.before.before.before.before.requires in
     let on = p.1.1.0 in
-    (p.0, before-gone p.1.0 p.0 p.1.1.1.0 (le_of_lt on.0) on.1 (known-none _ _ _ refl))
+    (p.0, before_gone p.1.0 p.0 p.1.1.1.0 (le_of_lt on.0) on.1 (known-none _ _ _ refl))
 
 -- From the end of the legs, the function's entry, and what their records give.
 abbrev start : tie.After-go-legs → tie.Start
@@ -35,17 +35,17 @@ start c = c.before.before.before.before.before.before.before.before.before.befor
 
 gone : (c : tie.After-go-legs) →
     let a = (start c).args in
-    Gone a.h a.book.now a.from.now (countsAt c.go-legs.result c.go-legs.new.1.1.1.1.1.1.0) c.go-legs.new.1.1.1.1.1.1.1.0
-gone c = gone-went (start c).requires.1.0 c.go-legs.ensures
+    Gone a.h a.book.now a.from.now (counts_at c.go-legs.result c.go-legs.new.1.1.1.1.1.1.0) c.go-legs.new.1.1.1.1.1.1.1.0
+gone c = gone_went (start c).requires.1.0 c.go-legs.ensures
 
-end-le : (c : tie.After-go-legs) → c.go-legs.result ≤ (start c).args.h.n
-end-le c = le_trans c.go-legs.ensures.end-le (start c).requires.1.1.0.1
+end_le : (c : tie.After-go-legs) → c.go-legs.result ≤ (start c).args.h.n
+end_le c = le_trans c.go-legs.ensures.end_le (start c).requires.1.1.0.1
 
 go-by-table-requires-2 : tie.Need-go-by-table-requires-2
 go-by-table-requires-2 c κs =
     let legs = c.before.before.before.before.before.before.before in
     let p = (start legs).requires in
-    (p.0, (gone legs, ((legs.go-legs.ensures.end-le, p.1.1.0.1), p.1.1.1)))
+    (p.0, (gone legs, ((legs.go-legs.ensures.end_le, p.1.1.0.1), p.1.1.1)))
 
 write-requires : tie.Need-write-requires
 write-requires c κs =
@@ -53,8 +53,8 @@ write-requires c κs =
     let p = (start legs).requires in
     let a = p.1.1.1.0 in
     let all = gone legs in (
-      (admittedFor-whole _ _ a, all.kept.whole, p.1.1.1.1),
-      (fits-gone _ _ _ p.0 a _ _ all (end-le legs), light-gone _ _ _ p.0 a _ _ all (end-le legs)),
+      (admitted_for-whole _ _ a, all.kept.whole, p.1.1.1.1),
+      (fits_gone _ _ _ p.0 a _ _ all (end_le legs), light_gone _ _ _ p.0 a _ _ all (end_le legs)),
     )
 
 returns-3 : tie.Need-returns-3
@@ -63,8 +63,8 @@ returns-3 c =
     let ended = write.before.before.before.before in
     let legs = ended.before.before.before.before in
     let p = (start legs).requires in
-    encode-gone _ _ _ p.0 p.1.1.1.0 _ _ (gone legs)
-    write.write.ensures (le_antisymm legs.go-legs.ensures.end-le ended.if2.false)
+    encode_gone _ _ _ p.0 p.1.1.1.0 _ _ (gone legs)
+    write.write.ensures (le_antisymm legs.go-legs.ensures.end_le ended.if2.false)
 
 pub go-to-spec : {M : Type 1} → statement M
 go-to-spec =

@@ -3,7 +3,7 @@ use Prim.Native.Nat.{◌-◌, ◌≤◌}
 use native.Mathlib.Nat.{le_refl, le_trans, lt_of_lt_of_le}
 use borrow.Author.Rules.{rules}
 use Rattle.job.proofs.LegLaws.{onward, next_le}
-use Rattle.job.proofs.RunLaws.{place-lt}
+use Rattle.job.proofs.RunLaws.{place_lt}
 use Rattle.job.proofs.run.is_table_due.Statement.{statement}
 use Rattle.job.proofs.run.is_table_due.Tie as tie
 
@@ -27,7 +27,7 @@ is-repeatable-requires c κs =
 add_at : tie.Need-overflow-add-at invariant-loop decreases-loop
 add_at c =
     let test = c.before.before in
-    record { fits = place-lt _ _ _ (start test.before).pre.0 (next_le test.loop-test.true (within test.before)) }
+    record { fits = place_lt _ _ _ (start test.before).pre.0 (next_le test.loop-test.true (within test.before)) }
 
 loop-less : tie.Need-loop-smaller invariant-loop decreases-loop
 loop-less c = let test = c.before.before in (onward test.before.loop.invariant test.loop-test.true).less

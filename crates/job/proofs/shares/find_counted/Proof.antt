@@ -3,8 +3,8 @@ use mathlib.Core.Path.{refl}
 use native.Mathlib.Omega.{arith}
 use lib.Dec.{lit<}
 use borrow.Author.Rules.{rules}
-use Rattle.job.specs.Shares.{countedIn}
-use Rattle.job.proofs.HeldLaws.{counted-product, odd-le}
+use Rattle.job.specs.Shares.{counted_in}
+use Rattle.job.proofs.HeldLaws.{counted_product, odd_le}
 use Rattle.job.proofs.shares.find_counted.Statement.{statement}
 use Rattle.job.proofs.shares.find_counted.Tie as tie
 
@@ -12,7 +12,7 @@ mul-result-3 : tie.Need-overflow-mul-result-3
 mul-result-3 c =
     let s = c.before.before in
     let a = s.args in
-    omega (arith, counted-product a.d.now a.k s.requires.0.0 s.requires.1 a.heat s.requires.0.1)
+    omega (arith, counted_product a.d.now a.k s.requires.0.0 s.requires.1 a.heat s.requires.0.1)
 
 add-result-2 : tie.Need-overflow-add-result-2
 add-result-2 c =
@@ -20,12 +20,12 @@ add-result-2 c =
     let a = s.args in
     omega (
       arith,
-      counted-product a.d.now a.k s.requires.0.0 s.requires.1 a.heat s.requires.0.1,
-      odd-le a.d.now a.k s.requires.0.0 s.requires.1 1 (lit< tt) refl,
+      counted_product a.d.now a.k s.requires.0.0 s.requires.1 a.heat s.requires.0.1,
+      odd_le a.d.now a.k s.requires.0.0 s.requires.1 1 (lit< tt) refl,
     )
 
 returns : tie.Need-returns
-unfolding countedIn
+unfolding counted_in
 returns c = refl
 
 pub find-counted-spec : {M : Type 1} → statement M

@@ -5,19 +5,19 @@ use native.Mathlib.Omega.{arith}
 use lib.Dec.{lit<}
 use lib.ListN.{get_or}
 use borrow.Author.Rules.{rules}
-use Rattle.job.specs.Shares.{legRecords, otherIn}
-use Rattle.job.proofs.HeldLaws.{other-product, odd-le, even-le}
+use Rattle.job.specs.Shares.{leg_records, other_in}
+use Rattle.job.proofs.HeldLaws.{other_product, odd_le, even_le}
 use Rattle.job.proofs.shares.find_other.Statement.{statement}
 use Rattle.job.proofs.shares.find_other.Tie as tie
 
 abbrev word : tie.Start → ℕ → ℕ
 word s v = get_or s.args.d.now (16 * s.args.k + v) 0
 
-abbrev odd : (s : tie.Start) (v : ℕ) → v < 8 → v % 2 ≡ 1 → word s v ≤ 20000000000000 * legRecords
-odd s = odd-le s.args.d.now s.args.k s.requires.0.0 s.requires.1
+abbrev odd : (s : tie.Start) (v : ℕ) → v < 8 → v % 2 ≡ 1 → word s v ≤ 20000000000000 * leg_records
+odd s = odd_le s.args.d.now s.args.k s.requires.0.0 s.requires.1
 
-abbrev even : (s : tie.Start) (v : ℕ) → v < 8 → v % 2 ≡ 0 → word s v ≤ 100000000 * legRecords
-even s = even-le s.args.d.now s.args.k s.requires.0.0 s.requires.1
+abbrev even : (s : tie.Start) (v : ℕ) → v < 8 → v % 2 ≡ 0 → word s v ≤ 100000000 * leg_records
+even s = even_le s.args.d.now s.args.k s.requires.0.0 s.requires.1
 
 add-measured-3 : tie.Need-overflow-add-measured-3
 add-measured-3 c = let s = c.before.before in omega (arith, odd s 3 (lit< tt) refl, odd s 5 (lit< tt) refl)
@@ -41,7 +41,7 @@ mul-result-4 : tie.Need-overflow-mul-result-4
 mul-result-4 c =
     let s = c.before.before.before.before.before.before in
     let a = s.args in
-    omega (arith, other-product a.d.now a.k s.requires.0.0 s.requires.1 a.heat s.requires.0.1)
+    omega (arith, other_product a.d.now a.k s.requires.0.0 s.requires.1 a.heat s.requires.0.1)
 
 add-result-6 : tie.Need-overflow-add-result-6
 add-result-6 c =
@@ -49,14 +49,14 @@ add-result-6 c =
     let a = s.args in
     omega (
       arith,
-      other-product a.d.now a.k s.requires.0.0 s.requires.1 a.heat s.requires.0.1,
+      other_product a.d.now a.k s.requires.0.0 s.requires.1 a.heat s.requires.0.1,
       odd s 3 (lit< tt) refl,
       odd s 5 (lit< tt) refl,
       odd s 7 (lit< tt) refl,
     )
 
 returns : tie.Need-returns
-unfolding otherIn
+unfolding other_in
 returns c = refl
 
 pub find-other-spec : {M : Type 1} → statement M

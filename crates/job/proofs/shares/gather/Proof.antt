@@ -4,18 +4,18 @@ use mathlib.Core.Path.{◌≡◌, sym, subst}
 use native.Mathlib.Omega.{arith}
 use lib.ListN.{length}
 use borrow.Author.Rules.{rules}
-use Rattle.rules.specs.Book.{fuelOk, fuelLines}
-use Rattle.rules.proofs.BookLaws.{Accepted, accepted-facts}
-use Rattle.rules.proofs.LinesLaws.{linesSound-each, rising-linesSound}
+use Rattle.rules.specs.Book.{fuel_ok, fuel_lines}
+use Rattle.rules.proofs.BookLaws.{Accepted, accepted_facts}
+use Rattle.rules.proofs.LinesLaws.{lines_sound-each, rising_lines_sound}
 use Rattle.job.specs.Shares.{Modest}
 use Rattle.job.proofs.GatheredLaws.{Ready}
-use Rattle.job.proofs.GatheringLaws.{Gathering, gathering-none, gathering-next, gathered-all, modest-factorsOf, lines-accepted}
+use Rattle.job.proofs.GatheringLaws.{Gathering, gathering_none, gathering_next, gathered-all, modest_factors_of, lines-accepted}
 use Rattle.job.proofs.shares.gather.Statement.{statement}
 use Rattle.job.proofs.shares.gather.Tie as tie
 
 abbrev invariant-loop : tie.invariant-loop
 invariant-loop book h d sums₀ n k₀ sums k =
-    (n ≡ length (fuelLines h book) / 32) × (k ≤ n) × Gathering (fuelLines h book) d sums k
+    (n ≡ length (fuel_lines h book) / 32) × (k ≤ n) × Gathering (fuel_lines h book) d sums k
 
 abbrev decreases-loop : tie.decreases-loop
 decreases-loop book h d sums₀ n k₀ sums k = n - k
@@ -24,29 +24,29 @@ abbrev start : tie.At-loop invariant-loop decreases-loop → tie.Start invariant
 start c = c.before.before.before.before
 
 known : (s : tie.Start invariant-loop decreases-loop) → Accepted s.args.book.now s.args.h
-known s = accepted-facts _ _ s.requires.0
+known s = accepted_facts _ _ s.requires.0
 
 -- There are at most 64 fuel lines.
-lines-le : (s : tie.Start invariant-loop decreases-loop) → length (fuelLines s.args.h s.args.book.now) / 32 ≤ 64
-lines-le s = (rising-linesSound fuelOk _ (known s).fuels-sound).few
+lines-le : (s : tie.Start invariant-loop decreases-loop) → length (fuel_lines s.args.h s.args.book.now) / 32 ≤ 64
+lines-le s = (rising_lines_sound fuel_ok _ (known s).fuels_sound).few
 
 sub-n : tie.Need-overflow-sub-n invariant-loop decreases-loop
 sub-n c = let k = known c.before.before in omega arith
 
 sub-n-2 : tie.Need-overflow-sub-n-2 invariant-loop decreases-loop
-sub-n-2 c = (known c.before.before.before).fuels-le
+sub-n-2 c = (known c.before.before.before).fuels_le
 
 loop-holds : tie.Need-loop-init invariant-loop decreases-loop
 loop-holds c =
     let s = c.before.before.before in
-    (lines-accepted (known s), search rules, gathering-none _ _ s.requires.1.1)
+    (lines-accepted (known s), search rules, gathering_none _ _ s.requires.1.1)
 
 -- Line k is there.
 there : (c : tie.In-loop invariant-loop decreases-loop) →
     let a = (start c.before).args in
-    c.before.loop.k < length (fuelLines a.h a.book.now) / 32
+    c.before.loop.k < length (fuel_lines a.h a.book.now) / 32
 there c =
-    let n-is = c.before.loop.invariant.0 in
+    let n_is = c.before.loop.invariant.0 in
     let l = c.loop-test.true in
     omega arith
 
@@ -60,8 +60,8 @@ ready : (c : tie.After-read-factors invariant-loop decreases-loop) →
 ready c =
     let turn = c.before in
     let s = start turn.before in
-    let right = linesSound-each fuelOk _ _ (known s).fuels-sound (there turn) in (
-      (omega (arith, there turn, lines-le s), subst Modest (sym c.read-factors.ensures) (modest-factorsOf _ right)),
+    let right = lines_sound-each fuel_ok _ _ (known s).fuels_sound (there turn) in (
+      (omega (arith, there turn, lines-le s), subst Modest (sym c.read-factors.ensures) (modest_factors_of _ right)),
       (s.pre.1.0, turn.before.loop.invariant.2.few),
     )
 
@@ -76,14 +76,14 @@ loop-again c =
     let factors = read.read-factors.ensures in (
       loop.invariant.0,
       search rules,
-      gathering-next _ _ _ loop.k factors (ready read) c.gather-line.ensures loop.invariant.2,
+      gathering_next _ _ _ loop.k factors (ready read) c.gather-line.ensures loop.invariant.2,
     )
 
 returns : tie.Need-returns invariant-loop decreases-loop
 returns c =
     let loop = c.before.loop in
     let s = start c.before in
-    let n-is = loop.invariant.0 in
+    let n_is = loop.invariant.0 in
     gathered-all _ _ _ loop.k (omega arith) (omega (arith, lines-le s)) loop.invariant.2
 
 pub gather-spec : {M : Type 1} → statement M

@@ -5,9 +5,9 @@ use native.Mathlib.Omega.{arith}
 use lib.ListN.{get_or}
 use borrow.Author.Rules.{rules}
 use Rattle.job.specs.State.{ch4, n2o}
-use Rattle.job.specs.Shares.{countedIn, otherIn, weighed, gathered}
+use Rattle.job.specs.Shares.{counted_in, other_in, weighed, gathered}
 use Rattle.job.proofs.WeighedLaws.{room_as}
-use Rattle.job.proofs.GatheredLaws.{all-lt, room-once, room_twice, room-thrice, room-last, once, twice, thrice}
+use Rattle.job.proofs.GatheredLaws.{all-lt, room_once, room_twice, room_thrice, room_last, once, twice, thrice}
 use Rattle.job.proofs.shares.gather_line.Statement.{statement}
 use Rattle.job.proofs.shares.gather_line.Tie as tie
 
@@ -23,7 +23,7 @@ weigh-requires : tie.Need-weigh-requires
 weigh-requires c κs =
     let t = c.before.before in
     let counted = t.before.before.find-counted.ensures in
-    room_as {s = (start t).args.sums.now} _ refl t.find-co2.ensures counted (room-once _ _ _ _ (start t).requires)
+    room_as {s = (start t).args.sums.now} _ refl t.find-co2.ensures counted (room_once _ _ _ _ (start t).requires)
 
 -- What the sums are after one product, after two and after three.
 abbrev found : tie.After-weigh → tie.After-find-co2
@@ -61,14 +61,14 @@ is-twice c =
 all-is : (t : tie.After-find-co2) →
     let a = (start t).args in
     t.before.before.find-counted.result + t.before.find-other.result
-    ≡ countedIn a.f.heat a.d.now a.k + otherIn a.f.heat a.d.now a.k
+    ≡ counted_in a.f.heat a.d.now a.k + other_in a.f.heat a.d.now a.k
 all-is t = λ i. t.before.before.find-counted.ensures i + t.before.find-other.ensures i
 
 weigh-requires-3 : tie.Need-weigh-requires-3
 weigh-requires-3 c κs =
     let two = c.before.before in
     let t = found (first two) in
-    room_as _ (is-twice two) refl (all-is t) (room-thrice _ _ _ _ (start t).pre)
+    room_as _ (is-twice two) refl (all-is t) (room_thrice _ _ _ _ (start t).pre)
 
 abbrev second : tie.After-weigh3 → tie.After-weigh2
 second c = c.before.before.before
@@ -85,7 +85,7 @@ weigh-requires-4 : tie.Need-weigh-requires-4
 weigh-requires-4 c κs =
     let three = c.before.before in
     let t = found (first (second three)) in
-    room_as _ (is-thrice three) refl (all-is t) (room-last _ _ _ _ (start t).pre)
+    room_as _ (is-thrice three) refl (all-is t) (room_last _ _ _ _ (start t).pre)
 
 returns : tie.Need-returns
 unfolding gathered

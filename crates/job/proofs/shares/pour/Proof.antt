@@ -6,7 +6,7 @@ use lib.ListN.{length}
 use borrow.Author.Rules.{rules}
 use Rattle.job.specs.State.{ledgers}
 use Rattle.job.proofs.WordsLaws.{kept_more}
-use Rattle.job.proofs.PouredLaws.{Pouring, pouring-none, pouring-kept, pouring-next}
+use Rattle.job.proofs.PouredLaws.{Pouring, pouring_none, pouring_kept, pouring_next}
 use Rattle.job.proofs.shares.pour.Statement.{statement}
 use Rattle.job.proofs.shares.pour.Tie as tie
 
@@ -17,7 +17,7 @@ abbrev decreases-loop : tie.decreases-loop
 decreases-loop w₀ sums i₀ w i = ledgers - i
 
 loop-holds : tie.Need-loop-init invariant-loop decreases-loop
-loop-holds c = (search rules, refl, pouring-none _ _)
+loop-holds c = (search rules, refl, pouring_none _ _)
 
 pour-at-requires : tie.Need-pour-at-requires invariant-loop decreases-loop
 pour-at-requires c κs =
@@ -25,8 +25,8 @@ pour-at-requires c κs =
     let p = turn.before.before.before.requires in
     let i = turn.before.loop.i in
     let l = turn.loop-test.true in
-    let kept = pouring-kept l p.1 turn.before.loop.invariant.2 in
-    (l, ((omega (arith, p.0.units-le i l), omega (arith, p.0.rest_le i l)), kept))
+    let kept = pouring_kept l p.1 turn.before.loop.invariant.2 in
+    (l, ((omega (arith, p.0.units_le i l), omega (arith, p.0.rest_le i l)), kept))
 
 loop-again : tie.Need-loop-preserved invariant-loop decreases-loop
 loop-again c =
@@ -37,7 +37,7 @@ loop-again c =
     let l = turn.loop-test.true in (
       search rules,
       search rules,
-      pouring-next _ _ _ loop.i l p.0 p.1 poured.pour-at.ensures loop.invariant.2,
+      pouring_next _ _ _ loop.i l p.0 p.1 poured.pour-at.ensures loop.invariant.2,
     )
 
 same_length : tie.Need-same-length invariant-loop decreases-loop

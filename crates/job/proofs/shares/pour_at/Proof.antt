@@ -8,7 +8,7 @@ use lib.ListN.{length}
 use borrow.Author.Rules.{rules}
 use Rattle.job.specs.Words.{added}
 use Rattle.job.specs.Shares.{poured}
-use Rattle.job.proofs.PouredLaws.{room-once, room_twice, kept-poured}
+use Rattle.job.proofs.PouredLaws.{room_once, room_twice, kept-poured}
 use Rattle.job.proofs.shares.pour_at.Statement.{statement}
 use Rattle.job.proofs.shares.pour_at.Tie as tie
 
@@ -23,7 +23,7 @@ add-requires c κs =
     let s = c.before.before.before in
     let a = s.args in
     let p = s.requires in
-    room-once a.w.now a.i a.units a.rest p.0 p.1.1 p.1.0.0 p.1.0.1 (le_refl _)
+    room_once a.w.now a.i a.units a.rest p.0 p.1.1 p.1.0.0 p.1.0.1 (le_refl _)
 
 add-requires-2 : tie.Need-add-requires-2
 add-requires-2 c κs =

@@ -1,7 +1,7 @@
 -- What is gathered is poured. Assumes nothing.
 use Prim.Native.Nat.{ℕ, ◌+◌}
 use mathlib.Core.Path.{refl, sym, ap, ◌∙◌}
-use Rattle.job.specs.Words.{massAt}
+use Rattle.job.specs.Words.{mass_at}
 use Rattle.job.proofs.shares.settle.Statement.{statement}
 use Rattle.job.proofs.shares.settle.Tie as tie
 
@@ -26,7 +26,7 @@ returns c =
     let pour = c.before.before in
     let before = (start pour).args.w.now in
     let sums = pour.before.before.before.gather.ensures.sums in (
-      λ i l. pour.pour.ensures.0 i l ∙ ap (λ (x : ℕ). massAt before i + x) (sums i l),
+      λ i l. pour.pour.ensures.0 i l ∙ ap (λ (x : ℕ). mass_at before i + x) (sums i l),
       pour.pour.ensures.1,
     )
 

@@ -1,23 +1,23 @@
 -- What `open` answers decides, and both promises say the same of each answer. Assumes nothing.
 use mathlib.Core.Path.{sym}
 use borrow.Author.Rules.{rules}
-use Rattle.rules.proofs.BookLaws.{opened-open, opened-wrong}
+use Rattle.rules.proofs.BookLaws.{opened_open, opened_wrong}
 use Rattle.job.specs.Reply.{started}
-use Rattle.job.specs.Wake.{freshReply, freshBytes}
-use Rattle.job.proofs.WakeLaws.{freshAdmitted-book}
+use Rattle.job.specs.Wake.{fresh_reply, fresh_bytes}
+use Rattle.job.proofs.WakeLaws.{fresh_admitted_book}
 use Rattle.job.proofs.wake.fresh.Statement.{statement}
 use Rattle.job.proofs.wake.fresh.Tie as tie
 
 fresh-open-requires : tie.Need-fresh-open-requires
 fresh-open-requires c κs =
     let told = c.before.before in
-    opened-open _ told.before.before.«open».ensures told.h.given.1
+    opened_open _ told.before.before.«open».ensures told.h.given.1
 
 returns : tie.Need-returns
-unfolding started freshReply freshBytes
+unfolding started fresh_reply fresh_bytes
 returns c =
-    let e = opened-wrong _ c.before.before.before.«open».ensures c.before.fault.given.1 in
-    (sym (freshAdmitted-book _ _ _ _ e), sym (freshAdmitted-book _ _ _ _ e))
+    let e = opened_wrong _ c.before.before.before.«open».ensures c.before.fault.given.1 in
+    (sym (fresh_admitted_book _ _ _ _ e), sym (fresh_admitted_book _ _ _ _ e))
 
 pub fresh-spec : {M : Type 1} → statement M
 fresh-spec =

@@ -4,34 +4,34 @@ use lib.Dec.{lit<}
 use borrow.Author.Rules.{rules}
 use Rattle.job.specs.Checkpoint.{encode}
 use Rattle.job.specs.Reply.{started}
-use Rattle.job.specs.Wake.{freshReply, freshBytes}
-use Rattle.job.proofs.WakeLaws.{freshAdmitted-32, freshAdmitted-go, head-fits}
-use Rattle.job.proofs.RunLaws.{stateOn-fresh, light-fresh}
+use Rattle.job.specs.Wake.{fresh_reply, fresh_bytes}
+use Rattle.job.proofs.WakeLaws.{fresh_admitted_32, fresh_admitted_go, head_fits}
+use Rattle.job.proofs.RunLaws.{state_on-fresh, light_fresh}
 use Rattle.job.proofs.wake.fresh_open.Statement.{statement}
 use Rattle.job.proofs.wake.fresh_open.Tie as tie
 
 returns : tie.Need-returns
-unfolding started freshReply freshBytes
+unfolding started fresh_reply fresh_bytes
 returns c =
     let e = c.before.before.before.requires in
-    (sym (freshAdmitted-32 _ _ _ _ e c.if1.true), sym (freshAdmitted-32 _ _ _ _ e c.if1.true))
+    (sym (fresh_admitted_32 _ _ _ _ e c.if1.true), sym (fresh_admitted_32 _ _ _ _ e c.if1.true))
 
 write-requires : tie.Need-write-requires
 write-requires c κs =
     let test = c.before.before.before.before in
-    let fit = head-fits _ _ test.before.before.before.requires in
-    ((refl, refl, test.if1.false), ((fit.0, fit.1, lit< tt), light-fresh))
+    let fit = head_fits _ _ test.before.before.before.requires in
+    ((refl, refl, test.if1.false), ((fit.0, fit.1, lit< tt), light_fresh))
 
 returns-2 : tie.Need-returns-2
-unfolding started freshReply freshBytes
+unfolding started fresh_reply fresh_bytes
 returns-2 c =
     let write = c.before.before in
     let test = write.before.before.before.before.before in
     let start = test.before.before.before in
     let e = start.requires in
     let o = test.if1.false in
-    let written = write.write.ensures ∙ ap (encode start.args.h) stateOn-fresh in
-    (sym (freshAdmitted-go _ _ _ _ e o), written ∙ sym (freshAdmitted-go _ _ _ _ e o))
+    let written = write.write.ensures ∙ ap (encode start.args.h) state_on-fresh in
+    (sym (fresh_admitted_go _ _ _ _ e o), written ∙ sym (fresh_admitted_go _ _ _ _ e o))
 
 pub fresh-open-spec : {M : Type 1} → statement M
 fresh-open-spec =

@@ -1,23 +1,23 @@
 -- What `open` answers decides, and both promises say the same of each answer. Assumes nothing.
 use mathlib.Core.Path.{sym}
 use borrow.Author.Rules.{rules}
-use Rattle.rules.proofs.BookLaws.{opened-open, opened-wrong}
+use Rattle.rules.proofs.BookLaws.{opened_open, opened_wrong}
 use Rattle.job.specs.Reply.{woken}
-use Rattle.job.specs.Wake.{wakeReply, wakeBytes}
-use Rattle.job.proofs.WakeLaws.{wakeAdmitted-book}
+use Rattle.job.specs.Wake.{wake_reply, wake_bytes}
+use Rattle.job.proofs.WakeLaws.{wake_admitted_book}
 use Rattle.job.proofs.wake.wake.Statement.{statement}
 use Rattle.job.proofs.wake.wake.Tie as tie
 
 wake-open-requires : tie.Need-wake-open-requires
 wake-open-requires c κs =
     let told = c.before.before in
-    opened-open _ told.before.before.«open».ensures told.h.given.1
+    opened_open _ told.before.before.«open».ensures told.h.given.1
 
 returns : tie.Need-returns
-unfolding woken wakeReply wakeBytes
+unfolding woken wake_reply wake_bytes
 returns c =
-    let e = opened-wrong _ c.before.before.before.«open».ensures c.before.fault.given.1 in
-    (sym (wakeAdmitted-book _ _ _ _ _ e), sym (wakeAdmitted-book _ _ _ _ _ e))
+    let e = opened_wrong _ c.before.before.before.«open».ensures c.before.fault.given.1 in
+    (sym (wake_admitted_book _ _ _ _ _ e), sym (wake_admitted_book _ _ _ _ _ e))
 
 pub wake-spec : {M : Type 1} → statement M
 wake-spec =

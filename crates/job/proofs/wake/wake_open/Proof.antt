@@ -2,9 +2,9 @@
 use mathlib.Core.Path.{sym}
 use borrow.Author.Rules.{rules}
 use Rattle.job.specs.Reply.{woken}
-use Rattle.job.specs.Wake.{wakeReply, wakeBytes}
-use Rattle.job.proofs.WakeLaws.{wakeAdmitted-refused}
-use Rattle.job.proofs.AdmissionLaws.{admittedFor-refused, admittedFor-accepted}
+use Rattle.job.specs.Wake.{wake_reply, wake_bytes}
+use Rattle.job.proofs.WakeLaws.{wake_admitted-refused}
+use Rattle.job.proofs.AdmissionLaws.{admitted_for-refused, admitted_for-accepted}
 use Rattle.job.proofs.wake.wake_open.Statement.{statement}
 use Rattle.job.proofs.wake.wake_open.Tie as tie
 
@@ -12,16 +12,16 @@ wake-sound-requires : tie.Need-wake-sound-requires
 wake-sound-requires c κs =
     let told = c.before in
     let let-in = told.before.before in
-    (let-in.before.before.before.before.requires, admittedFor-accepted _ _ let-in.admit.ensures told.enum_told.given.1)
+    (let-in.before.before.before.before.requires, admitted_for-accepted _ _ let-in.admit.ensures told.enum_told.given.1)
 
 returns : tie.Need-returns
-unfolding woken wakeReply wakeBytes
+unfolding woken wake_reply wake_bytes
 returns c =
     let told = c.before in
     let let-in = told.before.before in
     let e = let-in.before.before.before.before.requires in
-    let away = admittedFor-refused _ _ let-in.admit.ensures told.x.given.1 in
-    (sym (wakeAdmitted-refused _ _ _ _ _ e away), sym (wakeAdmitted-refused _ _ _ _ _ e away))
+    let away = admitted_for-refused _ _ let-in.admit.ensures told.x.given.1 in
+    (sym (wake_admitted-refused _ _ _ _ _ e away), sym (wake_admitted-refused _ _ _ _ _ e away))
 
 pub wake-open-spec : {M : Type 1} → statement M
 wake-open-spec =

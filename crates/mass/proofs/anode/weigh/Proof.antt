@@ -2,8 +2,8 @@
 use native.Mathlib.Omega.{arith}
 use lib.Dec.{lit<}
 use borrow.Author.Rules.{rules}
-use Rattle.mass.specs.Anode.{co2OfAnodes}
-use Rattle.mass.proofs.AnodeLaws.{anodes-le, anodes-carbon-le, anodes-product-le}
+use Rattle.mass.specs.Anode.{co2_of_anodes}
+use Rattle.mass.proofs.AnodeLaws.{anodes_le, anodes_carbon-le, anodes_product_le}
 use Rattle.mass.proofs.anode.weigh.Statement.{statement}
 use Rattle.mass.proofs.anode.weigh.Tie as tie
 
@@ -14,7 +14,7 @@ cast-anodes-2 : tie.Need-overflow-cast-anodes-2
 cast-anodes-2 c = search rules
 
 mul-anodes : tie.Need-overflow-mul-anodes
-mul-anodes c = omega (arith, anodes-le c.before.before.requires)
+mul-anodes c = omega (arith, anodes_le c.before.before.requires)
 
 cast-carbon : tie.Need-overflow-cast-carbon
 cast-carbon c = search rules
@@ -23,16 +23,16 @@ sub-carbon : tie.Need-overflow-sub-carbon
 sub-carbon c = search rules
 
 mul-carbon : tie.Need-overflow-mul-carbon
-mul-carbon c = omega (arith, anodes-carbon-le c.before.before.before.requires)
+mul-carbon c = omega (arith, anodes_carbon-le c.before.before.before.requires)
 
 mul-tenths : tie.Need-overflow-mul-tenths
-mul-tenths c = omega (arith, anodes-product-le c.before.before.before.requires)
+mul-tenths c = omega (arith, anodes_product_le c.before.before.before.requires)
 
 round-fraction-requires : tie.Need-round-fraction-requires
-round-fraction-requires c κs = (omega (arith, anodes-product-le c.before.before.before.requires), lit< tt)
+round-fraction-requires c κs = (omega (arith, anodes_product_le c.before.before.before.requires), lit< tt)
 
 returns : tie.Need-returns
-unfolding co2OfAnodes
+unfolding co2_of_anodes
 returns c = λ i. record { 0 = c.round-fraction.ensures i }
 
 pub weigh-spec : {M : Type 1} → statement M

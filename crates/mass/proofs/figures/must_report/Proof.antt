@@ -4,7 +4,7 @@ use lib.Dec.{leb}
 use borrow.Author.Rules.{rules}
 use Rattle.mass.specs.declared.ledger.Ledger.{Ledger}
 use Rattle.mass.specs.Ledger.{total}
-use Rattle.mass.proofs.FiguresLaws.{mustReport-tonnes}
+use Rattle.mass.proofs.FiguresLaws.{must_report_tonnes}
 use Rattle.mass.proofs.figures.must_report.Statement.{statement}
 use Rattle.mass.proofs.figures.must_report.Tie as tie
 
@@ -15,7 +15,7 @@ returns : tie.Need-returns
 returns c =
     let a = c.before.before.args in
     ap (λ (g : Ledger). leb 10000 g.tonnes) c.before.leave-out.ensures
-    ∙ mustReport-tonnes (total a.all) (total a.biomass)
+    ∙ must_report_tonnes (total a.all) (total a.biomass)
 
 pub must-report-spec : {M : Type 1} → statement M
 must-report-spec = tie.close (tie.spec leave-out-requires returns)

@@ -2,7 +2,7 @@
 use mathlib.Core.Path.{refl}
 use borrow.Author.Rules.{rules}
 use Rattle.mass.specs.Ledger.{total}
-use Rattle.mass.proofs.FiguresLaws.{kgOf-parts}
+use Rattle.mass.proofs.FiguresLaws.{kg_of_parts}
 use Rattle.mass.proofs.figures.round_to_kg.Statement.{statement}
 use Rattle.mass.proofs.figures.round_to_kg.Tie as tie
 
@@ -17,7 +17,7 @@ add-kg-2 c = search rules
 
 returns : tie.Need-returns
 unfolding total
-returns c = kgOf-parts _ _ _ refl
+returns c = kg_of_parts _ _ _ refl
 
 pub round-to-kg-spec : {M : Type 1} → statement M
 round-to-kg-spec = tie.close (tie.spec mul-kg add-kg add-kg-2 returns)

@@ -3,8 +3,8 @@ use Prim.Native.Nat.{ℕ, ◌+◌, ◌*◌}
 use mathlib.Core.Path.{ap, ap₂, ◌∙◌}
 use native.Mathlib.Omega.{arith}
 use borrow.Author.Rules.{rules}
-use Rattle.mass.specs.Ledger.{tonne, ledgerOf}
-use Rattle.mass.proofs.FiguresLaws.{mild-le, co2eOf-parts}
+use Rattle.mass.specs.Ledger.{tonne, ledger_of}
+use Rattle.mass.proofs.FiguresLaws.{mild_le, co2e_of_parts}
 use Rattle.mass.proofs.figures.sum_co2e.Statement.{statement}
 use Rattle.mass.proofs.figures.sum_co2e.Tie as tie
 
@@ -21,8 +21,8 @@ carry-requires c κs =
     omega (
       arith,
       c.before.weigh-up.ensures,
-      mild-le mild.ch4-le sound.ch4-sound.tonnes-le,
-      mild-le mild.n2o-le sound.n2o-sound.tonnes-le,
+      mild_le mild.ch4_le sound.ch4_sound.tonnes_le,
+      mild_le mild.n2o_le sound.n2o_sound.tonnes_le,
     )
 
 returns : tie.Need-returns
@@ -31,7 +31,7 @@ returns c =
     let tonnes = c.before.before.weigh-up.ensures in
     let rest = c.before.weigh-up2.ensures in
     c.carry.ensures
-    ∙ ap ledgerOf (ap₂ (λ (n x : ℕ). n * tonne + x) tonnes rest ∙ co2eOf-parts a.t a.w)
+    ∙ ap ledger_of (ap₂ (λ (n x : ℕ). n * tonne + x) tonnes rest ∙ co2e_of_parts a.t a.w)
 
 pub sum-co2e-spec : {M : Type 1} → statement M
 sum-co2e-spec = tie.close (tie.spec weigh-up-requires weigh-up-requires-2 carry-requires returns)

@@ -1,7 +1,7 @@
 -- The sum is at most (2 + 1,000 + 1,000) × 10^15, which is below 2^64. Assumes nothing.
 use native.Mathlib.Omega.{arith}
 use borrow.Author.Rules.{rules}
-use Rattle.mass.proofs.FiguresLaws.{mild-le}
+use Rattle.mass.proofs.FiguresLaws.{mild_le}
 use Rattle.mass.proofs.figures.weigh_up.Statement.{statement}
 use Rattle.mass.proofs.figures.weigh_up.Tie as tie
 
@@ -11,22 +11,22 @@ add-result c = search rules
 mul-result : tie.Need-overflow-mul-result
 mul-result c =
     let h = c.before.requires in
-    omega (arith, mild-le h.0.ch4-le h.1.2)
+    omega (arith, mild_le h.0.ch4_le h.1.2)
 
 add-result-2 : tie.Need-overflow-add-result-2
 add-result-2 c =
     let h = c.before.requires in
-    omega (arith, mild-le h.0.ch4-le h.1.2)
+    omega (arith, mild_le h.0.ch4_le h.1.2)
 
 mul-result-2 : tie.Need-overflow-mul-result-2
 mul-result-2 c =
     let h = c.before.before.requires in
-    omega (arith, mild-le h.0.n2o-le h.1.3)
+    omega (arith, mild_le h.0.n2o_le h.1.3)
 
 add-result-3 : tie.Need-overflow-add-result-3
 add-result-3 c =
     let h = c.before.before.requires in
-    omega (arith, mild-le h.0.ch4-le h.1.2, mild-le h.0.n2o-le h.1.3)
+    omega (arith, mild_le h.0.ch4_le h.1.2, mild_le h.0.n2o_le h.1.3)
 
 returns : tie.Need-returns
 returns c = search rules

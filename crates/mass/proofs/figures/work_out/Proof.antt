@@ -4,9 +4,9 @@ use Prim.Native.Nat.{ℕ}
 use mathlib.Core.Path.{◌≡◌, ap, ◌∙◌}
 use borrow.Author.Rules.{rules}
 use Rattle.mass.specs.Ledger.{total, Canonical}
-use Rattle.mass.specs.Figures.{kgOf, co2eOf, mustReport, figuresOf}
-use Rattle.mass.proofs.LedgerLaws.{total-ledgerOf, canonical-ledgerOf}
-use Rattle.mass.proofs.FiguresLaws.{biomass-le-co2eOf, co2eOf-tonnes-le}
+use Rattle.mass.specs.Figures.{kg_of, co2e_of, must_report, figures_of}
+use Rattle.mass.proofs.LedgerLaws.{total-ledger_of, canonical-ledger_of}
+use Rattle.mass.proofs.FiguresLaws.{biomass-le-co2e_of, co2e_of_tonnes_le}
 use Rattle.mass.proofs.figures.work_out.Statement.{statement}
 use Rattle.mass.proofs.figures.work_out.Tie as tie
 
@@ -14,10 +14,10 @@ abbrev entry : tie.After-sum-co2e → tie.Start
 entry c = c.before.before.before.before.before
 
 canonical : (c : tie.After-sum-co2e) → Canonical c.sum-co2e.result
-canonical c = rw c.sum-co2e.ensures (canonical-ledgerOf (co2eOf (entry c).args.t (entry c).args.w))
+canonical c = rw c.sum-co2e.ensures (canonical-ledger_of (co2e_of (entry c).args.t (entry c).args.w))
 
-whole : (c : tie.After-sum-co2e) → total c.sum-co2e.result ≡ co2eOf (entry c).args.t (entry c).args.w
-whole c = ap total c.sum-co2e.ensures ∙ total-ledgerOf _
+whole : (c : tie.After-sum-co2e) → total c.sum-co2e.result ≡ co2e_of (entry c).args.t (entry c).args.w
+whole c = ap total c.sum-co2e.ensures ∙ total-ledger_of _
 
 sum-co2e-requires : tie.Need-sum-co2e-requires
 sum-co2e-requires c κs = search rules
@@ -39,22 +39,22 @@ round-to-kg-requires-5 c κs =
     let s = c.before.before.before.before in
     let a = (entry s).args in
     let h = (entry s).requires in
-    (canonical s, rw s.sum-co2e.ensures (co2eOf-tonnes-le a.t a.w h.0 h.1))
+    (canonical s, rw s.sum-co2e.ensures (co2e_of_tonnes_le a.t a.w h.0 h.1))
 
 must-report-requires : tie.Need-must-report-requires
 must-report-requires c κs =
     let s = c.before.before.before.before.before in
     let a = (entry s).args in
     let h = (entry s).requires in
-    ((canonical s, h.0.biomass-sound.canonical), rw (whole s) (biomass-le-co2eOf a.t a.w))
+    ((canonical s, h.0.biomass_sound.canonical), rw (whole s) (biomass-le-co2e_of a.t a.w))
 
 returns : tie.Need-returns
-unfolding figuresOf
+unfolding figures_of
 returns c =
     let s = c.before.before.before.before.before.before in
-    let co2e = c.before.round-to-kg5.ensures ∙ ap kgOf (whole s) in
+    let co2e = c.before.round-to-kg5.ensures ∙ ap kg_of (whole s) in
     let biomass = total (entry s).args.t.biomass in
-    let decided = c.must-report.ensures ∙ ap (λ (v : ℕ). mustReport v biomass) (whole s) in
+    let decided = c.must-report.ensures ∙ ap (λ (v : ℕ). must_report v biomass) (whole s) in
     λ i. record {
       fossil = c.before.before.before.before.before.round-to-kg.ensures i;
       biomass = c.before.before.before.before.round-to-kg2.ensures i;

@@ -1,7 +1,7 @@
 -- A low value in its range stays far below 2^32 when it is multiplied. Assumes nothing.
 use mathlib.Core.Path.{refl}
 use borrow.Author.Rules.{rules}
-use Rattle.mass.proofs.FuelLaws.{highOf-hundredths}
+use Rattle.mass.proofs.FuelLaws.{high_of_hundredths}
 use Rattle.mass.proofs.fuel.find_high.Statement.{statement}
 use Rattle.mass.proofs.fuel.find_high.Tie as tie
 
@@ -12,7 +12,7 @@ add-kj : tie.Need-overflow-add-kj
 add-kj c = search rules
 
 returns : tie.Need-returns
-returns c = highOf-hundredths _ _ refl
+returns c = high_of_hundredths _ _ refl
 
 pub find-high-spec : {M : Type 1} → statement M
 find-high-spec = tie.close (tie.spec mul-hundredths add-kj returns)

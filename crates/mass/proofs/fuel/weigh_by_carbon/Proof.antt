@@ -2,8 +2,8 @@
 use mathlib.Core.Path.{refl}
 use native.Mathlib.Omega.{arith}
 use borrow.Author.Rules.{rules}
-use Rattle.mass.specs.Fuel.{co2OfCarbon}
-use Rattle.mass.proofs.FuelLaws.{carbon-le, carbon-product-le}
+use Rattle.mass.specs.Fuel.{co2_of_carbon}
+use Rattle.mass.proofs.FuelLaws.{carbon_le, carbon_product_le}
 use Rattle.mass.proofs.fuel.weigh_by_carbon.Statement.{statement}
 use Rattle.mass.proofs.fuel.weigh_by_carbon.Tie as tie
 
@@ -14,13 +14,13 @@ cast-carbon-2 : tie.Need-overflow-cast-carbon-2
 cast-carbon-2 c = search rules
 
 mul-carbon : tie.Need-overflow-mul-carbon
-mul-carbon c = omega (arith, carbon-le c.before.before.requires)
+mul-carbon c = omega (arith, carbon_le c.before.before.requires)
 
 mul-co2 : tie.Need-overflow-mul-co2
-mul-co2 c = omega (arith, carbon-product-le c.before.before.requires)
+mul-co2 c = omega (arith, carbon_product_le c.before.before.requires)
 
 returns : tie.Need-returns
-unfolding co2OfCarbon
+unfolding co2_of_carbon
 returns c = refl
 
 pub weigh-by-carbon-spec : {M : Type 1} → statement M

@@ -1,6 +1,6 @@
 -- The definition is `multiply`'s product under a type. Assumes nothing.
 use borrow.Author.Rules.{rules}
-use Rattle.mass.specs.Fuel.{traceOfHeat}
+use Rattle.mass.specs.Fuel.{trace_of_heat}
 use Rattle.mass.proofs.fuel.weigh_trace.Statement.{statement}
 use Rattle.mass.proofs.fuel.weigh_trace.Tie as tie
 
@@ -8,7 +8,7 @@ multiply-requires : tie.Need-multiply-requires
 multiply-requires c κs = search rules
 
 returns : tie.Need-returns
-unfolding traceOfHeat
+unfolding trace_of_heat
 returns c = λ i. record { 0 = c.multiply.ensures i }
 
 pub weigh-trace-spec : {M : Type 1} → statement M

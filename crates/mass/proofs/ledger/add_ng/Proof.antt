@@ -2,7 +2,7 @@
 use mathlib.Core.Path.{ap, ◌∙◌}
 use native.Mathlib.Omega.{arith}
 use borrow.Author.Rules.{rules}
-use Rattle.mass.specs.Ledger.{total, ledgerOf, added}
+use Rattle.mass.specs.Ledger.{total, ledger_of, added}
 use Rattle.mass.proofs.ledger.add_ng.Statement.{statement}
 use Rattle.mass.proofs.ledger.add_ng.Tie as tie
 
@@ -14,7 +14,7 @@ carry-requires c κs = search rules
 
 returns : tie.Need-returns
 unfolding added total
-returns c = c.carry.ensures ∙ ap ledgerOf (omega arith)
+returns c = c.carry.ensures ∙ ap ledger_of (omega arith)
 
 pub add-ng-spec : {M : Type 1} → statement M
 add-ng-spec = tie.close (tie.spec add-carry carry-requires returns)

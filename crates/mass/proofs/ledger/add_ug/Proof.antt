@@ -3,7 +3,7 @@
 use mathlib.Core.Path.{ap, ◌∙◌}
 use native.Mathlib.Omega.{arith}
 use borrow.Author.Rules.{rules}
-use Rattle.mass.specs.Ledger.{total, ledgerOf, added}
+use Rattle.mass.specs.Ledger.{total, ledger_of, added}
 use Rattle.mass.proofs.ledger.add_ug.Statement.{statement}
 use Rattle.mass.proofs.ledger.add_ug.Tie as tie
 
@@ -21,7 +21,7 @@ carry-requires c κs = search rules
 
 returns : tie.Need-returns
 unfolding added total
-returns c = c.carry.ensures ∙ ap ledgerOf (omega arith)
+returns c = c.carry.ensures ∙ ap ledger_of (omega arith)
 
 pub add-ug-spec : {M : Type 1} → statement M
 add-ug-spec = tie.close (tie.spec mul-rest add-carry add-carry-2 carry-requires returns)

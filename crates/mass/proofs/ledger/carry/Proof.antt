@@ -1,8 +1,8 @@
--- The quotient by a tonne is carried and the remainder stays, which is how `ledgerOf` parts a mass.
+-- The quotient by a tonne is carried and the remainder stays, which is how `ledger_of` parts a mass.
 -- Assumes nothing.
 use native.Mathlib.Omega.{arith}
 use borrow.Author.Rules.{rules}
-use Rattle.mass.proofs.LedgerLaws.{ledgerOf-unique}
+use Rattle.mass.proofs.LedgerLaws.{ledger_of_unique}
 use Rattle.mass.proofs.ledger.carry.Statement.{statement}
 use Rattle.mass.proofs.ledger.carry.Tie as tie
 
@@ -10,7 +10,7 @@ add-t4 : tie.Need-overflow-add-t4
 add-t4 c = search rules
 
 returns : tie.Need-returns
-returns c = ledgerOf-unique _ _ (omega arith) (omega arith)
+returns c = ledger_of_unique _ _ (omega arith) (omega arith)
 
 pub carry-spec : {M : Type 1} → statement M
 carry-spec = tie.close (tie.spec add-t4 returns)

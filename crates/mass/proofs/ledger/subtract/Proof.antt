@@ -3,7 +3,7 @@
 use native.Mathlib.Omega.{arith}
 use borrow.Author.Rules.{rules}
 use Rattle.mass.specs.Ledger.{total}
-use Rattle.mass.proofs.LedgerLaws.{ledgerOf-unique}
+use Rattle.mass.proofs.LedgerLaws.{ledger_of_unique}
 use Rattle.mass.proofs.ledger.subtract.Statement.{statement}
 use Rattle.mass.proofs.ledger.subtract.Tie as tie
 
@@ -13,7 +13,7 @@ sub-t4 c = omega arith
 
 returns : tie.Need-returns
 unfolding total
-returns c = ledgerOf-unique _ _ (omega arith) (omega arith)
+returns c = ledger_of_unique _ _ (omega arith) (omega arith)
 
 sub-t7 : tie.Need-overflow-sub-t7
 unfolding total
@@ -31,7 +31,7 @@ sub-t10 c = search rules
 
 returns-2 : tie.Need-returns-2
 unfolding total
-returns-2 c = ledgerOf-unique _ _ (omega arith) (omega arith)
+returns-2 c = ledger_of_unique _ _ (omega arith) (omega arith)
 
 pub subtract-spec : {M : Type 1} → statement M
 subtract-spec = tie.close (tie.spec sub-t4 returns sub-t7 sub-t8 add-t9 sub-t10 returns-2)

@@ -4,7 +4,7 @@ use mathlib.Core.Path.{ap, ◌∙◌}
 use native.Mathlib.Nat.{div-le_self, mod-le, mod-lt, div-add-mod'}
 use native.Mathlib.Omega.{arith}
 use borrow.Author.Rules.{rules}
-use Rattle.mass.specs.Rounding.{nearestTo}
+use Rattle.mass.specs.Rounding.{nearest_to}
 use Rattle.mass.proofs.rounding.round_fraction.Statement.{statement}
 use Rattle.mass.proofs.rounding.round_fraction.Tie as tie
 
@@ -23,7 +23,7 @@ round-mixed-requires c κs =
 returns : tie.Need-returns
 returns c =
     let a = c.before.args in
-    c.round-mixed.ensures ∙ ap (λ (m : ℕ). nearestTo m a.d) (div-add-mod' a.n a.d)
+    c.round-mixed.ensures ∙ ap (λ (m : ℕ). nearest_to m a.d) (div-add-mod' a.n a.d)
 
 pub round-fraction-spec : {M : Type 1} → statement M
 round-fraction-spec =

@@ -1,7 +1,7 @@
--- The test is those of `nearestTo` at once. Assumes nothing.
+-- The test is those of `nearest_to` at once. Assumes nothing.
 use mathlib.Core.Path.{sym}
 use borrow.Author.Rules.{rules}
-use Rattle.mass.proofs.RoundingLaws.{nearestTo-mixed-up, nearestTo-mixed-down}
+use Rattle.mass.proofs.RoundingLaws.{nearest_to_mixed_up, nearest_to_mixed_down}
 use Rattle.mass.proofs.rounding.round_mixed.Statement.{statement}
 use Rattle.mass.proofs.rounding.round_mixed.Tie as tie
 
@@ -18,13 +18,13 @@ returns : tie.Need-returns
 returns c =
     let s = c.before in
     let a = s.args in
-    sym (nearestTo-mixed-up a.q a.r a.d s.requires.1 c.if1.true)
+    sym (nearest_to_mixed_up a.q a.r a.d s.requires.1 c.if1.true)
 
 returns-2 : tie.Need-returns-2
 returns-2 c =
     let s = c.before in
     let a = s.args in
-    sym (nearestTo-mixed-down a.q a.r a.d s.requires.1 c.if1.false)
+    sym (nearest_to_mixed_down a.q a.r a.d s.requires.1 c.if1.false)
 
 pub round-mixed-spec : {M : Type 1} → statement M
 round-mixed-spec = tie.close (tie.spec mul-if1 add-if1 add-result returns returns-2)

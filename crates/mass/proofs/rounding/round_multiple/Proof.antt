@@ -8,10 +8,10 @@ use lib.Dec.{T, lit<}
 use lib.Pow.{pow_pos, shl_exact}
 use lib.Ieee.{binary64, to_bits}
 use borrow.Author.Rules.{rules}
-use Rattle.mass.specs.Rounding.{nearestTo}
-use Rattle.mass.specs.Units.{unitsIn, fieldUnits}
+use Rattle.mass.specs.Rounding.{nearest_to}
+use Rattle.mass.specs.Units.{units_in, field_units}
 use Rattle.mass.proofs.ReadingLaws.{natural→number}
-use Rattle.mass.proofs.MultipleLaws.{exponent, digits, unitsIn-toBits, multiple-vanishes, exponent-le, multiple-reduced}
+use Rattle.mass.proofs.MultipleLaws.{exponent, digits, units_in-to_bits, multiple_vanishes, exponent_le, multiple_reduced}
 use Rattle.mass.proofs.rounding.round_multiple.Statement.{statement}
 use Rattle.mass.proofs.rounding.round_multiple.Tie as tie
 
@@ -19,16 +19,16 @@ abbrev bits : tie.Start → ℕ
 bits c = to_bits binary64 c.args.p
 
 units : (c : tie.Start)
-    → unitsIn binary64 c.args.p ≡ fieldUnits binary64 (exponent (bits c)) (digits (bits c))
-units c = unitsIn-toBits c.args.p (subst T (sym c.well-formed.1.0.1) tt) c.requires.1.0
+    → units_in binary64 c.args.p ≡ field_units binary64 (exponent (bits c)) (digits (bits c))
+units c = units_in-to_bits c.args.p (subst T (sym c.well-formed.1.0.1) tt) c.requires.1.0
 
 few : (c : tie.Start) → digits (bits c) < 2 ^ 52
 few c = mod-lt _ (pow_pos 52)
 
 at_most : (c : tie.Start) → exponent (bits c) ≤ 1059
 at_most c =
-    let units-le = subst (λ (u : ℕ). u ≤ 100000000000 * 2 ^ 1074) (units c) c.requires.1.1 in
-    exponent-le (exponent (bits c)) (digits (bits c)) units-le
+    let units_le = subst (λ (u : ℕ). u ≤ 100000000000 * 2 ^ 1074) (units c) c.requires.1.1 in
+    exponent_le (exponent (bits c)) (digits (bits c)) units_le
 
 room : (c : tie.Start) → c.args.k * (2 ^ 52 + digits (bits c)) < 2 ^ 63
 room c = omega (arith, few c, mul-le-mul_right (2 ^ 52 + digits (bits c)) c.requires.0)
@@ -40,8 +40,8 @@ returns : tie.Need-returns
 returns c =
     let s = c.before in
     let k = s.args.k in
-    sym (multiple-vanishes k (exponent (bits s)) (digits (bits s)) s.requires.0 (few s) c.if1.true)
-    ∙ ap (λ (u : ℕ). nearestTo (k * u) (2 ^ 1074)) (sym (units s))
+    sym (multiple_vanishes k (exponent (bits s)) (digits (bits s)) s.requires.0 (few s) c.if1.true)
+    ∙ ap (λ (u : ℕ). nearest_to (k * u) (2 ^ 1074)) (sym (units s))
 
 add-digits : tie.Need-overflow-add-digits
 add-digits c = search rules
@@ -76,9 +76,9 @@ returns-2 c =
     let s = e.before in
     let k = s.args.k in
     c.round-fraction.ensures
-    ∙ ap (nearestTo (k * (2 ^ 52 + digits (bits s)))) (power s e.if1.false)
-    ∙ multiple-reduced k (exponent (bits s)) (digits (bits s)) e.if1.false (at_most s)
-    ∙ ap (λ (u : ℕ). nearestTo (k * u) (2 ^ 1074)) (sym (units s))
+    ∙ ap (nearest_to (k * (2 ^ 52 + digits (bits s)))) (power s e.if1.false)
+    ∙ multiple_reduced k (exponent (bits s)) (digits (bits s)) e.if1.false (at_most s)
+    ∙ ap (λ (u : ℕ). nearest_to (k * u) (2 ^ 1074)) (sym (units s))
 
 pub round-multiple-spec : {M : Type 1} → statement M
 round-multiple-spec = tie.close (tie.spec

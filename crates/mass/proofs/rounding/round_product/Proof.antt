@@ -5,18 +5,18 @@ use mathlib.Core.Path.{ap, ◌∙◌}
 use native.Mathlib.Nat.{div-le_self, mod-le, mod-lt}
 use native.Mathlib.Omega.{arith}
 use borrow.Author.Rules.{rules}
-use Rattle.mass.specs.Rounding.{nearestTo}
-use Rattle.mass.proofs.RoundingLaws.{product-mixed, product-left-lt, product-whole-lt}
+use Rattle.mass.specs.Rounding.{nearest_to}
+use Rattle.mass.proofs.RoundingLaws.{product_mixed, product_left_lt, product_whole-lt}
 use Rattle.mass.proofs.rounding.round_product.Statement.{statement}
 use Rattle.mass.proofs.rounding.round_product.Tie as tie
 
 whole-lt : (c : tie.Start) →
     let a = c.args in
     a.a * (a.b / a.d) + a.a * (a.b % a.d) / a.d < 2 ^ 63
-whole-lt c = product-whole-lt c.args.a c.args.b c.args.d c.requires.1.1
+whole-lt c = product_whole-lt c.args.a c.args.b c.args.d c.requires.1.1
 
 left_lt : (c : tie.Start) → c.args.a * (c.args.b % c.args.d) < 2 ^ 63
-left_lt c = product-left-lt c.args.a c.args.b c.args.d c.requires.0 c.requires.1.0
+left_lt c = product_left_lt c.args.a c.args.b c.args.d c.requires.0 c.requires.1.0
 
 div-whole : tie.Need-nonzero-div-whole
 div-whole c = search rules
@@ -53,7 +53,7 @@ round-mixed-requires c κs =
 returns : tie.Need-returns
 returns c =
     let a = c.before.args in
-    c.round-mixed.ensures ∙ ap (λ (n : ℕ). nearestTo n a.d) (product-mixed a.a a.b a.d)
+    c.round-mixed.ensures ∙ ap (λ (n : ℕ). nearest_to n a.d) (product_mixed a.a a.b a.d)
 
 pub round-product-spec : {M : Type 1} → statement M
 round-product-spec =

@@ -6,17 +6,17 @@ use Rattle.queue.specs.declared.slots.Slot.TheVariants.{Book}
 use Rattle.queue.specs.declared.slots.Queue.{Queue}
 use Rattle.queue.specs.declared.reply.Refusal.TheVariants.{Full}
 use Rattle.queue.specs.declared.reply.Added.TheVariants.{NotAdded, At}
-use Rattle.queue.specs.Slots.{slotCount, stored}
-use Rattle.queue.specs.Books.{lowestFree, added}
-use Rattle.queue.proofs.BooksLaws.{added-at, added_full}
+use Rattle.queue.specs.Slots.{slot_count, stored}
+use Rattle.queue.specs.Books.{lowest_free, added}
+use Rattle.queue.proofs.BooksLaws.{added_at, added_full}
 use Rattle.queue.proofs.books.add.Statement.{statement}
 use Rattle.queue.proofs.books.add.Tie as tie
 
-placed : (q : Queue) (n i : ℕ) (r : Queue) → i ≡ lowestFree q → i < slotCount → r ≡ stored q i (Book n)
+placed : (q : Queue) (n i : ℕ) (r : Queue) → i ≡ lowest_free q → i < slot_count → r ≡ stored q i (Book n)
     → record { answer = At i; queue = r } ≡ added q n
-placed q n i r found l put = rw (put, found) (sym (added-at q n (rw found at l)))
+placed q n i r found l put = rw (put, found) (sym (added_at q n (rw found at l)))
 
-refused : (q : Queue) (n i : ℕ) → i ≡ lowestFree q → slotCount ≤ i
+refused : (q : Queue) (n i : ℕ) → i ≡ lowest_free q → slot_count ≤ i
     → record { answer = NotAdded Full; queue = q } ≡ added q n
 refused q n i found l = sym (added_full q n (rw found at l))
 

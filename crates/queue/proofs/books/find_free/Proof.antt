@@ -5,32 +5,32 @@ use mathlib.Core.Path.{◌≡◌, ◌∙◌, sym}
 use native.Mathlib.Omega.{arith}
 use borrow.Author.Count.{below_none, below_more}
 use borrow.Author.Rules.{rules}
-use Rattle.queue.specs.Slots.{slotCount, freeAt}
-use Rattle.queue.specs.Books.{lowestFree}
-use Rattle.queue.proofs.LowestLaws.{lowest-unique, lowest-none}
+use Rattle.queue.specs.Slots.{slot_count, free_at}
+use Rattle.queue.specs.Books.{lowest_free}
+use Rattle.queue.proofs.LowestLaws.{lowest_unique, lowest-none}
 use Rattle.queue.proofs.books.find_free.Statement.{statement}
 use Rattle.queue.proofs.books.find_free.Tie as tie
 
 abbrev invariant-loop : tie.invariant-loop
-invariant-loop q i₀ i = (i ≤ slotCount) × ((j : ℕ) → j < i → freeAt q j ≡ false)
+invariant-loop q i₀ i = (i ≤ slot_count) × ((j : ℕ) → j < i → free_at q j ≡ false)
 
 abbrev decreases-loop : tie.decreases-loop
-decreases-loop q i₀ i = slotCount - i
+decreases-loop q i₀ i = slot_count - i
 
 loop-holds : tie.Need-loop-init invariant-loop decreases-loop
-loop-holds c = (omega arith, below_none (λ (j : ℕ). freeAt c.args.q j ≡ false))
+loop-holds c = (omega arith, below_none (λ (j : ℕ). free_at c.args.q j ≡ false))
 
 is-free-requires : tie.Need-is-free-requires invariant-loop decreases-loop
 is-free-requires c κs = search rules
 
 returns : tie.Need-returns invariant-loop decreases-loop
-unfolding lowestFree
+unfolding lowest_free
 returns c =
     let found = sym c.before.is_free.ensures ∙ c.if1.true in
     let turn = c.before.before in
     let q = turn.before.before.args.q in
     let head = turn.before.loop in
-    sym (lowest-unique (freeAt q) slotCount head.i turn.loop-test.true found head.invariant.1)
+    sym (lowest_unique (free_at q) slot_count head.i turn.loop-test.true found head.invariant.1)
 
 add-i : tie.Need-overflow-add-i invariant-loop decreases-loop
 add-i c = omega arith
@@ -43,13 +43,13 @@ loop-again c =
     let passed = sym c.before.is_free.ensures ∙ c.if1.false in
     let head = c.before.before.before in
     let q = head.before.args.q in
-    (omega arith, below_more (λ (j : ℕ). freeAt q j ≡ false) head.loop.i head.loop.invariant.1 passed)
+    (omega arith, below_more (λ (j : ℕ). free_at q j ≡ false) head.loop.i head.loop.invariant.1 passed)
 
 returns-2 : tie.Need-returns-2 invariant-loop decreases-loop
-unfolding lowestFree
+unfolding lowest_free
 returns-2 c =
     let none = c.before.loop.invariant.1 in
-    sym (lowest-none (freeAt c.before.before.args.q) slotCount (λ j l. none j (omega arith)))
+    sym (lowest-none (free_at c.before.before.args.q) slot_count (λ j l. none j (omega arith)))
 
 pub find-free-spec : {M : Type 1} → statement M
 find-free-spec =

@@ -5,12 +5,12 @@ use lib.Dec.{ltb}
 use borrow.Author.Rules.{rules}
 use Rattle.queue.specs.declared.slots.Slot.{Slot}
 use Rattle.queue.specs.declared.slots.Queue.{Queue}
-use Rattle.queue.specs.Slots.{slot_at, leftIn}
+use Rattle.queue.specs.Slots.{slot_at, left_in}
 use Rattle.queue.specs.Round.{onward, due_at}
 use Rattle.queue.proofs.round.is_due.Statement.{statement}
 use Rattle.queue.proofs.round.is_due.Tie as tie
 
-due : (q : Queue) (k i : ℕ) (s : Slot) (n : ℕ) → i ≡ onward q k → s ≡ slot_at q i → n ≡ leftIn s
+due : (q : Queue) (k i : ℕ) (s : Slot) (n : ℕ) → i ≡ onward q k → s ≡ slot_at q i → n ≡ left_in s
     → ltb 0 n ≡ due_at q k
 unfolding due_at
 due q k i s n at slot left = rw (left, slot, at)

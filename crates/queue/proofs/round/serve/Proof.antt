@@ -6,15 +6,15 @@ use Rattle.queue.specs.declared.slots.Slot.{Slot}
 use Rattle.queue.specs.declared.slots.Slot.TheVariants.{Book}
 use Rattle.queue.specs.declared.slots.Queue.{Queue}
 use Rattle.queue.specs.declared.reply.Turned.TheVariants.{Served}
-use Rattle.queue.specs.Slots.{slot_at, leftIn, stored}
-use Rattle.queue.specs.Round.{movedAt, served}
+use Rattle.queue.specs.Slots.{slot_at, left_in, stored}
+use Rattle.queue.specs.Round.{moved_at, served}
 use Rattle.queue.proofs.round.serve.Statement.{statement}
 use Rattle.queue.proofs.round.serve.Tie as tie
 
 serving : (q : Queue) (i b : ℕ) (s : Slot) (n m : ℕ) (r : Queue)
-    → s ≡ slot_at q i → n ≡ leftIn s → m ≡ min b n → r ≡ stored q i (Book (n - m))
+    → s ≡ slot_at q i → n ≡ left_in s → m ≡ min b n → r ≡ stored q i (Book (n - m))
     → record { answer = Served i m; queue = record { slots = r.slots; last = i } } ≡ served q i b
-unfolding served movedAt
+unfolding served moved_at
 serving q i b s n m r slot left moved put = rw (put, moved, left, slot)
 
 look-requires : tie.Need-look-requires

@@ -6,23 +6,23 @@ use Rattle.queue.specs.declared.slots.Queue.{Queue}
 use Rattle.queue.specs.declared.reply.Refusal.TheVariants.{NothingLeft}
 use Rattle.queue.specs.declared.reply.Turned.TheVariants.{NotTurned}
 use Rattle.queue.specs.declared.reply.AfterTurn.{AfterTurn}
-use Rattle.queue.specs.Slots.{slotCount}
-use Rattle.queue.specs.Round.{onward, passedOver, nextUp, served, turned}
-use Rattle.queue.proofs.RoundLaws.{onward-lt, turned-noBudget, turned-nothingLeft, turned-served}
+use Rattle.queue.specs.Slots.{slot_count}
+use Rattle.queue.specs.Round.{onward, passed_over, next_up, served, turned}
+use Rattle.queue.proofs.RoundLaws.{onward-lt, turned_no_budget, turned_nothing_left, turned-served}
 use Rattle.queue.proofs.round.turn.Statement.{statement}
 use Rattle.queue.proofs.round.turn.Tie as tie
 
 goes : (q : Queue) (b k i : ℕ) (r : AfterTurn)
-    → (b ≡ 0 → ⊥) → k ≡ passedOver q → k < slotCount → i ≡ onward q k → r ≡ served q i b → r ≡ turned q b
-unfolding nextUp
+    → (b ≡ 0 → ⊥) → k ≡ passed_over q → k < slot_count → i ≡ onward q k → r ≡ served q i b → r ≡ turned q b
+unfolding next_up
 goes q b k i r some found l at done = done ∙ rw (at, found) (sym (turned-served q b some (rw found at l)))
 
-refused : (q : Queue) (b k : ℕ) → (b ≡ 0 → ⊥) → k ≡ passedOver q → slotCount ≤ k
+refused : (q : Queue) (b k : ℕ) → (b ≡ 0 → ⊥) → k ≡ passed_over q → slot_count ≤ k
     → record { answer = NotTurned NothingLeft; queue = q } ≡ turned q b
-refused q b k some found l = sym (turned-nothingLeft q b some (rw found at l))
+refused q b k some found l = sym (turned_nothing_left q b some (rw found at l))
 
 returns : tie.Need-returns
-returns c = sym (turned-noBudget _ _ c.if1.true)
+returns c = sym (turned_no_budget _ _ c.if1.true)
 
 pass-over-requires : tie.Need-pass-over-requires
 pass-over-requires c κs = search rules

@@ -1,11 +1,11 @@
--- The array of free slots is `emptyQueue`'s as it stands. Assumes nothing.
+-- The array of free slots is `empty_queue`'s as it stands. Assumes nothing.
 use mathlib.Core.Path.{refl}
-use Rattle.queue.specs.Slots.{emptyQueue}
+use Rattle.queue.specs.Slots.{empty_queue}
 use Rattle.queue.proofs.slots.begin.Statement.{statement}
 use Rattle.queue.proofs.slots.begin.Tie as tie
 
 returns : tie.Need-returns
-unfolding emptyQueue
+unfolding empty_queue
 returns c = refl
 
 pub begin-spec : {M : Type 1} → statement M

@@ -1,7 +1,7 @@
 -- The slot is read, then judged. Assumes nothing.
 use mathlib.Core.Path.{◌∙◌, ap}
 use borrow.Author.Rules.{rules}
-use Rattle.queue.specs.Slots.{isFree, freeAt}
+use Rattle.queue.specs.Slots.{is_free, free_at}
 use Rattle.queue.proofs.slots.is_free.Statement.{statement}
 use Rattle.queue.proofs.slots.is_free.Tie as tie
 
@@ -12,8 +12,8 @@ judge-free-requires : tie.Need-judge-free-requires
 judge-free-requires c κs = search rules
 
 returns : tie.Need-returns
-unfolding freeAt
-returns c = c.judge-free.ensures ∙ ap isFree c.before.look.ensures
+unfolding free_at
+returns c = c.judge-free.ensures ∙ ap is_free c.before.look.ensures
 
 pub is-free-spec : {M : Type 1} → statement M
 is-free-spec = tie.close (tie.spec look-requires judge-free-requires returns)

@@ -4,7 +4,7 @@ use mathlib.Core.Path.{◌≡◌, refl}
 use lib.ListN.{length, drop}
 use borrow.Author.Rules.{rules}
 use Rattle.roster.specs.Bytes.{same}
-use Rattle.roster.proofs.BytesLaws.{same_length, same_next, same-other, same_end}
+use Rattle.roster.proofs.BytesLaws.{same_length, same_next, same_other, same_end}
 use Rattle.roster.proofs.bytes.are_same.Statement.{statement}
 use Rattle.roster.proofs.bytes.are_same.Tie as tie
 
@@ -32,7 +32,7 @@ returns-2 : tie.Need-returns-2 invariant-loop decreases-loop
 returns-2 c =
     let at = c.before.before.before.before.loop in
     let a = c.before.before.before.before.before.before.args in
-    same-other a.xs.now a.ys.now at.i at.invariant.2 (search rules) (search rules) c.if2.true
+    same_other a.xs.now a.ys.now at.i at.invariant.2 (search rules) (search rules) c.if2.true
 
 add-i : tie.Need-overflow-add-i invariant-loop decreases-loop
 add-i c = search rules

@@ -5,7 +5,7 @@ use native.Mathlib.Omega.{arith}
 use lib.ListN.{length, drop}
 use borrow.Author.Rules.{rules}
 use Rattle.roster.specs.Bytes.{span}
-use Rattle.roster.proofs.BytesLaws.{span-here, span-on, span-end}
+use Rattle.roster.proofs.BytesLaws.{span_here, span_on, span_end}
 use Rattle.roster.proofs.bytes.find.Statement.{statement}
 use Rattle.roster.proofs.bytes.find.Tie as tie
 
@@ -26,7 +26,7 @@ returns c =
     let turn = c.before.before in
     let a = turn.before.before.args in
     let at = turn.before.loop in
-    (span-here a.b a.bytes.now at.i at.invariant.1 turn.loop-test.true c.if1.true, at.invariant.0)
+    (span_here a.b a.bytes.now at.i at.invariant.1 turn.loop-test.true c.if1.true, at.invariant.0)
 
 add-i : tie.Need-overflow-add-i invariant-loop decreases-loop
 add-i c = search rules
@@ -39,13 +39,13 @@ loop-again c =
     let turn = c.before.before in
     let a = turn.before.before.args in
     let at = turn.before.loop in
-    (search rules, span-on a.b a.bytes.now at.i at.invariant.1 turn.loop-test.true c.if1.false)
+    (search rules, span_on a.b a.bytes.now at.i at.invariant.1 turn.loop-test.true c.if1.false)
 
 returns-2 : tie.Need-returns-2 invariant-loop decreases-loop
 returns-2 c =
     let a = c.before.before.args in
     let at = c.before.loop in
-    (span-end a.b a.bytes.now at.i at.invariant.1 c.loop-test.false, at.invariant.0)
+    (span_end a.b a.bytes.now at.i at.invariant.1 c.loop-test.false, at.invariant.0)
 
 pub find_spec : {M : Type 1} → statement M
 find_spec =

@@ -1,6 +1,6 @@
 -- The rest begins after the place found, and where there is none, nothing is left. Assumes nothing.
 use borrow.Author.Rules.{rules}
-use Rattle.roster.proofs.BytesLaws.{rest_end, rest-found}
+use Rattle.roster.proofs.BytesLaws.{rest_end, rest_found}
 use Rattle.roster.proofs.bytes.take_rest.Statement.{statement}
 use Rattle.roster.proofs.bytes.take_rest.Tie as tie
 
@@ -38,7 +38,7 @@ returns-2 : tie.Need-returns-2
 returns-2 c =
     let found = c.before.before in
     let a = found.before.before.args in
-    rest-found a.b a.bytes.now found.find.ensures.0
+    rest_found a.b a.bytes.now found.find.ensures.0
 
 pub take-rest-spec : {M : Type 1} → statement M
 take-rest-spec =

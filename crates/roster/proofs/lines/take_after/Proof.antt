@@ -3,7 +3,7 @@ use mathlib.Core.Path.{◌≡◌, refl}
 use native.Mathlib.Omega.{arith}
 use borrow.Author.Rules.{rules}
 use Rattle.roster.specs.Lines.{after}
-use Rattle.roster.proofs.LinesLaws.{after_next, after-end, after-empty}
+use Rattle.roster.proofs.LinesLaws.{after_next, after_end, after_empty}
 use Rattle.roster.proofs.lines.take_after.Statement.{statement}
 use Rattle.roster.proofs.lines.take_after.Tie as tie
 
@@ -19,7 +19,7 @@ loop-holds c = refl
 returns : tie.Need-returns invariant-loop decreases-loop
 returns c =
     let at = c.before.before.loop in
-    after-empty at.n at.left.now at.invariant c.if1.true
+    after_empty at.n at.left.now at.invariant c.if1.true
 
 take-rest-requires : tie.Need-take-rest-requires invariant-loop decreases-loop
 take-rest-requires c κs = search rules
@@ -38,7 +38,7 @@ loop-again c =
 returns-2 : tie.Need-returns-2 invariant-loop decreases-loop
 returns-2 c =
     let at = c.before.loop in
-    after-end at.n at.left.now at.invariant c.loop-test.false
+    after_end at.n at.left.now at.invariant c.loop-test.false
 
 pub take-after-spec : {M : Type 1} → statement M
 take-after-spec =

@@ -2,7 +2,7 @@
 use mathlib.Core.Path.{◌∙◌}
 use borrow.Author.Rules.{rules}
 use Rattle.choice.proofs.TestsLaws.{is}
-use Rattle.roster.proofs.LinesLaws.{lineAt-ended, lineAt-none}
+use Rattle.roster.proofs.LinesLaws.{line_at_ended, line_at-none}
 use Rattle.roster.proofs.lines.take_line.Statement.{statement}
 use Rattle.roster.proofs.lines.take_line.Tie as tie
 
@@ -21,7 +21,7 @@ returns c =
     let left = tested.before in
     let a = left.before.before.args in
     c.take-front.ensures
-    ∙ lineAt-ended a.i a.text.now left.take_after.ensures
+    ∙ line_at_ended a.i a.text.now left.take_after.ensures
     (is tested.has-byte.ensures c.before.if1.true)
 
 slice-aggregate-result : tie.Need-slice-aggregate-result
@@ -32,7 +32,7 @@ returns-2 c =
     let tested = c.before.before in
     let left = tested.before in
     let a = left.before.before.args in
-    lineAt-none a.i a.text.now left.take_after.ensures
+    line_at-none a.i a.text.now left.take_after.ensures
     (is tested.has-byte.ensures c.before.if1.false)
 
 pub take-line-spec : {M : Type 1} → statement M

@@ -6,8 +6,8 @@ use lib.Dec.{ltb}
 use lib.ListN.{length}
 use borrow.Author.Rules.{rules}
 use Rattle.choice.proofs.TestsLaws.{any}
-use Rattle.roster.specs.Plants.{longestBookPath, longestCheckpointPath}
-use Rattle.roster.specs.Mistake.{isLong}
+use Rattle.roster.specs.Plants.{longest_book_path, longest_checkpoint_path}
+use Rattle.roster.specs.Mistake.{is_long}
 use Rattle.roster.proofs.mistake.is_long.Statement.{statement}
 use Rattle.roster.proofs.mistake.is_long.Tie as tie
 
@@ -18,11 +18,11 @@ take-checkpoint-requires : tie.Need-take-checkpoint-requires
 take-checkpoint-requires c κs = search rules
 
 returns : tie.Need-returns
-unfolding isLong
+unfolding is_long
 returns c =
     any
-    (ap (λ (w : List ℕ). ltb longestBookPath (length w)) c.before.take-book.ensures)
-    (ap (λ (w : List ℕ). ltb longestCheckpointPath (length w)) c.take-checkpoint.ensures)
+    (ap (λ (w : List ℕ). ltb longest_book_path (length w)) c.before.take-book.ensures)
+    (ap (λ (w : List ℕ). ltb longest_checkpoint_path (length w)) c.take-checkpoint.ensures)
 
 pub is-long-spec : {M : Type 1} → statement M
 is-long-spec = tie.close (tie.spec take-book-requires take-checkpoint-requires returns)

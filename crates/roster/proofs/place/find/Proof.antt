@@ -4,14 +4,14 @@ use lib.ListN.{length}
 use borrow.Author.Rules.{rules}
 use Rattle.choice.proofs.TestsLaws.{is}
 use Rattle.roster.specs.Lines.{newline, lines_of}
-use Rattle.roster.specs.Place.{placeFrom, placed}
+use Rattle.roster.specs.Place.{place_from, placed}
 use Rattle.roster.proofs.BytesLaws.{rest_lt}
-use Rattle.roster.proofs.PlaceLaws.{place-next, place_end}
+use Rattle.roster.proofs.PlaceLaws.{place_next, place_end}
 use Rattle.roster.proofs.place.find.Statement.{statement}
 use Rattle.roster.proofs.place.find.Tie as tie
 
 abbrev invariant-loop : tie.invariant-loop
-invariant-loop list kept left₀ place₀ left place = placeFrom place (lines_of list) (lines_of left) ≡ placed list kept
+invariant-loop list kept left₀ place₀ left place = place_from place (lines_of list) (lines_of left) ≡ placed list kept
 
 abbrev decreases-loop : tie.decreases-loop
 decreases-loop list kept left₀ place₀ left place = length left
@@ -43,7 +43,7 @@ loop-again c =
     let turn = c.before.before.before in
     let at = turn.before.before.loop in
     let list = turn.before.before.before.before.before.args.list.now in
-    place-next at.place (lines_of list) at.left.now at.invariant
+    place_next at.place (lines_of list) at.left.now at.invariant
     (is turn.before.has-byte.ensures turn.if1.true)
     c.before.before.take-front.ensures
     c.before.find.ensures

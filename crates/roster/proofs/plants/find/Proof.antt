@@ -9,17 +9,17 @@ use borrow.Author.Rules.{rules}
 use Rattle.choice.proofs.TestsLaws.{is}
 use Rattle.roster.specs.Bytes.{front, same}
 use Rattle.roster.specs.Lines.{newline, lines_of}
-use Rattle.roster.specs.Plants.{indexFrom}
+use Rattle.roster.specs.Plants.{index_from}
 use Rattle.roster.specs.Search.{has, part_of}
 use Rattle.roster.proofs.BytesLaws.{rest_lt}
-use Rattle.roster.proofs.PlantsLaws.{index-here, index-next, index-end}
+use Rattle.roster.proofs.PlantsLaws.{index_here, index_next, index_end}
 use Rattle.roster.proofs.plants.find.Statement.{statement}
 use Rattle.roster.proofs.plants.find.Tie as tie
 
 abbrev invariant-loop : tie.invariant-loop
 invariant-loop list part word n left₀ j₀ left j =
     (j + length left ≤ length list)
-    × (indexFrom j n word (map (part_of part) (lines_of left)) ≡ indexFrom 0 n word (map (part_of part) (lines_of list)))
+    × (index_from j n word (map (part_of part) (lines_of left)) ≡ index_from 0 n word (map (part_of part) (lines_of list)))
 
 abbrev decreases-loop : tie.decreases-loop
 decreases-loop list part word n left₀ j₀ left j = length left
@@ -62,7 +62,7 @@ returns c =
     let scan = c.before.before.before.before.before.before in
     let a = scan.before.before.before.args in
     let at = scan.loop in
-    index-here at.j a.n a.word.now (part_of a.part) at.left.now at.invariant.1 (ended c.before)
+    index_here at.j a.n a.word.now (part_of a.part) at.left.now at.invariant.1 (ended c.before)
     (is (compared c.before) c.if2.true)
 
 take-rest-requires : tie.Need-take-rest-requires invariant-loop decreases-loop
@@ -86,9 +86,9 @@ loop-again c =
     let at = scan.loop in
     let less = rest_lt newline at.left.now c.take_rest.ensures (ended c.before.before) in (
       omega arith,
-      ap (λ (t : List ℕ). indexFrom (at.j + 1) a.n a.word.now (map (part_of a.part) (lines_of t)))
+      ap (λ (t : List ℕ). index_from (at.j + 1) a.n a.word.now (map (part_of a.part) (lines_of t)))
           c.take_rest.ensures
-          ∙ index-next at.j a.n a.word.now (part_of a.part) at.left.now at.invariant.1
+          ∙ index_next at.j a.n a.word.now (part_of a.part) at.left.now at.invariant.1
           (ended c.before.before)
           (is (compared c.before.before) c.before.if2.false),
     )
@@ -97,7 +97,7 @@ returns-2 : tie.Need-returns-2 invariant-loop decreases-loop
 returns-2 c =
     let at = c.before.before.loop in
     let a = c.before.before.before.before.before.args in
-    index-end at.j a.n a.word.now (part_of a.part) at.left.now at.invariant.1
+    index_end at.j a.n a.word.now (part_of a.part) at.left.now at.invariant.1
     (is c.before.has-byte.ensures c.if1.false)
 
 pub find_spec : {M : Type 1} → statement M

@@ -5,7 +5,7 @@ use mathlib.Core.Path.{ap, ◌∙◌}
 use lib.Dec.{ltb}
 use borrow.Author.Rules.{rules}
 use Rattle.roster.specs.Lines.{lines_of}
-use Rattle.roster.specs.Plants.{checkpointOf, indexFrom, namedBefore}
+use Rattle.roster.specs.Plants.{checkpoint_of, index_from, named_before}
 use Rattle.roster.proofs.plants.is_named_before.Statement.{statement}
 use Rattle.roster.proofs.plants.is_named_before.Tie as tie
 
@@ -16,12 +16,12 @@ find-requires : tie.Need-find-requires
 find-requires c κs = search rules
 
 returns : tie.Need-returns
-unfolding namedBefore
+unfolding named_before
 returns c =
     let a = c.before.before.before.before.args in
-    let cs = map checkpointOf (lines_of a.list.now) in
+    let cs = map checkpoint_of (lines_of a.list.now) in
     ap (λ (n : ℕ). ltb n a.i)
-    (c.find.ensures ∙ ap (λ (w : List ℕ). indexFrom 0 a.i w cs) c.before.take-checkpoint.ensures)
+    (c.find.ensures ∙ ap (λ (w : List ℕ). index_from 0 a.i w cs) c.before.take-checkpoint.ensures)
 
 pub is-named-before-spec : {M : Type 1} → statement M
 is-named-before-spec = tie.close (tie.spec take-checkpoint-requires find-requires returns)

@@ -3,7 +3,7 @@ use mathlib.Core.Bool.{not}
 use mathlib.Core.Path.{ap, ◌∙◌}
 use borrow.Author.Rules.{rules}
 use Rattle.choice.proofs.TestsLaws.{both}
-use Rattle.roster.specs.Plants.{longestBookPath, longestCheckpointPath, isWord, isPlant}
+use Rattle.roster.specs.Plants.{longest_book_path, longest_checkpoint_path, is_word, is_plant}
 use Rattle.roster.proofs.plants.is_plant.Statement.{statement}
 use Rattle.roster.proofs.plants.is_plant.Tie as tie
 
@@ -23,14 +23,14 @@ is-comment-requires : tie.Need-is-comment-requires
 is-comment-requires c κs = search rules
 
 returns : tie.Need-returns
-unfolding isPlant
+unfolding is_plant
 returns c =
     let checkpoint = c.before in
     let book = checkpoint.before.before in
     both
     (both
-    (book.is_IsWord.ensures ∙ ap (isWord longestBookPath) book.before.take-book.ensures)
-    (checkpoint.is-word2.ensures ∙ ap (isWord longestCheckpointPath) checkpoint.before.take-checkpoint.ensures))
+    (book.is_IsWord.ensures ∙ ap (is_word longest_book_path) book.before.take-book.ensures)
+    (checkpoint.is-word2.ensures ∙ ap (is_word longest_checkpoint_path) checkpoint.before.take-checkpoint.ensures))
     (ap not c.is-comment.ensures)
 
 pub is-plant-spec : {M : Type 1} → statement M

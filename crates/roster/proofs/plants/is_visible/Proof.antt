@@ -4,7 +4,7 @@ use mathlib.Core.Path.{◌≡◌, refl}
 use lib.ListN.{length, drop}
 use borrow.Author.Rules.{rules}
 use Rattle.roster.specs.Plants.{visible}
-use Rattle.roster.proofs.PlantsLaws.{visible-low, visible-next, visible-end}
+use Rattle.roster.proofs.PlantsLaws.{visible-low, visible_next, visible_end}
 use Rattle.roster.proofs.plants.is_visible.Statement.{statement}
 use Rattle.roster.proofs.plants.is_visible.Tie as tie
 
@@ -38,12 +38,12 @@ loop-again c =
     let turn = c.before.before in
     let w = turn.before.before.args.w.now in
     let at = turn.before.loop in
-    (search rules, visible-next w at.i at.invariant.1 turn.loop-test.true c.if1.false)
+    (search rules, visible_next w at.i at.invariant.1 turn.loop-test.true c.if1.false)
 
 returns-2 : tie.Need-returns-2 invariant-loop decreases-loop
 returns-2 c =
     let at = c.before.loop in
-    visible-end c.before.before.args.w.now at.i at.invariant.1 c.loop-test.false
+    visible_end c.before.before.args.w.now at.i at.invariant.1 c.loop-test.false
 
 pub is-visible-spec : {M : Type 1} → statement M
 is-visible-spec =

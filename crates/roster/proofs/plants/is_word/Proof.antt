@@ -2,7 +2,7 @@
 use mathlib.Core.Path.{refl}
 use borrow.Author.Rules.{rules}
 use Rattle.choice.proofs.TestsLaws.{both}
-use Rattle.roster.specs.Plants.{isWord}
+use Rattle.roster.specs.Plants.{is_word}
 use Rattle.roster.proofs.plants.is_word.Statement.{statement}
 use Rattle.roster.proofs.plants.is_word.Tie as tie
 
@@ -10,7 +10,7 @@ is-visible-requires : tie.Need-is-visible-requires
 is-visible-requires c κs = search rules
 
 returns : tie.Need-returns
-unfolding isWord
+unfolding is_word
 returns c = both (both refl refl) c.is-visible.ensures
 
 pub is-word-spec : {M : Type 1} → statement M

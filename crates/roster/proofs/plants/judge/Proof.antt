@@ -6,19 +6,19 @@ use mathlib.Core.Path.{◌≡◌, refl}
 use native.Mathlib.Omega.{arith}
 use lib.ListN.{length}
 use borrow.Author.Rules.{rules}
-use Rattle.choice.proofs.TestsLaws.{is, is-not, is-so}
+use Rattle.choice.proofs.TestsLaws.{is, is_not, is_so}
 use Rattle.roster.specs.Search.{has}
 use Rattle.roster.specs.Lines.{newline, split, lines_of}
-use Rattle.roster.specs.Plants.{mostPlants, checkpointOf, isPlant, verdictFrom, verdictOn}
+use Rattle.roster.specs.Plants.{most_plants, checkpoint_of, is_plant, verdict_from, verdict_on}
 use Rattle.roster.proofs.BytesLaws.{rest_lt}
-use Rattle.roster.proofs.VerdictLaws.{verdictOn-end, verdictOn-unended, verdictOn-many, verdictOn-wrong, verdictOn-again, verdictOn-next}
+use Rattle.roster.proofs.VerdictLaws.{verdict_on_end, verdict_on-unended, verdict_on_many, verdict_on_wrong, verdict_on_again, verdict_on_next}
 use Rattle.roster.proofs.plants.judge.Statement.{statement}
 use Rattle.roster.proofs.plants.judge.Tie as tie
 
 abbrev invariant-loop : tie.invariant-loop
 invariant-loop list left₀ i₀ left i =
-    (i ≤ mostPlants)
-    × (verdictFrom (map checkpointOf (lines_of list)) i (lines_of left) (split left).unended ≡ verdictOn list)
+    (i ≤ most_plants)
+    × (verdict_from (map checkpoint_of (lines_of list)) i (lines_of left) (split left).unended ≡ verdict_on list)
 
 abbrev decreases-loop : tie.decreases-loop
 decreases-loop list left₀ i₀ left i = length left
@@ -31,9 +31,9 @@ abbrev left : Head → List ℕ
 left c = c.before.before.before.before.loop.left.now
 
 ended : (c : Head) → has newline (left c) ≡ true
-ended c = is-so c.before.has-byte.ensures c.if2.false
+ended c = is_so c.before.has-byte.ensures c.if2.false
 
-few : (c : Head) → c.before.before.before.before.loop.i < mostPlants
+few : (c : Head) → c.before.before.before.before.loop.i < most_plants
 few c =
     let most = c.before.before.before.before.loop.invariant.0 in
     omega arith
@@ -45,17 +45,17 @@ Named = tie.After-is-named-before invariant-loop decreases-loop
 abbrev head : Named → Head
 head c = c.before.before.before.before
 
-plant : (c : Named) → isPlant c.before.before.before.take-front.result.now ≡ true
-plant c = is-so c.before.before.is-plant.ensures c.before.if3.false
+plant : (c : Named) → is_plant c.before.before.before.take-front.result.now ≡ true
+plant c = is_so c.before.before.is-plant.ensures c.before.if3.false
 
 loop-holds : tie.Need-loop-init invariant-loop decreases-loop
-unfolding verdictOn
+unfolding verdict_on
 loop-holds c = (zero-le, refl)
 
 returns : tie.Need-returns invariant-loop decreases-loop
 returns c =
     let at = c.before.before.loop in
-    verdictOn-many _ at.i at.left.now at.invariant.1 c.before.loop-test.true (omega arith)
+    verdict_on_many _ at.i at.left.now at.invariant.1 c.before.loop-test.true (omega arith)
 
 has-byte-requires : tie.Need-has-byte-requires invariant-loop decreases-loop
 has-byte-requires c κs = search rules
@@ -64,8 +64,8 @@ returns-2 : tie.Need-returns-2 invariant-loop decreases-loop
 returns-2 c =
     let at = c.before.before.before.before.loop in
     let most = at.invariant.0 in
-    verdictOn-unended _ at.i at.left.now at.invariant.1
-    (is-not c.before.has-byte.ensures c.if2.true) (search rules) (omega arith)
+    verdict_on-unended _ at.i at.left.now at.invariant.1
+    (is_not c.before.has-byte.ensures c.if2.true) (search rules) (omega arith)
 
 take-front-requires : tie.Need-take-front-requires invariant-loop decreases-loop
 take-front-requires c κs = search rules
@@ -77,8 +77,8 @@ returns-3 : tie.Need-returns-3 invariant-loop decreases-loop
 returns-3 c =
     let line = c.before.before in
     let at = line.before.before.before.before.before.loop in
-    verdictOn-wrong _ at.i at.left.now at.invariant.1 (ended line.before) line.take-front.ensures
-    (few line.before) (is-not c.before.is-plant.ensures c.if3.true)
+    verdict_on_wrong _ at.i at.left.now at.invariant.1 (ended line.before) line.take-front.ensures
+    (few line.before) (is_not c.before.is-plant.ensures c.if3.true)
 
 is-named-before-requires : tie.Need-is-named-before-requires invariant-loop decreases-loop
 is-named-before-requires c κs = search rules
@@ -88,7 +88,7 @@ returns-4 c =
     let here = c.before in
     let line = here.before.before.before in
     let at = (head here).before.before.before.before.loop in
-    verdictOn-again _ at.i at.left.now at.inv.1 (ended (head here)) line.take-front.ensures
+    verdict_on_again _ at.i at.left.now at.inv.1 (ended (head here)) line.take-front.ensures
     (few (head here)) (plant here) (is here.is-named-before.ensures c.if4.true)
 
 take-rest-requires : tie.Need-take-rest-requires invariant-loop decreases-loop
@@ -111,14 +111,14 @@ loop-again c =
     let low = few (head here) in
     let at = (head here).before.before.before.before.loop in (
       omega arith,
-      verdictOn-next _ at.i at.left.now at.inv.1 (ended (head here)) line.take-front.ensures low
+      verdict_on_next _ at.i at.left.now at.inv.1 (ended (head here)) line.take-front.ensures low
           (plant here) (is here.is-named-before.ensures c.before.if4.false) c.take_rest.ensures,
     )
 
 returns-5 : tie.Need-returns-5 invariant-loop decreases-loop
 returns-5 c =
     let at = c.before.loop in
-    verdictOn-end _ at.i at.left.now at.invariant.1 c.loop-test.false
+    verdict_on_end _ at.i at.left.now at.invariant.1 c.loop-test.false
 
 pub judge-spec : {M : Type 1} → statement M
 judge-spec =

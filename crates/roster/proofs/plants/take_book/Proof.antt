@@ -1,6 +1,6 @@
 -- The front of the line is its BOOK. Assumes nothing.
 use borrow.Author.Rules.{rules}
-use Rattle.roster.specs.Plants.{bookOf}
+use Rattle.roster.specs.Plants.{book_of}
 use Rattle.roster.proofs.plants.take_book.Statement.{statement}
 use Rattle.roster.proofs.plants.take_book.Tie as tie
 
@@ -8,7 +8,7 @@ take-front-requires : tie.Need-take-front-requires
 take-front-requires c κs = search rules
 
 returns : tie.Need-returns
-unfolding bookOf
+unfolding book_of
 returns c = c.take-front.ensures
 
 pub take-book-spec : {M : Type 1} → statement M

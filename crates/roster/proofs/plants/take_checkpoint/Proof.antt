@@ -1,6 +1,6 @@
 -- The rest of the line is its CHECKPOINT. Assumes nothing.
 use borrow.Author.Rules.{rules}
-use Rattle.roster.specs.Plants.{checkpointOf}
+use Rattle.roster.specs.Plants.{checkpoint_of}
 use Rattle.roster.proofs.plants.take_checkpoint.Statement.{statement}
 use Rattle.roster.proofs.plants.take_checkpoint.Tie as tie
 
@@ -8,7 +8,7 @@ take-rest-requires : tie.Need-take-rest-requires
 take-rest-requires c κs = search rules
 
 returns : tie.Need-returns
-unfolding checkpointOf
+unfolding checkpoint_of
 returns c = c.take_rest.ensures
 
 pub take-checkpoint-spec : {M : Type 1} → statement M

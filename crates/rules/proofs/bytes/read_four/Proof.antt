@@ -1,6 +1,6 @@
 -- A word is its low half and its high half. Assumes nothing.
 use Rattle.std.proofs.Common.{rules}
-use Rattle.rules.proofs.BytesLaws.{word-halves}
+use Rattle.rules.proofs.BytesLaws.{word_halves}
 use Rattle.rules.proofs.bytes.read_four.Statement.{statement}
 use Rattle.rules.proofs.bytes.read_four.Tie as tie
 
@@ -24,7 +24,7 @@ returns c =
     let a = c.before.before.before.args in
     let low = c.before.read-two in
     let high = c.read-two2 in
-    word-halves a.s.now a.at 2 low.result high.result low.ensures.0 high.ensures.0 low.ensures.1
+    word_halves a.s.now a.at 2 low.result high.result low.ensures.0 high.ensures.0 low.ensures.1
     high.ensures.1
 
 pub read-four-spec : {M : Type 1} → statement M

@@ -1,8 +1,8 @@
 -- The flag decides between the two heats, and a measured one is in its range. Assumes nothing.
 use Rattle.std.proofs.Common.{sym, refl, ◌∙◌, rules}
-use Rattle.choice.proofs.TestsLaws.{is, choose-t, choose-f}
-use Rattle.rules.specs.Entry.{heatInUse}
-use Rattle.rules.proofs.EntryLaws.{heatLimit-le}
+use Rattle.choice.proofs.TestsLaws.{is, choose_t, choose_f}
+use Rattle.rules.specs.Entry.{heat_in_use}
+use Rattle.rules.proofs.EntryLaws.{heat_limit-le}
 use Rattle.rules.proofs.entry.find_heat.Statement.{statement}
 use Rattle.rules.proofs.entry.find_heat.Tie as tie
 
@@ -12,23 +12,23 @@ is-heat-measured-requires c κs = search rules
 find-measured-requires : tie.Need-find-measured-requires
 find-measured-requires c κs =
     let h = c.before.before.before.before.requires in
-    (h.0.0, heatLimit-le _ _ h.1 (is c.before.is-heat-measured.ensures c.if1.true))
+    (h.0.0, heat_limit-le _ _ h.1 (is c.before.is-heat-measured.ensures c.if1.true))
 
 returns : tie.Need-returns
-unfolding heatInUse
+unfolding heat_in_use
 returns c =
     c.find-measured.ensures
-    ∙ sym (choose-t _ (is c.before.before.is-heat-measured.ensures c.before.if1.true) refl)
+    ∙ sym (choose_t _ (is c.before.before.is-heat-measured.ensures c.before.if1.true) refl)
 
 default-heat-requires : tie.Need-default-heat-requires
 default-heat-requires c κs = search rules
 
 returns-2 : tie.Need-returns-2
-unfolding heatInUse
+unfolding heat_in_use
 returns-2 c =
     let heat = c.default-heat.ensures in
     (λ i. record { 0 = heat i })
-    ∙ sym (choose-f _ (is c.before.before.is-heat-measured.ensures c.before.if1.false) refl)
+    ∙ sym (choose_f _ (is c.before.before.is-heat-measured.ensures c.before.if1.false) refl)
 
 pub find-heat-spec : {M : Type 1} → statement M
 find-heat-spec =

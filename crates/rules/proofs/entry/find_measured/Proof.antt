@@ -1,10 +1,10 @@
 -- The flag decides whether the heat is taken as it stands, and a low value in its range is one that `mass`
 -- takes. Assumes nothing.
 use Rattle.std.proofs.Common.{sym, refl, ◌∙◌, le_trans, le_of_eq, rules}
-use Rattle.choice.proofs.TestsLaws.{is, choose-t, choose-f}
+use Rattle.choice.proofs.TestsLaws.{is, choose_t, choose_f}
 use Rattle.mass.specs.Fuel.{high_of}
-use Rattle.rules.specs.Entry.{measuredHeat}
-use Rattle.rules.proofs.EntryLaws.{heatLimit-low}
+use Rattle.rules.specs.Entry.{measured_heat}
+use Rattle.rules.proofs.EntryLaws.{heat_limit-low}
 use Rattle.rules.proofs.entry.find_measured.Statement.{statement}
 use Rattle.rules.proofs.entry.find_measured.Tie as tie
 
@@ -18,23 +18,23 @@ find-high-requires : tie.Need-find-high-requires
 find-high-requires c κs =
     let h = c.before.before in
     let low = is c.before.is-heat-low.ensures c.if1.true in
-    le_trans (le_of_eq h.heat.ensures) (heatLimit-low _ low h.before.before.requires.1)
+    le_trans (le_of_eq h.heat.ensures) (heat_limit-low _ low h.before.before.requires.1)
 
 returns : tie.Need-returns
-unfolding measuredHeat
+unfolding measured_heat
 returns c =
     let low = c.before.before in
     let heat = low.before.heat.ensures in
     c.find-high.ensures
     ∙ (λ i. high_of (record { 0 = heat i }))
-    ∙ sym (choose-t _ (is low.is-heat-low.ensures c.before.if1.true) refl)
+    ∙ sym (choose_t _ (is low.is-heat-low.ensures c.before.if1.true) refl)
 
 returns-2 : tie.Need-returns-2
-unfolding measuredHeat
+unfolding measured_heat
 returns-2 c =
     let heat = c.before.before.heat.ensures in
     (λ i. record { 0 = heat i })
-    ∙ sym (choose-f _ (is c.before.is-heat-low.ensures c.if1.false) refl)
+    ∙ sym (choose_f _ (is c.before.is-heat-low.ensures c.if1.false) refl)
 
 pub find-measured-spec : {M : Type 1} → statement M
 find-measured-spec =

@@ -1,11 +1,11 @@
 -- The entry is the definition's. Assumes nothing.
 use Rattle.std.proofs.Common.{refl}
-use Rattle.rules.specs.Entry.{co2Alone}
+use Rattle.rules.specs.Entry.{co2_alone}
 use Rattle.rules.proofs.entry.give_co2.Statement.{statement}
 use Rattle.rules.proofs.entry.give_co2.Tie as tie
 
 returns : tie.Need-returns
-unfolding co2Alone
+unfolding co2_alone
 returns c = refl
 
 pub give-co2-spec : {M : Type 1} → statement M

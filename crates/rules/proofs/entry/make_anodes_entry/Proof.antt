@@ -1,8 +1,8 @@
 -- In their ranges, the numbers are in the reach of `mass`. Assumes nothing.
 use Rattle.std.proofs.Common.{ap, ◌∙◌, le_trans, le_of_eq, rules}
-use Rattle.mass.specs.Anode.{co2OfAnodes}
-use Rattle.rules.specs.Entry.{co2Alone, anodesEntry}
-use Rattle.rules.proofs.EntryLaws.{anodes-reach}
+use Rattle.mass.specs.Anode.{co2_of_anodes}
+use Rattle.rules.specs.Entry.{co2_alone, anodes_entry}
+use Rattle.rules.proofs.EntryLaws.{anodes_reach}
 use Rattle.rules.proofs.entry.make_anodes_entry.Statement.{statement}
 use Rattle.rules.proofs.entry.make_anodes_entry.Tie as tie
 
@@ -20,26 +20,26 @@ weigh-requires c κs =
     let metal = c.before.before.metal.ensures in
     let used = c.before.anode-use.ensures in
     let sum = c.sum-impurities.ensures in
-    let reach = anodes-reach _ c.before.before.before.before.requires.1 in
+    let reach = anodes_reach _ c.before.before.before.before.requires.1 in
     record {
-      metal-le = le_trans (le_of_eq metal) reach.metal-le;
-      use-le = le_trans (le_of_eq used) reach.use-le;
-      impurities-le = le_trans (le_of_eq sum) reach.impurities-le;
+      metal_le = le_trans (le_of_eq metal) reach.metal_le;
+      use_le = le_trans (le_of_eq used) reach.use_le;
+      impurities_le = le_trans (le_of_eq sum) reach.impurities_le;
     }
 
 give-co2-requires : tie.Need-give-co2-requires
 give-co2-requires c κs = search rules
 
 returns : tie.Need-returns
-unfolding anodesEntry
+unfolding anodes_entry
 returns c =
     let weighed = c.before in
     let sum = weighed.before.sum-impurities.ensures in
     let used = weighed.before.before.anode-use.ensures in
     let metal = weighed.before.before.before.metal.ensures in
     let co2 = weighed.weigh.ensures
-    ∙ λ i. co2OfAnodes (record { 0 = metal i }) (record { 0 = used i }) (record { 0 = sum i }) in
-    c.give-co2.ensures ∙ ap co2Alone co2
+    ∙ λ i. co2_of_anodes (record { 0 = metal i }) (record { 0 = used i }) (record { 0 = sum i }) in
+    c.give-co2.ensures ∙ ap co2_alone co2
 
 pub make-anodes-entry-spec : {M : Type 1} → statement M
 make-anodes-entry-spec =

@@ -1,7 +1,7 @@
 -- Each field is its callee's, and the ranges keep the products in reach. Assumes nothing.
 use Rattle.std.proofs.Common.{◌≡◌, ◌∙◌, le_trans, le_of_eq, arith, rules}
-use Rattle.mass.specs.Fuel.{traceOfHeat}
-use Rattle.rules.specs.Entry.{heatInUse, entryBy}
+use Rattle.mass.specs.Fuel.{trace_of_heat}
+use Rattle.rules.specs.Entry.{heat_in_use, entry_by}
 use Rattle.rules.proofs.EntryLaws.{Reach, reach}
 use Rattle.rules.proofs.entry.make_entry.Statement.{statement}
 use Rattle.rules.proofs.entry.make_entry.Tie as tie
@@ -12,7 +12,7 @@ entry c = c.before.before.before.before.before
 in_reach : (c : tie.After-amount) → Reach (entry c).args.l.now (entry c).args.f.now
 in_reach c = let h = (entry c).requires in reach _ _ h.1.0 h.1.1.0
 
-used : (c : tie.After-amount) → (entry c).args.h ≡ heatInUse (entry c).args.l.now (entry c).args.f.now
+used : (c : tie.After-amount) → (entry c).args.h ≡ heat_in_use (entry c).args.l.now (entry c).args.f.now
 used c = (entry c).requires.1.1.1
 
 find-destination-requires : tie.Need-find-destination-requires
@@ -31,9 +31,9 @@ weigh-trace-requires : tie.Need-weigh-trace-requires
 weigh-trace-requires c κs =
     let amount = c.before.amount.ensures in
     let factor = c.ch4-factor.ensures in
-    let r = (in_reach c.before).by-ch4 in
-    let heat-in = le_trans (le_of_eq (λ i. (used c.before i).0)) r.heat-le in
-    record { amount-le = omega arith; heat-le = heat-in; factor-le = omega arith }
+    let r = (in_reach c.before).by_ch4 in
+    let heat-in = le_trans (le_of_eq (λ i. (used c.before i).0)) r.heat_le in
+    record { amount_le = omega arith; heat_le = heat-in; factor_le = omega arith }
 
 n2o-factor-requires : tie.Need-n2o-factor-requires
 n2o-factor-requires c κs = search rules
@@ -43,12 +43,12 @@ weigh-trace-requires-2 c κs =
     let a = c.before.before.before in
     let amount = a.amount.ensures in
     let factor = c.n2o-factor.ensures in
-    let r = (in_reach a).by-n2o in
-    let heat-in = le_trans (le_of_eq (λ i. (used a i).0)) r.heat-le in
-    record { amount-le = omega arith; heat-le = heat-in; factor-le = omega arith }
+    let r = (in_reach a).by_n2o in
+    let heat-in = le_trans (le_of_eq (λ i. (used a i).0)) r.heat_le in
+    record { amount_le = omega arith; heat_le = heat-in; factor_le = omega arith }
 
 returns : tie.Need-returns
-unfolding entryBy
+unfolding entry_by
 returns c =
     let a = c.before.before.before.before in
     let amount = a.amount.ensures in
@@ -58,9 +58,9 @@ returns c =
     let destination = a.before.before.find-destination.ensures in
     let co2 = a.before.weigh-co2.ensures in
     let ch4 = c.before.before.weigh-trace.ensures
-    ∙ (λ i. traceOfHeat (record { 0 = amount i }) (heat i) (record { 0 = ch4-factor i })) in
+    ∙ (λ i. trace_of_heat (record { 0 = amount i }) (heat i) (record { 0 = ch4-factor i })) in
     let n2o = c.weigh-trace2.ensures
-    ∙ (λ i. traceOfHeat (record { 0 = amount i }) (heat i) (record { 0 = n2o-factor i })) in
+    ∙ (λ i. trace_of_heat (record { 0 = amount i }) (heat i) (record { 0 = n2o-factor i })) in
     λ i. record { method = (entry a).args.method; destination = destination i; co2 = co2 i; ch4 = ch4 i; n2o = n2o i }
 
 pub make-entry-spec : {M : Type 1} → statement M

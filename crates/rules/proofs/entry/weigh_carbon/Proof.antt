@@ -1,10 +1,10 @@
 -- The ranges keep the products in reach, and the kind of the record decides between the masses.
 -- Assumes nothing.
 use Rattle.std.proofs.Common.{sym, refl, ◌∙◌, arith, rules}
-use Rattle.choice.proofs.TestsLaws.{is, choose-t, choose-f}
-use Rattle.mass.specs.Fuel.{co2OfCarbon}
-use Rattle.mass.specs.Gas.{co2OfGas}
-use Rattle.rules.specs.Entry.{co2ByCarbon}
+use Rattle.choice.proofs.TestsLaws.{is, choose_t, choose_f}
+use Rattle.mass.specs.Fuel.{co2_of_carbon}
+use Rattle.mass.specs.Gas.{co2_of_gas}
+use Rattle.rules.specs.Entry.{co2_by_carbon}
 use Rattle.rules.proofs.EntryLaws.{Reach, reach}
 use Rattle.rules.proofs.entry.weigh_carbon.Statement.{statement}
 use Rattle.rules.proofs.entry.weigh_carbon.Tie as tie
@@ -39,17 +39,17 @@ weigh-requires c κs =
     let carbon = read.carbon.ensures in
     let weight = c.before.molecular-weight.ensures in
     let volume = c.molar-volume.ensures in
-    let r = (in_reach read).by-gas (is test.before.is-analysed.ensures test.if1.true) in
+    let r = (in_reach read).by_gas (is test.before.is-analysed.ensures test.if1.true) in
     record {
-      amount-le = omega arith;
-      carbon-le = omega arith;
-      weight-le = omega arith;
-      volume-ge = omega arith;
-      volume-le = omega arith;
+      amount_le = omega arith;
+      carbon_le = omega arith;
+      weight_le = omega arith;
+      volume_ge = omega arith;
+      volume_le = omega arith;
     }
 
 returns : tie.Need-returns
-unfolding co2ByCarbon
+unfolding co2_by_carbon
 returns c =
     let test = c.before.before.before in
     let read = test.before.before in
@@ -58,27 +58,27 @@ returns c =
     let weight = c.before.before.molecular-weight.ensures in
     let volume = c.before.molar-volume.ensures in
     c.weigh.ensures
-    ∙ (λ i. co2OfGas (record { 0 = amount i }) (record { 0 = carbon i }) (record { 0 = weight i }) (record { 0 = volume i }))
-    ∙ sym (choose-t _ (is test.before.is-analysed.ensures test.if1.true) refl)
+    ∙ (λ i. co2_of_gas (record { 0 = amount i }) (record { 0 = carbon i }) (record { 0 = weight i }) (record { 0 = volume i }))
+    ∙ sym (choose_t _ (is test.before.is-analysed.ensures test.if1.true) refl)
 
 weigh-by-carbon-requires : tie.Need-weigh-by-carbon-requires
 weigh-by-carbon-requires c κs =
     let read = c.before.before in
     let amount = read.before.amount.ensures in
     let carbon = read.carbon.ensures in
-    let r = (in_reach read).by-carbon (is c.before.is-analysed.ensures c.if1.false) in
-    record { amount-le = omega arith; carbon-le = omega arith }
+    let r = (in_reach read).by_carbon (is c.before.is-analysed.ensures c.if1.false) in
+    record { amount_le = omega arith; carbon_le = omega arith }
 
 returns-2 : tie.Need-returns-2
-unfolding co2ByCarbon
+unfolding co2_by_carbon
 returns-2 c =
     let test = c.before in
     let read = test.before.before in
     let amount = read.before.amount.ensures in
     let carbon = read.carbon.ensures in
     c.weigh-by-carbon.ensures
-    ∙ (λ i. co2OfCarbon (record { 0 = amount i }) (record { 0 = carbon i }))
-    ∙ sym (choose-f _ (is test.before.is-analysed.ensures test.if1.false) refl)
+    ∙ (λ i. co2_of_carbon (record { 0 = amount i }) (record { 0 = carbon i }))
+    ∙ sym (choose_f _ (is test.before.is-analysed.ensures test.if1.false) refl)
 
 pub weigh-carbon-spec : {M : Type 1} → statement M
 weigh-carbon-spec =

@@ -1,8 +1,8 @@
 -- The ranges keep the products in reach, and each method is its own mass. Assumes nothing.
 use Rattle.std.proofs.Common.{◌≡◌, sym, refl, ◌∙◌, le_trans, le_of_eq, arith, rules, eq-eqb, ne_eqb}
-use Rattle.choice.proofs.TestsLaws.{choose-t, choose-f}
-use Rattle.mass.specs.Fuel.{co2OfHeat}
-use Rattle.rules.specs.Entry.{heatInUse, co2By}
+use Rattle.choice.proofs.TestsLaws.{choose_t, choose_f}
+use Rattle.mass.specs.Fuel.{co2_of_heat}
+use Rattle.rules.specs.Entry.{heat_in_use, co2_by}
 use Rattle.rules.proofs.EntryLaws.{reach}
 use Rattle.rules.proofs.entry.weigh_co2.Statement.{statement}
 use Rattle.rules.proofs.entry.weigh_co2.Tie as tie
@@ -10,12 +10,12 @@ use Rattle.rules.proofs.entry.weigh_co2.Tie as tie
 abbrev entry : tie.After-amount → tie.Start
 entry c = c.before.before.before.before.before
 
-used : (c : tie.After-amount) → (entry c).args.h ≡ heatInUse (entry c).args.l.now (entry c).args.f.now
+used : (c : tie.After-amount) → (entry c).args.h ≡ heat_in_use (entry c).args.l.now (entry c).args.f.now
 used c = (entry c).requires.1.1.1
 
 returns : tie.Need-returns
-unfolding co2By
-returns c = sym (choose-t _ (eq-eqb _ _ c.if1.true) refl)
+unfolding co2_by
+returns c = sym (choose_t _ (eq-eqb _ _ c.if1.true) refl)
 
 weigh-carbon-requires : tie.Need-weigh-carbon-requires
 weigh-carbon-requires c κs =
@@ -23,10 +23,10 @@ weigh-carbon-requires c κs =
     (h.0, (h.1.0, h.1.1.0))
 
 returns-2 : tie.Need-returns-2
-unfolding co2By
+unfolding co2_by
 returns-2 c =
     c.weigh-carbon.ensures
-    ∙ sym (choose-f _ (ne_eqb _ _ c.before.before.if1.false) (choose-t _ (eq-eqb _ _ c.before.if2.true) refl))
+    ∙ sym (choose_f _ (ne_eqb _ _ c.before.before.if1.false) (choose_t _ (eq-eqb _ _ c.before.if2.true) refl))
 
 amount-requires : tie.Need-amount-requires
 amount-requires c κs = search rules
@@ -40,20 +40,20 @@ weigh-by-heat-requires c κs =
     let amount = a.amount.ensures in
     let factor = c.co2-factor.ensures in
     let h = (entry a).requires in
-    let r = (reach _ _ h.1.0 h.1.1.0).by-co2 in
-    let heat-in = le_trans (le_of_eq (λ i. (used a i).0)) r.heat-le in
-    record { amount-le = omega arith; heat-le = heat-in; factor-le = omega arith }
+    let r = (reach _ _ h.1.0 h.1.1.0).by_co2 in
+    let heat-in = le_trans (le_of_eq (λ i. (used a i).0)) r.heat_le in
+    record { amount_le = omega arith; heat_le = heat-in; factor_le = omega arith }
 
 returns-3 : tie.Need-returns-3
-unfolding co2By
+unfolding co2_by
 returns-3 c =
     let a = c.before.before in
     let amount = a.amount.ensures in
     let heat = used a in
     let factor = c.before.co2-factor.ensures in
     c.weigh-by-heat.ensures
-    ∙ (λ i. co2OfHeat (record { 0 = amount i }) (heat i) (record { 0 = factor i }))
-    ∙ sym (choose-f _ (ne_eqb _ _ a.before.before.if1.false) (choose-f _ (ne_eqb _ _ a.before.if2.false) refl))
+    ∙ (λ i. co2_of_heat (record { 0 = amount i }) (heat i) (record { 0 = factor i }))
+    ∙ sym (choose_f _ (ne_eqb _ _ a.before.before.if1.false) (choose_f _ (ne_eqb _ _ a.before.if2.false) refl))
 
 pub weigh-co2-spec : {M : Type 1} → statement M
 weigh-co2-spec =

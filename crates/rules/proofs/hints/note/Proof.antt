@@ -2,7 +2,7 @@
 use Rattle.std.proofs.Common.{◌≡◌, ℕ, ◌-◌, ◌%◌, ◌≤◌, length, ap, ◌∙◌, arith, rules}
 use Rattle.rules.specs.Fields.{number}
 use Rattle.rules.specs.Hints.{hinted}
-use Rattle.rules.proofs.HintsLaws.{length-hinted, hinted-zero, hinted-next, hintsIn-all}
+use Rattle.rules.proofs.HintsLaws.{length-hinted, hinted-zero, hinted_next, hints_in-all}
 use Rattle.rules.proofs.hints.note.Statement.{statement}
 use Rattle.rules.proofs.hints.note.Tie as tie
 
@@ -42,13 +42,13 @@ loop-again : tie.Need-loop-preserved invariant-loop decreases-loop
 loop-again c =
     let line = c.before.take-line.ensures.0 in
     let last = ap (λ (x : ℕ). x % 1024) (c.number.ensures ∙ ap number line) in
-    (search rules, hinted-next _ _ _ last c.before.before.before.loop.invariant.1)
+    (search rules, hinted_next _ _ _ last c.before.before.before.loop.invariant.1)
 
 same_length : tie.Need-same-length invariant-loop decreases-loop
 same_length c = same c.before
 
 returns : tie.Need-returns invariant-loop decreases-loop
-returns c = c.before.loop.invariant.1 ∙ hintsIn-all _ _ _ (omega arith)
+returns c = c.before.loop.invariant.1 ∙ hints_in-all _ _ _ (omega arith)
 
 pub note-spec : {M : Type 1} → statement M
 note-spec =

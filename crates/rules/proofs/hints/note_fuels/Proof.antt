@@ -1,22 +1,22 @@
 -- An opened book has room for its fuel lines, and they are few. Assumes nothing.
 use Rattle.std.proofs.Common.{arith, rules}
-use Rattle.rules.specs.Book.{fuelOk}
-use Rattle.rules.proofs.LinesLaws.{rising-linesSound}
-use Rattle.rules.proofs.BookLaws.{Accepted, accepted-facts}
+use Rattle.rules.specs.Book.{fuel_ok}
+use Rattle.rules.proofs.LinesLaws.{rising_lines_sound}
+use Rattle.rules.proofs.BookLaws.{Accepted, accepted_facts}
 use Rattle.rules.proofs.hints.note_fuels.Statement.{statement}
 use Rattle.rules.proofs.hints.note_fuels.Tie as tie
 
 known : (c : tie.Start) → Accepted c.args.book.now c.args.h
-known c = accepted-facts _ _ c.requires.0
+known c = accepted_facts _ _ c.requires.0
 
 sub-end : tie.Need-overflow-sub-end
 sub-end c = let k = known c.before.before.before in omega arith
 
 sub-note : tie.Need-overflow-sub-note
-sub-note c = (known c.before.before.before).fuels-le
+sub-note c = (known c.before.before.before).fuels_le
 
 part-note-start : tie.Need-slice-bounds-note-start
-part-note-start c = (known c.before.before.before).fuels-le
+part-note-start c = (known c.before.before.before).fuels_le
 
 part-note-end : tie.Need-slice-bounds-note-end
 part-note-end c = let k = known c.before.before.before in omega arith
@@ -24,7 +24,7 @@ part-note-end c = let k = known c.before.before.before in omega arith
 note-requires : tie.Need-note-requires
 note-requires c κs =
     let begun = c.before.before.before.before.before in
-    (omega (arith, (rising-linesSound fuelOk _ (known begun).fuels-sound).few), begun.requires.1)
+    (omega (arith, (rising_lines_sound fuel_ok _ (known begun).fuels_sound).few), begun.requires.1)
 
 same_length : tie.Need-same-length
 same_length c = search rules

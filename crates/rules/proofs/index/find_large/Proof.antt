@@ -2,8 +2,8 @@
 use Rattle.std.proofs.Common.{◌≡◌, ℕ, ◌||◌, eqb, sym, refl, ap₂, rules}
 use lib.Bits.{bit_and}
 use Rattle.choice.specs.Tests.{◌either◌}
-use Rattle.choice.proofs.TestsLaws.{choose-t, choose-f, is, any}
-use Rattle.rules.specs.Index.{largeFlags}
+use Rattle.choice.proofs.TestsLaws.{choose_t, choose_f, is, any}
+use Rattle.rules.specs.Index.{large_flags}
 use Rattle.rules.proofs.index.find_large.Statement.{statement}
 use Rattle.rules.proofs.index.find_large.Tie as tie
 
@@ -11,16 +11,16 @@ refined : {r n : ℕ} → r ≡ n → (eqb r 1 || eqb r 2) ≡ (eqb n 1 either e
 refined e = any (λ i. eqb (e i) 1) (λ i. eqb (e i) 2)
 
 returns : tie.Need-returns
-unfolding largeFlags
+unfolding large_flags
 returns c =
     let class = c.before.before.fuel-class.ensures in
-    ap₂ bit_and c.find-allowed.ensures (sym (choose-t _ (is (refined class) c.before.if1.true) refl))
+    ap₂ bit_and c.find-allowed.ensures (sym (choose_t _ (is (refined class) c.before.if1.true) refl))
 
 returns-2 : tie.Need-returns-2
-unfolding largeFlags
+unfolding large_flags
 returns-2 c =
     let class = c.before.before.fuel-class.ensures in
-    ap₂ bit_and c.find-allowed2.ensures (sym (choose-f _ (is (refined class) c.before.if1.false) refl))
+    ap₂ bit_and c.find-allowed2.ensures (sym (choose_f _ (is (refined class) c.before.if1.false) refl))
 
 pub find-large-spec : {M : Type 1} → statement M
 find-large-spec =

@@ -1,25 +1,25 @@
 -- The monitor decides, then whether it measures dry. Assumes nothing.
 use Rattle.std.proofs.Common.{sym, refl, rules}
-use Rattle.choice.proofs.TestsLaws.{choose-t, choose-f, is, is-so, is-not}
-use Rattle.rules.specs.Index.{moistBelow}
+use Rattle.choice.proofs.TestsLaws.{choose_t, choose_f, is, is_so, is_not}
+use Rattle.rules.specs.Index.{moist_below}
 use Rattle.rules.proofs.index.find_moist.Statement.{statement}
 use Rattle.rules.proofs.index.find_moist.Tie as tie
 
 returns : tie.Need-returns
-unfolding moistBelow
-returns c = sym (choose-f _ (is-not c.before.is-monitored.ensures c.if1.true) refl)
+unfolding moist_below
+returns c = sym (choose_f _ (is_not c.before.is-monitored.ensures c.if1.true) refl)
 
 returns-2 : tie.Need-returns-2
-unfolding moistBelow
+unfolding moist_below
 returns-2 c =
-    let monitor = is-so c.before.before.before.is-monitored.ensures c.before.before.if1.false in
-    sym (choose-t _ monitor (choose-t _ (is c.before.is-dry.ensures c.if2.true) refl))
+    let monitor = is_so c.before.before.before.is-monitored.ensures c.before.before.if1.false in
+    sym (choose_t _ monitor (choose_t _ (is c.before.is-dry.ensures c.if2.true) refl))
 
 returns-3 : tie.Need-returns-3
-unfolding moistBelow
+unfolding moist_below
 returns-3 c =
-    let monitor = is-so c.before.before.before.is-monitored.ensures c.before.before.if1.false in
-    sym (choose-t _ monitor (choose-f _ (is c.before.is-dry.ensures c.if2.false) refl))
+    let monitor = is_so c.before.before.before.is-monitored.ensures c.before.before.if1.false in
+    sym (choose_t _ monitor (choose_f _ (is c.before.is-dry.ensures c.if2.false) refl))
 
 pub find-moist-spec : {M : Type 1} → statement M
 find-moist-spec =

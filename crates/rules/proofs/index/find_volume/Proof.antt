@@ -1,19 +1,19 @@
 -- The fuel's kind decides. Assumes nothing.
 use Rattle.std.proofs.Common.{sym, refl, rules}
-use Rattle.choice.proofs.TestsLaws.{choose-t, choose-f, eq_of, ne_of}
-use Rattle.rules.specs.Index.{volumeOf}
+use Rattle.choice.proofs.TestsLaws.{choose_t, choose_f, eq_of, ne_of}
+use Rattle.rules.specs.Index.{volume_of}
 use Rattle.rules.proofs.index.find_volume.Statement.{statement}
 use Rattle.rules.proofs.index.find_volume.Tie as tie
 
 returns : tie.Need-returns
-unfolding volumeOf
+unfolding volume_of
 returns c =
     let gas = eq_of c.before.before.fuel-kind.ensures c.before.if1.true in
-    sym (choose-t _ gas (sym c.molar-volume.ensures))
+    sym (choose_t _ gas (sym c.molar-volume.ensures))
 
 returns-2 : tie.Need-returns-2
-unfolding volumeOf
-returns-2 c = sym (choose-f _ (ne_of c.before.fuel-kind.ensures c.if1.false) refl)
+unfolding volume_of
+returns-2 c = sym (choose_f _ (ne_of c.before.fuel-kind.ensures c.if1.false) refl)
 
 pub find-volume-spec : {M : Type 1} → statement M
 find-volume-spec = tie.close (tie.spec (λ c κs. search rules) (λ c κs. search rules) returns returns-2)

@@ -1,12 +1,12 @@
 -- After j turns the columns hold the first j lines, and a hint is the place of one of these few. Assumes nothing.
 use Rattle.std.proofs.Common.{◌-◌, ◌<◌, ◌≤◌, arith, lit≤, rules}
 use Rattle.rules.specs.Index.{Small}
-use Rattle.rules.proofs.IndexLaws.{Columns, fuelColumns, columns-blank, fuelColumns-next, fuelsNoted-all, small-blank, small-set, number-line-lt}
+use Rattle.rules.proofs.IndexLaws.{Columns, fuel_columns, columns-blank, fuel_columns_next, fuels_noted_all, small-blank, small-set, number-line-lt}
 use Rattle.rules.proofs.index.note_fuel_lines.Statement.{statement}
 use Rattle.rules.proofs.index.note_fuel_lines.Tie as tie
 
 abbrev invariant-loop : tie.invariant-loop
-invariant-loop s fuels₀ hints₀ n j₀ fuels hints j = (j ≤ n) × Columns s j fuels fuelColumns 0 × Small hints
+invariant-loop s fuels₀ hints₀ n j₀ fuels hints j = (j ≤ n) × Columns s j fuels fuel_columns 0 × Small hints
 
 abbrev decreases-loop : tie.decreases-loop
 decreases-loop s fuels₀ hints₀ n j₀ fuels hints j = n - j
@@ -18,7 +18,7 @@ few c = omega (arith, c.before.before.before.requires.0.few)
 loop-holds : tie.Need-loop-init invariant-loop decreases-loop
 loop-holds c =
     let blank = c.before.requires.1 in
-    (omega arith, columns-blank fuelColumns _ 0 320 (lit≤ tt) blank.0, small-blank blank.1)
+    (omega arith, columns-blank fuel_columns _ 0 320 (lit≤ tt) blank.0, small-blank blank.1)
 
 cast-fuels : tie.Need-overflow-cast-fuels invariant-loop decreases-loop
 cast-fuels c =
@@ -34,7 +34,7 @@ loop-again c =
     let inv = turn.before.loop.invariant in
     let line = c.before.before.before.before.before.take-line.ensures.0 in (
       search rules,
-      fuelColumns-next (few turn) inv.1 line
+      fuel_columns_next (few turn) inv.1 line
           c.before.before.before.before.number.ensures
           c.before.before.before.find-large.ensures
           c.before.before.find-allowed.ensures
@@ -46,7 +46,7 @@ loop-again c =
 returns : tie.Need-returns invariant-loop decreases-loop
 returns c =
     let inv = c.before.loop.invariant in
-    (fuelsNoted-all (omega arith) inv.1, inv.2)
+    (fuels_noted_all (omega arith) inv.1, inv.2)
 
 pub note-fuel-lines-spec : {M : Type 1} → statement M
 note-fuel-lines-spec =

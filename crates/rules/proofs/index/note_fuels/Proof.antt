@@ -1,22 +1,22 @@
 -- An opened book's fuel lines rise. Assumes nothing.
 use Rattle.std.proofs.Common.{arith, rules}
-use Rattle.rules.specs.Book.{fuelOk}
-use Rattle.rules.proofs.LinesLaws.{rising-linesSound}
-use Rattle.rules.proofs.BookLaws.{Accepted, accepted-facts}
+use Rattle.rules.specs.Book.{fuel_ok}
+use Rattle.rules.proofs.LinesLaws.{rising_lines_sound}
+use Rattle.rules.proofs.BookLaws.{Accepted, accepted_facts}
 use Rattle.rules.proofs.index.note_fuels.Statement.{statement}
 use Rattle.rules.proofs.index.note_fuels.Tie as tie
 
 known : (c : tie.Start) → Accepted c.args.book.now c.args.h
-known c = accepted-facts _ _ c.requires.0
+known c = accepted_facts _ _ c.requires.0
 
 sub-end : tie.Need-overflow-sub-end
 sub-end c = let k = known c.before.before in omega arith
 
 sub-note-fuel-lines : tie.Need-overflow-sub-note-fuel-lines
-sub-note-fuel-lines c = (known c.before.before).fuels-le
+sub-note-fuel-lines c = (known c.before.before).fuels_le
 
 part-note-fuel-lines-start : tie.Need-slice-bounds-note-fuel-lines-start
-part-note-fuel-lines-start c = (known c.before.before).fuels-le
+part-note-fuel-lines-start c = (known c.before.before).fuels_le
 
 part-note-fuel-lines-end : tie.Need-slice-bounds-note-fuel-lines-end
 part-note-fuel-lines-end c = let k = known c.before.before in omega arith
@@ -24,7 +24,7 @@ part-note-fuel-lines-end c = let k = known c.before.before in omega arith
 note-fuel-lines-requires : tie.Need-note-fuel-lines-requires
 note-fuel-lines-requires c κs =
     let begun = c.before.before.before.before.before in
-    (rising-linesSound fuelOk _ (known begun).fuels-sound, begun.requires.1)
+    (rising_lines_sound fuel_ok _ (known begun).fuels_sound, begun.requires.1)
 
 pub note-fuels-spec : {M : Type 1} → statement M
 note-fuels-spec =

@@ -1,12 +1,12 @@
 -- After j turns the columns hold the first j lines, and a hint is the place of one of these few. Assumes nothing.
 use Rattle.std.proofs.Common.{◌-◌, ◌<◌, ◌≤◌, arith, lit≤, rules}
 use Rattle.rules.specs.Index.{Small}
-use Rattle.rules.proofs.IndexLaws.{Columns, unitColumns, columns-blank, unitColumns-next, unitsNoted-all, small-blank, small-set, number-line-lt}
+use Rattle.rules.proofs.IndexLaws.{Columns, unit_columns, columns-blank, unit_columns_next, units_noted_all, small-blank, small-set, number-line-lt}
 use Rattle.rules.proofs.index.note_unit_lines.Statement.{statement}
 use Rattle.rules.proofs.index.note_unit_lines.Tie as tie
 
 abbrev invariant-loop : tie.invariant-loop
-invariant-loop s units₀ hints₀ n j₀ units hints j = (j ≤ n) × Columns s j units unitColumns 0 × Small hints
+invariant-loop s units₀ hints₀ n j₀ units hints j = (j ≤ n) × Columns s j units unit_columns 0 × Small hints
 
 abbrev decreases-loop : tie.decreases-loop
 decreases-loop s units₀ hints₀ n j₀ units hints j = n - j
@@ -18,7 +18,7 @@ few c = omega (arith, c.before.before.before.requires.0.few)
 loop-holds : tie.Need-loop-init invariant-loop decreases-loop
 loop-holds c =
     let blank = c.before.requires.1 in
-    (omega arith, columns-blank unitColumns _ 0 256 (lit≤ tt) blank.0, small-blank blank.1)
+    (omega arith, columns-blank unit_columns _ 0 256 (lit≤ tt) blank.0, small-blank blank.1)
 
 cast-units : tie.Need-overflow-cast-units invariant-loop decreases-loop
 cast-units c =
@@ -34,7 +34,7 @@ loop-again c =
     let inv = turn.before.loop.invariant in
     let line = c.before.before.before.before.take-line.ensures.0 in (
       search rules,
-      unitColumns-next (few turn) inv.1 line
+      unit_columns_next (few turn) inv.1 line
           c.before.before.before.number.ensures
           c.before.before.find-column.ensures
           c.before.find-way.ensures
@@ -45,7 +45,7 @@ loop-again c =
 returns : tie.Need-returns invariant-loop decreases-loop
 returns c =
     let inv = c.before.loop.invariant in
-    (unitsNoted-all (omega arith) inv.1, inv.2)
+    (units_noted_all (omega arith) inv.1, inv.2)
 
 pub note-unit-lines-spec : {M : Type 1} → statement M
 note-unit-lines-spec =

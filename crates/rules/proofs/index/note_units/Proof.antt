@@ -1,19 +1,19 @@
 -- An opened book's unit lines rise. Assumes nothing.
 use Rattle.std.proofs.Common.{arith, rules}
-use Rattle.rules.specs.Book.{unitOk}
-use Rattle.rules.proofs.LinesLaws.{rising-linesSound}
-use Rattle.rules.proofs.BookLaws.{Accepted, accepted-facts}
+use Rattle.rules.specs.Book.{unit_ok}
+use Rattle.rules.proofs.LinesLaws.{rising_lines_sound}
+use Rattle.rules.proofs.BookLaws.{Accepted, accepted_facts}
 use Rattle.rules.proofs.index.note_units.Statement.{statement}
 use Rattle.rules.proofs.index.note_units.Tie as tie
 
 known : (c : tie.Start) → Accepted c.args.book.now c.args.h
-known c = accepted-facts _ _ c.requires.0
+known c = accepted_facts _ _ c.requires.0
 
 sub-note-unit-lines : tie.Need-overflow-sub-note-unit-lines
-sub-note-unit-lines c = (known c.before).units-le
+sub-note-unit-lines c = (known c.before).units_le
 
 part-note-unit-lines-start : tie.Need-slice-bounds-note-unit-lines-start
-part-note-unit-lines-start c = (known c.before).units-le
+part-note-unit-lines-start c = (known c.before).units_le
 
 part-note-unit-lines-end : tie.Need-slice-bounds-note-unit-lines-end
 part-note-unit-lines-end c = let k = known c.before in omega arith
@@ -21,7 +21,7 @@ part-note-unit-lines-end c = let k = known c.before in omega arith
 note-unit-lines-requires : tie.Need-note-unit-lines-requires
 note-unit-lines-requires c κs =
     let begun = c.before.before.before.before in
-    (rising-linesSound unitOk _ (known begun).units-sound, begun.requires.1)
+    (rising_lines_sound unit_ok _ (known begun).units_sound, begun.requires.1)
 
 pub note-units-spec : {M : Type 1} → statement M
 note-units-spec =

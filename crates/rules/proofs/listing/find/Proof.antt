@@ -1,7 +1,7 @@
 -- A line that has the number is the only one, however it was come upon. Assumes nothing.
 use Rattle.std.proofs.Common.{◌%◌, ap, ◌∙◌, arith, rules}
 use Rattle.rules.specs.Fields.{number}
-use Rattle.rules.proofs.ListingLaws.{place-mid}
+use Rattle.rules.proofs.ListingLaws.{place_mid}
 use Rattle.rules.proofs.listing.find.Statement.{statement}
 use Rattle.rules.proofs.listing.find.Tie as tie
 
@@ -23,7 +23,7 @@ returns c =
     let there = read.before.before in
     let number_is = read.number.ensures ∙ ap number read.before.take-line.ensures.0 in
     let rising = there.before.before.before.before.before.requires in
-    place-mid _ _ _ _ rising there.if2.true number_is c.if3.true
+    place_mid _ _ _ _ rising there.if2.true number_is c.if3.true
 
 halve-requires : tie.Need-halve-requires
 halve-requires c κs = search rules

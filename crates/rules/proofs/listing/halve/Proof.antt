@@ -1,11 +1,11 @@
 -- What lies outside the lines that are left has another number. Assumes nothing.
 use Rattle.std.proofs.Common.{◌≡◌, ℕ, ◌+◌, ◌-◌, ◌*◌, ◌/◌, ◌%◌, ◌<◌, ◌≤◌, length, refl, ap, ◌∙◌, subst, arith, rules}
-use Rattle.choice.proofs.Splitting.{if-lt}
+use Rattle.choice.proofs.Splitting.{if_lt}
 use Rattle.rules.specs.Bytes.{byte}
 use Rattle.rules.specs.Fields.{number}
 use Rattle.rules.specs.Listing.{number_at}
 use Rattle.rules.proofs.IndexLaws.{number-line-lt}
-use Rattle.rules.proofs.ListingLaws.{Between, between_start, between_none, place_none, place-mid, between-half}
+use Rattle.rules.proofs.ListingLaws.{Between, between_start, between_none, place_none, place_mid, between_half}
 use Rattle.rules.proofs.listing.halve.Statement.{statement}
 use Rattle.rules.proofs.listing.halve.Tie as tie
 
@@ -58,7 +58,7 @@ halved c =
     let loop = (turn c).before.loop in
     let a = (start (turn c)).args in
     let upper = upper_is a.x c.number.result (number_lt c) in
-    between-half a.s.now (a.x % 65536) loop.low (loop.width / 2) loop.width c.number.result
+    between_half a.s.now (a.x % 65536) loop.low (loop.width / 2) loop.width c.number.result
     ((65536 + a.x % 65536 - c.number.result) / 65536) (start (turn c)).pre (mid-lt (turn c)) (number_is c)
     (omega arith) upper.0 upper.1 loop.inv.2
 
@@ -85,7 +85,7 @@ returns-2 c =
     let read = c.before in
     let ended = read.before.before in
     let rising = ended.before.before.before.before.requires in
-    place-mid _ _ _ _ rising (omega arith) (read.number2.ensures ∙ ap number read.before.take-line2.ensures.0) c.if2.true
+    place_mid _ _ _ _ rising (omega arith) (read.number2.ensures ∙ ap number read.before.take-line2.ensures.0) c.if2.true
 
 returns-3 : tie.Need-returns-3 invariant-loop decreases-loop
 returns-3 c =
@@ -95,7 +95,7 @@ returns-3 c =
     let s = known.before.args.s.now in
     let x = known.before.args.x in
     let number_is = read.number2.ensures ∙ ap number read.before.take-line2.ensures.0 in
-    if-lt x 65536
+    if_lt x 65536
     (λ small.
     let whole : x % 65536 ≡ x = omega arith in
     let between = subst (λ (y : ℕ). Between s y loop.low (loop.low + loop.width)) whole loop.invariant.2 in

@@ -1,7 +1,7 @@
 -- The code's row of tests, of the fields that it read, is the definition's. Assumes nothing.
 use Rattle.std.proofs.Common.{leb, ap, ◌∙◌, ap₂, rules}
 use Rattle.choice.proofs.TestsLaws.{both}
-use Rattle.rules.specs.Book.{kindClassOk, molarVolumeOk, fuelHeadOk}
+use Rattle.rules.specs.Book.{kind_class_ok, molar_volume_ok, fuel_head_ok}
 use Rattle.rules.proofs.listing.is_fuel_head_right.Statement.{statement}
 use Rattle.rules.proofs.listing.is_fuel_head_right.Tie as tie
 
@@ -33,18 +33,18 @@ is-molar-volume-right-requires : tie.Need-is-molar-volume-right-requires
 is-molar-volume-right-requires c κs = search rules
 
 returns : tie.Need-returns
-unfolding fuelHeadOk
+unfolding fuel_head_ok
 returns c =
     let factors = c.before.before in
     let agreed = factors.before.before.before.before in
     let kind = agreed.before.before.fuel-kind.ensures in
     let class = agreed.before.fuel-class.ensures in
-    let agree = agreed.do-agree.ensures ∙ ap₂ kindClassOk kind class in
+    let agree = agreed.do-agree.ensures ∙ ap₂ kind_class_ok kind class in
     let heat = factors.before.before.before.default-heat.ensures in
     let co2 = factors.before.before.co2-factor.ensures in
     let ch4 = factors.before.ch4-factor.ensures in
     let n2o = factors.n2o-factor.ensures in
-    let volume = c.is-molar-volume-right.ensures ∙ ap molarVolumeOk c.before.molar-volume.ensures in
+    let volume = c.is-molar-volume-right.ensures ∙ ap molar_volume_ok c.before.molar-volume.ensures in
     both
     (both
     (both

@@ -1,6 +1,6 @@
 -- Either sort has its own row of tests. Assumes nothing.
 use Rattle.std.proofs.Common.{sym, ◌∙◌, rules}
-use Rattle.rules.specs.Listing.{headOk}
+use Rattle.rules.specs.Listing.{head_ok}
 use Rattle.rules.proofs.listing.is_head_right.Statement.{statement}
 use Rattle.rules.proofs.listing.is_head_right.Tie as tie
 
@@ -20,13 +20,13 @@ returns : tie.Need-returns
 returns c =
     let a = c.before.before.before.before.args in
     let unit = c.before.enum_told.given.1 in
-    c.is-unit-head-right.ensures ∙ sym (λ i. headOk (unit i) a.l.now)
+    c.is-unit-head-right.ensures ∙ sym (λ i. head_ok (unit i) a.l.now)
 
 returns-2 : tie.Need-returns-2
 returns-2 c =
     let a = c.before.before.before.before.args in
     let fuel = c.before.enum-told2.given.1 in
-    c.is-fuel-head-right.ensures ∙ sym (λ i. headOk (fuel i) a.l.now)
+    c.is-fuel-head-right.ensures ∙ sym (λ i. head_ok (fuel i) a.l.now)
 
 pub is-head-right-spec : {M : Type 1} → statement M
 is-head-right-spec =

@@ -24,9 +24,9 @@ use denote.Struct.Rest.{own_put}
 use denote.Triple.Statement.{Contract, Triple}
 use denote.Triple.Entry.{on_entry}
 use denote.Triple.Table.{cited}
-use Rattle.rules.specs.Reader.{placeAfter, advanced}
+use Rattle.rules.specs.Reader.{place_after, advanced}
 use Rattle.rules.specs.declared.reader.Reader.{Reader}
-use Rattle.rules.proofs.WalkLaws.{contractOf, held, sets, lays, answers, gone, nothing-kept, exits, meets}
+use Rattle.rules.proofs.WalkLaws.{contract_of, held, sets, lays, answers, gone, nothing_kept, exits, meets}
 use Rattle.rules.proofs.ReaderHeld.{type, laws, mach, parts, passed, tokens, own, apart}
 use Rattle.rules.proofs.reader.Reader.TheLaws as T'
 use Rattle.rules.specs.contracts.reader.step_from as called
@@ -42,17 +42,17 @@ module _ {M : Type 1} {𝓤 : Ura M} (𝓛 : Logic 𝓤) (mem : Memory → SProp
     (run : Routine → Fun 𝓤) where
   -- the contract that the proof cites, and the one that the walk ends in
   abbrev Called : Contract 𝓤
-  Called = contractOf 𝓛 called.ended (called.clauses 𝓛 mem run)
+  Called = contract_of 𝓛 called.ended (called.clauses 𝓛 mem run)
 
   abbrev Own : Contract 𝓤
-  Own = nothing-kept 𝓛 this.ended (this.clauses 𝓛 mem run)
+  Own = nothing_kept 𝓛 this.ended (this.clauses 𝓛 mem run)
 
 module _ {M : Type 1} {𝓤 : Ura M} (𝓛 : Logic 𝓤) (mem : Memory → SProp 𝓤)
     (run : Routine → Fun 𝓤) (κ : Lft) (q : Share) (d : Reader) where
   open 𝓛 use {H}
 
   abbrev After : ℕ → Type 0
-  After n = n ≡ placeAfter d.book.now d.next
+  After n = n ≡ place_after d.book.now d.next
 
   -- the reader that is handed back, at the place n
   abbrev made : ℕ → Reader

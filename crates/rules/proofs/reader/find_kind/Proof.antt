@@ -1,6 +1,6 @@
 -- The code asks for a whole line first, as the definition does. Assumes nothing.
 use Rattle.std.proofs.Common.{sym, refl, ap, ◌∙◌, rules, le-ltb, lt-ltb}
-use Rattle.choice.proofs.TestsLaws.{choose-t, choose-f}
+use Rattle.choice.proofs.TestsLaws.{choose_t, choose_f}
 use Rattle.rules.specs.Fields.{kind}
 use Rattle.rules.specs.Reader.{kind_at}
 use Rattle.rules.proofs.reader.find_kind.Statement.{statement}
@@ -17,11 +17,11 @@ unfolding kind_at
 returns c =
     c.kind.ensures
     ∙ ap kind c.before.take-line.ensures.0
-    ∙ sym (choose-t _ (lt-ltb _ _ c.before.before.if1.true) refl)
+    ∙ sym (choose_t _ (lt-ltb _ _ c.before.before.if1.true) refl)
 
 returns-2 : tie.Need-returns-2
 unfolding kind_at
-returns-2 c = sym (choose-f _ (le-ltb _ _ c.if1.false) refl)
+returns-2 c = sym (choose_f _ (le-ltb _ _ c.if1.false) refl)
 
 pub find-kind-spec : {M : Type 1} → statement M
 find-kind-spec = tie.close (tie.spec take-line-requires kind-requires returns returns-2)

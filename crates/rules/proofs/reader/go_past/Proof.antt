@@ -27,9 +27,9 @@ use denote.Triple.Entry.{on_entry}
 use denote.Triple.Table.{cited}
 use Rattle.rules.specs.declared.reader.Reader.{Reader}
 use Rattle.rules.specs.declared.reader.Onward.{Onward}
-use Rattle.rules.specs.Reader.{leftFrom, placeAfter, advanced}
-use Rattle.rules.proofs.WalkLaws.{held, sets, lays, gone, also, nothing-kept, exits, meets}
-use Rattle.rules.proofs.ReaderHeld.{row, type, laws, mach, parts, bytes, passed, Moved, Left, tokens, own, made, well-made, typed, Told, hands}
+use Rattle.rules.specs.Reader.{left_from, place_after, advanced}
+use Rattle.rules.proofs.WalkLaws.{held, sets, lays, gone, also, nothing_kept, exits, meets}
+use Rattle.rules.proofs.ReaderHeld.{row, type, laws, mach, parts, bytes, passed, Moved, Left, tokens, own, made, well_made, typed, Told, hands}
 use Rattle.rules.specs.contracts.reader.Onward as Z
 use Rattle.rules.proofs.reader.Onward.TheLaws as Z'
 use Rattle.rules.proofs.reader.advance.Symbol as advance
@@ -50,7 +50,7 @@ module _ {M : Type 1} {𝓤 : Ura M} (𝓛 : Logic 𝓤) (mem : Memory → SProp
   open 𝓛 use {H}
 
   abbrev Own : Contract 𝓤
-  Own = nothing-kept 𝓛 this.ended (this.clauses 𝓛 mem run)
+  Own = nothing_kept 𝓛 this.ended (this.clauses 𝓛 mem run)
 
   abbrev outside : Own.Ghost
   outside = (((κ, tt), (q, tt), tt, parts d, passed d), tt)
@@ -59,9 +59,9 @@ module _ {M : Type 1} {𝓤 : Ura M} (𝓛 : Logic 𝓤) (mem : Memory → SProp
       → ent 𝓤 (emp 𝓤) ((this.clauses 𝓛 mem run (κ, tt) (parts d)).ensures tt (onward p k) (parts d))
   unfolding advanced
   holds p k moved left =
-      also 𝓤 (fact_i 𝓤 (p.next ≡ placeAfter d.book.now d.next) (emp 𝓤) (ap (λ (r : Reader). r.next) moved))
-      (fact_i 𝓤 (k ≡ leftFrom d.book.now p.next) (emp 𝓤)
-      (left ∙ ap (λ (r : Reader). leftFrom r.book.now p.next) moved))
+      also 𝓤 (fact_i 𝓤 (p.next ≡ place_after d.book.now d.next) (emp 𝓤) (ap (λ (r : Reader). r.next) moved))
+      (fact_i 𝓤 (k ≡ left_from d.book.now p.next) (emp 𝓤)
+      (left ∙ ap (λ (r : Reader). left_from r.book.now p.next) moved))
 
   module _ (C : Calls 𝓤 H) (Λ : Loops 𝓤 H) (fm : FmC 𝓤 H 𝓛.laws C)
       (advances : Triple 𝓤 (C advance.name) (Told row 𝓛 (λ _. Moved)))
@@ -123,4 +123,4 @@ go-past-spec 𝓤 𝓛 𝓜 𝓡 =
     (advance-thm.met 𝓤 𝓛 𝓜 𝓡))
     (cited 𝓤 𝓛.H _ 𝓜 𝓡 code.env count_left.name count_left.routine code.calls-rules::reader::count-left
     (count-left-thm.met 𝓤 𝓛 𝓜 𝓡))
-    (well-made 𝓛 κs.0 qs.0 (record { book = a.0; next = a.1.0 }) are))
+    (well_made 𝓛 κs.0 qs.0 (record { book = a.0; next = a.1.0 }) are))

@@ -1,8 +1,8 @@
 -- What `open` answers decides, and the two say the same of each answer. Assumes nothing.
 use Rattle.std.proofs.Common.{sym, ap, ◌∙◌, rules}
 use Rattle.rules.specs.Book.{Answer, answer}
-use Rattle.rules.specs.Reader.{sightBy, sightAt, sight}
-use Rattle.rules.proofs.BookLaws.{opened-open}
+use Rattle.rules.specs.Reader.{sight_by, sight_at, sight}
+use Rattle.rules.proofs.BookLaws.{opened_open}
 use Rattle.rules.proofs.reader.look.Statement.{statement}
 use Rattle.rules.proofs.reader.look.Tie as tie
 
@@ -16,22 +16,22 @@ enum-known-h : tie.Need-enum-known-h
 enum-known-h c = search rules
 
 look-in-requires : tie.Need-look-in-requires
-look-in-requires c κs = opened-open _ c.before.before.before.«open».ensures c.before.h.given.1
+look-in-requires c κs = opened_open _ c.before.before.before.«open».ensures c.before.h.given.1
 
 returns : tie.Need-returns
-unfolding sightAt sightBy sight answer
+unfolding sight_at sight_by sight answer
 returns c =
     let a = c.before.before.before.before.before.args in
     let answered = sym c.before.before.before.«open».ensures ∙ ap answer c.before.fault.given.1 in
-    sym (ap (λ (x : Answer). sightBy x a.book.now a.i) answered)
+    sym (ap (λ (x : Answer). sight_by x a.book.now a.i) answered)
 
 returns-2 : tie.Need-returns-2
-unfolding sightAt
+unfolding sight_at
 returns-2 c =
     let told = c.before.before in
     let a = told.before.before.before.before.args in
-    let answered = opened-open _ told.before.before.«open».ensures told.h.given.1 in
-    c.look_in.ensures ∙ sym (ap (λ (x : Answer). sightBy x a.book.now a.i) answered)
+    let answered = opened_open _ told.before.before.«open».ensures told.h.given.1 in
+    c.look_in.ensures ∙ sym (ap (λ (x : Answer). sight_by x a.book.now a.i) answered)
 
 pub look_spec : {M : Type 1} → statement M
 look_spec =

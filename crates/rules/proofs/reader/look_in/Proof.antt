@@ -1,7 +1,7 @@
 -- A record below n is judged, and there is none past it. Assumes nothing.
 use Rattle.std.proofs.Common.{sym, refl, ap, rules, le-ltb, lt-ltb}
-use Rattle.choice.proofs.TestsLaws.{choose-t, choose-f}
-use Rattle.rules.specs.Reader.{shown, sightBy, sight}
+use Rattle.choice.proofs.TestsLaws.{choose_t, choose_f}
+use Rattle.rules.specs.Reader.{shown, sight_by, sight}
 use Rattle.rules.proofs.reader.look_in.Statement.{statement}
 use Rattle.rules.proofs.reader.look_in.Tie as tie
 
@@ -9,12 +9,12 @@ judge-requires : tie.Need-judge-requires
 judge-requires c κs = search rules
 
 returns : tie.Need-returns
-unfolding sightBy sight
-returns c = sym (choose-t _ (lt-ltb _ _ c.before.if1.true) (ap shown (sym c.judge.ensures)))
+unfolding sight_by sight
+returns c = sym (choose_t _ (lt-ltb _ _ c.before.if1.true) (ap shown (sym c.judge.ensures)))
 
 returns-2 : tie.Need-returns-2
-unfolding sightBy sight
-returns-2 c = sym (choose-f _ (le-ltb _ _ c.if1.false) refl)
+unfolding sight_by sight
+returns-2 c = sym (choose_f _ (le-ltb _ _ c.if1.false) refl)
 
 pub look-in-spec : {M : Type 1} → statement M
 look-in-spec = tie.close (tie.spec judge-requires returns returns-2)

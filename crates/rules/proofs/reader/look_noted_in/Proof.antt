@@ -1,8 +1,8 @@
 -- A record below n is judged by the table and noted in it, and there is none past it. Assumes nothing.
 use Rattle.std.proofs.Common.{sym, refl, ap, arith, rules, le-ltb, lt-ltb}
-use Rattle.choice.proofs.TestsLaws.{choose-t, choose-f}
-use Rattle.rules.specs.Reader.{shown, sightBy, sight}
-use Rattle.rules.specs.Table.{notingBy}
+use Rattle.choice.proofs.TestsLaws.{choose_t, choose_f}
+use Rattle.rules.specs.Reader.{shown, sight_by, sight}
+use Rattle.rules.specs.Table.{noting_by}
 use Rattle.rules.proofs.reader.look_noted_in.Statement.{statement}
 use Rattle.rules.proofs.reader.look_noted_in.Tie as tie
 
@@ -10,23 +10,23 @@ judge-next-requires : tie.Need-judge-next-requires
 judge-next-requires c κs =
     let start = c.before.before.before.before in
     let there = c.before.if1.true in
-    (start.requires.0, (there, start.requires.1.of-book start.args.h start.requires.0 (omega arith)))
+    (start.requires.0, (there, start.requires.1.of_book start.args.h start.requires.0 (omega arith)))
 
 same_length : tie.Need-same-length
 same_length c = search rules
 
 returns : tie.Need-returns
-unfolding sightBy sight notingBy
+unfolding sight_by sight noting_by
 returns c =
     let judged = c.before.before.judge-next.ensures in
     let there = lt-ltb _ _ c.before.before.before.before.if1.true in
-    (sym (choose-t _ there (ap shown (sym judged.0))), sym (choose-t _ there (sym judged.1)))
+    (sym (choose_t _ there (ap shown (sym judged.0))), sym (choose_t _ there (sym judged.1)))
 
 returns-2 : tie.Need-returns-2
-unfolding sightBy sight notingBy
+unfolding sight_by sight noting_by
 returns-2 c =
     let past = le-ltb _ _ c.if1.false in
-    (sym (choose-f _ past refl), sym (choose-f _ past refl))
+    (sym (choose_f _ past refl), sym (choose_f _ past refl))
 
 pub look-noted-in-spec : {M : Type 1} → statement M
 look-noted-in-spec = tie.close (tie.spec judge-next-requires same_length returns returns-2)

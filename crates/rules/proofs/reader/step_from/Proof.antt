@@ -1,8 +1,8 @@
--- Each branch's test says which side `placeAfter` takes, and a place below a slice's length has one
+-- Each branch's test says which side `place_after` takes, and a place below a slice's length has one
 -- after it. Assumes nothing.
 use Rattle.std.proofs.Common.{sym, refl, rules, le-ltb, lt-ltb}
-use Rattle.choice.proofs.TestsLaws.{choose-t, choose-f}
-use Rattle.rules.specs.Reader.{placeAfter}
+use Rattle.choice.proofs.TestsLaws.{choose_t, choose_f}
+use Rattle.rules.specs.Reader.{place_after}
 use Rattle.rules.proofs.reader.step_from.Statement.{statement}
 use Rattle.rules.proofs.reader.step_from.Tie as tie
 
@@ -10,12 +10,12 @@ add-result : tie.Need-overflow-add-result
 add-result c = search rules
 
 returns : tie.Need-returns
-unfolding placeAfter
-returns c = sym (choose-t _ (lt-ltb _ _ c.if1.true) refl)
+unfolding place_after
+returns c = sym (choose_t _ (lt-ltb _ _ c.if1.true) refl)
 
 returns-2 : tie.Need-returns-2
-unfolding placeAfter
-returns-2 c = sym (choose-f _ (le-ltb _ _ c.if1.false) refl)
+unfolding place_after
+returns-2 c = sym (choose_f _ (le-ltb _ _ c.if1.false) refl)
 
 pub step-from-spec : {M : Type 1} → statement M
 step-from-spec = tie.close (tie.spec add-result returns returns-2)

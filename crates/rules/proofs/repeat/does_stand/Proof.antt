@@ -2,15 +2,15 @@
 -- nothing.
 use Rattle.std.proofs.Common.{◌≡◌, ℕ, ◌-◌, ◌≤◌, List, sym, ◌∙◌, subst, rules}
 use Rattle.rules.specs.Bytes.{line, lines}
-use Rattle.rules.specs.Repeat.{standsAmong}
-use Rattle.rules.specs.Key.{Keyed, standsIn}
-use Rattle.rules.proofs.KeyLaws.{scan-start, scan-found, scan-on}
+use Rattle.rules.specs.Repeat.{stands_among}
+use Rattle.rules.specs.Key.{Keyed, stands_in}
+use Rattle.rules.proofs.KeyLaws.{scan_start, scan_found, scan_on}
 use Rattle.rules.proofs.repeat.does_stand.Statement.{statement}
 use Rattle.rules.proofs.repeat.does_stand.Tie as tie
 
 abbrev invariant-loop : tie.invariant-loop
 invariant-loop book i key j₀ j =
-    (j ≤ i) × (standsAmong (line i book) (lines i book) ≡ standsIn (line i book) j (i - j) book)
+    (j ≤ i) × (stands_among (line i book) (lines i book) ≡ stands_in (line i book) j (i - j) book)
 
 abbrev decreases-loop : tie.decreases-loop
 decreases-loop book i key j₀ j = i - j
@@ -28,7 +28,7 @@ read-key-requires : tie.Need-read-key-requires invariant-loop decreases-loop
 read-key-requires c κs = search rules
 
 loop-holds : tie.Need-loop-init invariant-loop decreases-loop
-loop-holds c = (search rules, scan-start _ _ _)
+loop-holds c = (search rules, scan_start _ _ _)
 
 add-loop : tie.Need-overflow-add-loop invariant-loop decreases-loop
 add-loop c = search rules
@@ -41,7 +41,7 @@ returns c =
     let turn = c.before.before in
     let at = turn.before in
     let told = c.before.is-one-of-four.ensures _ (own at.before) in
-    sym (at.loop.invariant.1 ∙ scan-found _ _ _ _ 4 turn.loop-test.true told c.if1.true)
+    sym (at.loop.invariant.1 ∙ scan_found _ _ _ _ 4 turn.loop-test.true told c.if1.true)
 
 add-j : tie.Need-overflow-add-j invariant-loop decreases-loop
 add-j c = search rules
@@ -54,7 +54,7 @@ loop-again c =
     let turn = c.before.before in
     let at = turn.before in
     let told = c.before.is-one-of-four.ensures _ (own at.before) in
-    (search rules, at.loop.invariant.1 ∙ scan-on _ _ _ _ 4 turn.loop-test.true told c.if1.false)
+    (search rules, at.loop.invariant.1 ∙ scan_on _ _ _ _ 4 turn.loop-test.true told c.if1.false)
 
 is-one-of-requires : tie.Need-is-one-of-requires invariant-loop decreases-loop
 is-one-of-requires c κs = search rules

@@ -1,7 +1,7 @@
 -- The keys of two records are equal exactly if kind, unit and period are. Assumes nothing.
 use Rattle.std.proofs.Common.{ℕ, List, subst, rules}
 use Rattle.rules.specs.Key.{Keyed}
-use Rattle.rules.proofs.KeyLaws.{standsIn-one}
+use Rattle.rules.proofs.KeyLaws.{stands_in_one}
 use Rattle.rules.proofs.repeat.has_key.Statement.{statement}
 use Rattle.rules.proofs.repeat.has_key.Tie as tie
 
@@ -16,7 +16,7 @@ returns c =
     let a = c.before.before.before.args in
     let read = c.read-key in
     let key = subst (λ (l : List ℕ). Keyed l read.result) c.before.take-line.ensures.0 read.ensures in
-    λ l h. standsIn-one l a.j a.book.now h key
+    λ l h. stands_in_one l a.j a.book.now h key
 
 pub has-key-spec : {M : Type 1} → statement M
 has-key-spec = tie.close (tie.spec take-line-requires read-key-requires returns)

@@ -1,6 +1,6 @@
 -- Four lines are three and one more, and so on down to one. Assumes nothing.
 use Rattle.std.proofs.Common.{rules}
-use Rattle.rules.proofs.KeyLaws.{standsIn-more}
+use Rattle.rules.proofs.KeyLaws.{stands_in_more}
 use Rattle.rules.proofs.repeat.is_one_of_four.Statement.{statement}
 use Rattle.rules.proofs.repeat.is_one_of_four.Tie as tie
 
@@ -31,9 +31,9 @@ returns c = λ l h.
     let a = first.before.before.args in
     let j = a.j in
     let s = a.book.now in
-    let two = standsIn-more l j s 1 (first.has_key_lem.ensures l h) (c.before.before.has-key2.ensures l h) in
-    let three = standsIn-more l j s 2 two (c.before.has-key3.ensures l h) in
-    standsIn-more l j s 3 three (c.has-key4.ensures l h)
+    let two = stands_in_more l j s 1 (first.has_key_lem.ensures l h) (c.before.before.has-key2.ensures l h) in
+    let three = stands_in_more l j s 2 two (c.before.has-key3.ensures l h) in
+    stands_in_more l j s 3 three (c.has-key4.ensures l h)
 
 pub is-one-of-four-spec : {M : Type 1} → statement M
 is-one-of-four-spec =

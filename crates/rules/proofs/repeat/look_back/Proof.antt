@@ -1,7 +1,7 @@
 -- What is set aside stays so, and of a record that would count the lines before are looked at. Assumes
 -- nothing.
 use Rattle.std.proofs.Common.{Bool, refl, ap, ◌∙◌, rules}
-use Rattle.rules.specs.Record.{unlessRepeated}
+use Rattle.rules.specs.Record.{unless_repeated}
 use Rattle.rules.proofs.repeat.look_back.Statement.{statement}
 use Rattle.rules.proofs.repeat.look_back.Tie as tie
 
@@ -18,13 +18,13 @@ withhold-requires : tie.Need-withhold-requires
 withhold-requires c κs = search rules
 
 returns : tie.Need-returns
-unfolding unlessRepeated
+unfolding unless_repeated
 returns c = rw c.enum_told.given.1 refl
 
 returns-2 : tie.Need-returns-2
 returns-2 c =
     c.withhold.ensures
-    ∙ ap (λ (b : Bool). unlessRepeated b c.before.before.before.before.before.args.o) c.before.is-repeated.ensures
+    ∙ ap (λ (b : Bool). unless_repeated b c.before.before.before.before.before.args.o) c.before.is-repeated.ensures
 
 pub look-back-spec : {M : Type 1} → statement M
 look-back-spec =

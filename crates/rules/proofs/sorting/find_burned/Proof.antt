@@ -1,28 +1,28 @@
 -- A heat in its range leaves room for the product. Assumes nothing.
 use Rattle.std.proofs.Common.{◌≡◌, ◌+◌, ◌-◌, ◌*◌, ◌%◌, ◌≤◌, mul-le-mul, arith, rules}
-use Rattle.rules.specs.Entry.{measuredHeat}
-use Rattle.rules.specs.AtOnce.{amountBurned}
-use Rattle.rules.proofs.EntryLaws.{measuredHeat-le}
-use Rattle.rules.proofs.SortingLaws.{heatLimit-right}
+use Rattle.rules.specs.Entry.{measured_heat}
+use Rattle.rules.specs.AtOnce.{amount_burned}
+use Rattle.rules.proofs.EntryLaws.{measured_heat-le}
+use Rattle.rules.proofs.SortingLaws.{heat_limit_right}
 use Rattle.rules.proofs.sorting.find_burned.Statement.{statement}
 use Rattle.rules.proofs.sorting.find_burned.Tie as tie
 
 find-measured-requires : tie.Need-find-measured-requires
-find-measured-requires c κs = (search rules, heatLimit-right _ c.before.before.requires.1)
+find-measured-requires c κs = (search rules, heat_limit_right _ c.before.before.requires.1)
 
 mul-result : tie.Need-overflow-mul-result
 mul-result c =
     let found = c.before.before in
     let begun = found.before.before.before in
-    let heat-is : found.find-measured.result.0 ≡ (measuredHeat begun.args.l.now).0 =
+    let heat-is : found.find-measured.result.0 ≡ (measured_heat begun.args.l.now).0 =
     λ i. (found.find-measured.ensures i).0 in
-    let few = measuredHeat-le _ (heatLimit-right _ begun.requires.1) in
+    let few = measured_heat-le _ (heat_limit_right _ begun.requires.1) in
     let product : c.before.amount.result * (found.find-measured.result.0 + 1 - found.before.flags.result % 2)
     ≤ 4294967295 * 200001 = mul-le-mul {n₂ = 4294967295} {m₂ = 200001} (omega arith) (omega arith) in
     omega arith
 
 returns : tie.Need-returns
-unfolding amountBurned
+unfolding amount_burned
 returns c =
     let found = c.before.before in
     let amount = c.before.amount.ensures in

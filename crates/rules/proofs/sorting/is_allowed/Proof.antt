@@ -1,11 +1,11 @@
 -- The code's test is the definition's. Assumes nothing.
 use Rattle.std.proofs.Common.{◌/◌, ◌%◌, ◌^◌, eqb, rules}
-use Rattle.rules.specs.AtOnce.{allowedBy}
+use Rattle.rules.specs.AtOnce.{allowed_by}
 use Rattle.rules.proofs.sorting.is_allowed.Statement.{statement}
 use Rattle.rules.proofs.sorting.is_allowed.Tie as tie
 
 returns : tie.Need-returns
-unfolding allowedBy
+unfolding allowed_by
 returns c =
     let flags = c.flags.ensures in
     λ i. eqb (c.before.before.args.allowed / 2 ^ (flags i % 32) % 2) 1

@@ -1,6 +1,6 @@
 -- The code's test is the definition's, and the limit leaves room for the product. Assumes nothing.
 use Rattle.std.proofs.Common.{◌*◌, ◌/◌, ◌%◌, ◌≤◌, leb, mul-le-mul, arith, rules}
-use Rattle.rules.specs.AtOnce.{carbonRight}
+use Rattle.rules.specs.AtOnce.{carbon_right}
 use Rattle.rules.proofs.sorting.is_carbon_right.Statement.{statement}
 use Rattle.rules.proofs.sorting.is_carbon_right.Tie as tie
 
@@ -12,7 +12,7 @@ mul-result c =
     omega arith
 
 returns : tie.Need-returns
-unfolding carbonRight
+unfolding carbon_right
 returns c =
     let limit = c.before.before.before.args.limit in
     let flags = c.before.flags.ensures in

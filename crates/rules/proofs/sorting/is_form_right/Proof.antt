@@ -1,12 +1,12 @@
 -- The code's row of tests is the definition's. Assumes nothing.
 use Rattle.std.proofs.Common.{leb, rules}
 use Rattle.choice.proofs.TestsLaws.{both}
-use Rattle.rules.specs.AtOnce.{formRight}
+use Rattle.rules.specs.AtOnce.{form_right}
 use Rattle.rules.proofs.sorting.is_form_right.Statement.{statement}
 use Rattle.rules.proofs.sorting.is_form_right.Tie as tie
 
 returns : tie.Need-returns
-unfolding formRight
+unfolding form_right
 returns c =
     let flags = c.before.before.before.flags.ensures in
     let month = c.before.before.period.ensures in

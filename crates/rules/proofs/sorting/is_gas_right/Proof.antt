@@ -1,12 +1,12 @@
 -- The code's row of tests is the definition's. Assumes nothing.
 use Rattle.std.proofs.Common.{not, leb, rules}
 use Rattle.choice.proofs.TestsLaws.{both}
-use Rattle.rules.specs.AtOnce.{gasRight}
+use Rattle.rules.specs.AtOnce.{gas_right}
 use Rattle.rules.proofs.sorting.is_gas_right.Statement.{statement}
 use Rattle.rules.proofs.sorting.is_gas_right.Tie as tie
 
 returns : tie.Need-returns
-unfolding gasRight
+unfolding gas_right
 returns c =
     let read = c.before.before in
     let flags = read.before.before.before.before.flags.ensures in

@@ -1,12 +1,12 @@
 -- The code's row of tests is the definition's. Assumes nothing.
 use Rattle.std.proofs.Common.{◌%◌, leb, get_or, rules}
 use Rattle.choice.proofs.TestsLaws.{both}
-use Rattle.rules.specs.AtOnce.{heatRight}
+use Rattle.rules.specs.AtOnce.{heat_right}
 use Rattle.rules.proofs.sorting.is_heat_right.Statement.{statement}
 use Rattle.rules.proofs.sorting.is_heat_right.Tie as tie
 
 returns : tie.Need-returns
-unfolding heatRight
+unfolding heat_right
 returns c =
     let flags = c.before.before.flags.ensures in
     let heat = c.before.heat.ensures in

@@ -2,12 +2,12 @@
 use Rattle.std.proofs.Common.{ℕ, ◌+◌, ◌-◌, ◌*◌, ◌%◌, ◌<◌, ◌≤◌, get_or, refl, ◌∙◌, le_trans, mul-le-mul, arith, lit≤, rules}
 use Rattle.rules.specs.Bytes.{byte}
 use Rattle.rules.proofs.BytesLaws.{byte-part-lt}
-use Rattle.rules.proofs.BookLaws.{accepted-facts}
-use Rattle.rules.proofs.IndexLaws.{column-le, small-hint}
-use Rattle.rules.proofs.EntryLaws.{carbonLimit-le}
+use Rattle.rules.proofs.BookLaws.{accepted_facts}
+use Rattle.rules.proofs.IndexLaws.{column_le, small_hint}
+use Rattle.rules.proofs.EntryLaws.{carbon_limit-le}
 use Rattle.rules.proofs.StandsLaws.{number-entry-le, Found}
-use Rattle.rules.proofs.SortingLaws.{wayOf-le, columnOf-le}
-use Rattle.rules.proofs.SortedFuelLaws.{Tested, tested, settled-fuel}
+use Rattle.rules.proofs.SortingLaws.{way_of-le, column_of-le}
+use Rattle.rules.proofs.SortedFuelLaws.{Tested, tested, settled_fuel}
 use Rattle.rules.proofs.sorting.sort_fuel.Statement.{statement}
 use Rattle.rules.proofs.sorting.sort_fuel.Tie as tie
 
@@ -19,13 +19,13 @@ abbrev unit-place : tie.After-fuel-number → ℕ
 unit-place c = get_or (begun c).args.by-unit.now (c.before.unit-number.result % 1024) 0
 
 abbrev fuel-place : tie.After-fuel-number → ℕ
-fuel-place c = get_or (begun c).args.by-fuel.now (c.fuel-number.result % 1024) 0
+fuel-place c = get_or (begun c).args.by_fuel.now (c.fuel-number.result % 1024) 0
 
 unit-few : (c : tie.After-fuel-number) → unit-place c < 64
-unit-few c = small-hint (begun c).requires.1.1.0.1 c.before.unit-number.result
+unit-few c = small_hint (begun c).requires.1.1.0.1 c.before.unit-number.result
 
 fuel-few : (c : tie.After-fuel-number) → fuel-place c < 64
-fuel-few c = small-hint (begun c).requires.1.1.1.1 c.fuel-number.result
+fuel-few c = small_hint (begun c).requires.1.1.1.1 c.fuel-number.result
 
 -- ---- what stands in the columns
 bytes : (c : tie.After-fuel-number) (b : ℕ) → byte (begun c).args.book.now b < 256
@@ -46,17 +46,17 @@ fuel-number-le c =
 carbon-limit-le : (c : tie.After-fuel-number) → get_or (begun c).args.fuels.now (192 + fuel-place c) 0 ≤ 4000000
 carbon-limit-le c =
     let limits = (begun c).requires.1.1.1.0.carbon in
-    column-le limits (fuel-few c) 4000000 (lit≤ tt) (λ j. carbonLimit-le _)
+    column_le limits (fuel-few c) 4000000 (lit≤ tt) (λ j. carbon_limit-le _)
 
 column-le-most : (c : tie.After-fuel-number) → get_or (begun c).args.units.now (64 + unit-place c) 0 ≤ 65536
 column-le-most c =
     let columns = (begun c).requires.1.1.0.0.columns in
-    column-le columns (unit-few c) 65536 (lit≤ tt) (λ j. le_trans (columnOf-le _) (lit≤ tt))
+    column_le columns (unit-few c) 65536 (lit≤ tt) (λ j. le_trans (column_of-le _) (lit≤ tt))
 
 way-le : (c : tie.After-fuel-number) → get_or (begun c).args.units.now (128 + unit-place c) 0 ≤ 65536
 way-le c =
     let ways = (begun c).requires.1.1.0.0.ways in
-    column-le ways (unit-few c) 65536 (lit≤ tt) (λ j. le_trans (wayOf-le _) (lit≤ tt))
+    column_le ways (unit-few c) 65536 (lit≤ tt) (λ j. le_trans (way_of-le _) (lit≤ tt))
 
 -- ---- all tests are passed
 abbrev compared : tie.After-fuel-right → tie.After-fuel-number
@@ -90,19 +90,19 @@ found c =
       unit = record {
         book = need.0;
         bytes = bytes l;
-        line-is = l.before.before.take-line.ensures.0;
+        line_is = l.before.before.take-line.ensures.0;
         units = need.1.1.0.0;
         few = unit-few l;
-        has = (tests c).unit-has ∙ l.before.unit-number.ensures;
+        has = (tests c).unit_has ∙ l.before.unit-number.ensures;
       };
       fuels = need.1.1.1.0;
       few = fuel-few l;
-      has = (tests c).fuel-has ∙ l.fuel-number.ensures;
+      has = (tests c).fuel_has ∙ l.fuel-number.ensures;
     }
 
 -- ---- the needs
 take-line-requires : tie.Need-take-line-requires
-take-line-requires c κs = let k = accepted-facts _ _ c.before.requires.0 in omega arith
+take-line-requires c κs = let k = accepted_facts _ _ c.before.requires.0 in omega arith
 
 cast-j : tie.Need-overflow-cast-j
 cast-j c = omega (arith, unit-few c.before)
@@ -199,7 +199,7 @@ returns-2 c =
     let amount = read.before.amount.ensures in
     let carbon = read.carbon.ensures in
     let told =
-    settled-fuel (found done) (tests done) _ (begun (looked done)).requires.1.0.1
+    settled_fuel (found done) (tests done) _ (begun (looked done)).requires.1.0.1
     refl (λ i. flags i % 4) c.find-burned.ensures (λ i. amount i * carbon i) refl in
     (told, refl)
 

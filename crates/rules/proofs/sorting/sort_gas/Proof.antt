@@ -1,14 +1,14 @@
 -- By the hints and the columns the tests are those of the record, its unit and its fuel, and a fuel line that breaks
 -- no rule tells a molar volume in its range. Assumes nothing.
 use Rattle.std.proofs.Common.{◌≡◌, ℕ, ◌+◌, ◌-◌, ◌*◌, ◌/◌, ◌%◌, ◌<◌, ◌≤◌, get_or, refl, ◌∙◌, mul-le-mul, arith, rules}
-use Rattle.mass.specs.Gas.{co2OfGas}
+use Rattle.mass.specs.Gas.{co2_of_gas}
 use Rattle.rules.specs.Bytes.{byte, line}
 use Rattle.rules.specs.Fields.{kind}
 use Rattle.rules.proofs.BytesLaws.{byte-part-lt}
-use Rattle.rules.proofs.BookLaws.{accepted-facts}
-use Rattle.rules.proofs.IndexLaws.{small-hint}
+use Rattle.rules.proofs.BookLaws.{accepted_facts}
+use Rattle.rules.proofs.IndexLaws.{small_hint}
 use Rattle.rules.proofs.StandsLaws.{number-entry-le, Found}
-use Rattle.rules.proofs.SortedGasLaws.{Tested, tested, way-found-le, gas-in-reach, settled-gas}
+use Rattle.rules.proofs.SortedGasLaws.{Tested, tested, way_found_le, gas_in_reach, settled_gas}
 use Rattle.rules.proofs.sorting.sort_gas.Statement.{statement}
 use Rattle.rules.proofs.sorting.sort_gas.Tie as tie
 
@@ -20,13 +20,13 @@ abbrev unit-place : tie.After-fuel-number → ℕ
 unit-place c = get_or (begun c).args.by-unit.now (c.before.unit-number.result % 1024) 0
 
 abbrev fuel-place : tie.After-fuel-number → ℕ
-fuel-place c = get_or (begun c).args.by-fuel.now (c.fuel-number.result % 1024) 0
+fuel-place c = get_or (begun c).args.by_fuel.now (c.fuel-number.result % 1024) 0
 
 unit-few : (c : tie.After-fuel-number) → unit-place c < 64
-unit-few c = small-hint (begun c).requires.1.1.0.1 c.before.unit-number.result
+unit-few c = small_hint (begun c).requires.1.1.0.1 c.before.unit-number.result
 
 fuel-few : (c : tie.After-fuel-number) → fuel-place c < 64
-fuel-few c = small-hint (begun c).requires.1.1.1.1 c.fuel-number.result
+fuel-few c = small_hint (begun c).requires.1.1.1.1 c.fuel-number.result
 
 -- ---- what stands in the columns
 bytes : (c : tie.After-fuel-number) (b : ℕ) → byte (begun c).args.book.now b < 256
@@ -74,14 +74,14 @@ found c =
       unit = record {
         book = need.0;
         bytes = bytes l;
-        line-is = l.before.before.take-line.ensures.0;
+        line_is = l.before.before.take-line.ensures.0;
         units = need.1.1.0.0;
         few = unit-few l;
-        has = (tests c).unit-has ∙ l.before.unit-number.ensures;
+        has = (tests c).unit_has ∙ l.before.unit-number.ensures;
       };
       fuels = need.1.1.1.0;
       few = fuel-few l;
-      has = (tests c).fuel-has ∙ l.fuel-number.ensures;
+      has = (tests c).fuel_has ∙ l.fuel-number.ensures;
     }
 
 analysed : (c : tie.Else1) → let a = (begun (looked c)).args in kind (line a.i a.book.now) ≡ 3
@@ -94,11 +94,11 @@ abbrev volume : tie.Else1 → ℕ
 volume c = get_or (begun (looked c)).args.fuels.now (256 + fuel-place (looked c)) 0
 
 way-le : (c : tie.Else1) → way c ≤ 4
-way-le c = way-found-le (found c) (tests c) (analysed c)
+way-le c = way_found_le (found c) (tests c) (analysed c)
 
 -- ---- the needs
 take-line-requires : tie.Need-take-line-requires
-take-line-requires c κs = let k = accepted-facts _ _ c.before.requires.0 in omega arith
+take-line-requires c κs = let k = accepted_facts _ _ c.before.requires.0 in omega arith
 
 cast-j : tie.Need-overflow-cast-j
 cast-j c = omega (arith, unit-few c.before)
@@ -166,7 +166,7 @@ mul-t53 c =
 weigh-requires : tie.Need-weigh-requires
 weigh-requires c κs =
     let done = c.before.before.before.before in
-    gas-in-reach (found done) (tests done) (analysed done) c.before.before.amount.ensures
+    gas_in_reach (found done) (tests done) (analysed done) c.before.before.amount.ensures
     c.before.carbon.ensures c.molecular-weight.ensures
 
 mul-t25 : tie.Need-overflow-mul-t25
@@ -191,9 +191,9 @@ returns-2 c =
     let carbon = weight-read.before.carbon.ensures in
     let weight = weight-read.molecular-weight.ensures in
     let co2 = weighed.weigh.ensures
-    ∙ λ i. co2OfGas (record { 0 = amount i * (1 - way done / 4) }) (record { 0 = carbon i }) (record { 0 = weight i })
+    ∙ λ i. co2_of_gas (record { 0 = amount i * (1 - way done / 4) }) (record { 0 = carbon i }) (record { 0 = weight i })
     (record { 0 = volume done }) in
-    settled-gas (found done) (tests done) (analysed done) _
+    settled_gas (found done) (tests done) (analysed done) _
     refl (λ i. 2 + flags i % 2) c.find-burned.ensures refl co2
 
 pub sort-gas-spec : {M : Type 1} → statement M

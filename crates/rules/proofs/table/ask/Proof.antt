@@ -1,6 +1,6 @@
 -- What is no table tells nothing. Assumes nothing.
 use Rattle.std.proofs.Common.{sym, refl, ◌∙◌, rules}
-use Rattle.choice.proofs.TestsLaws.{also-t, also-f, is-not, is-so}
+use Rattle.choice.proofs.TestsLaws.{also_t, also_f, is_not, is_so}
 use Rattle.rules.specs.Marks.{told}
 use Rattle.rules.proofs.TableLaws.{noting-table, noting-none}
 use Rattle.rules.proofs.table.ask.Statement.{statement}
@@ -15,14 +15,14 @@ same_length c = search rules
 returns : tie.Need-returns
 unfolding told
 returns c =
-    let none = is-not c.before.is-table.ensures c.if1.true in
-    (sym (also-f _ none), sym (noting-none _ _ _ none))
+    let none = is_not c.before.is-table.ensures c.if1.true in
+    (sym (also_f _ none), sym (noting-none _ _ _ none))
 
 note-requires : tie.Need-note-requires
 note-requires c κs =
     let test = c.before in
     let p = test.before.before.before.before.before.before.requires in
-    (p.0, (p.1.1, is-so test.before.is-table.ensures test.if1.false))
+    (p.0, (p.1.1, is_so test.before.is-table.ensures test.if1.false))
 
 same-length-2 : tie.Need-same-length-2
 same-length-2 c = search rules
@@ -32,8 +32,8 @@ unfolding told
 returns-2 c =
     let noted-now = c.before.before in
     let test = noted-now.before.before in
-    let table = is-so test.before.is-table.ensures test.if1.false in (
-      noted-now.note.ensures.0 ∙ sym (also-t table refl),
+    let table = is_so test.before.is-table.ensures test.if1.false in (
+      noted-now.note.ensures.0 ∙ sym (also_t table refl),
       noted-now.note.ensures.1 ∙ sym (noting-table _ _ _ table),
     )
 

@@ -1,25 +1,25 @@
 -- An opened book has room for its unit lines, and they are few. Assumes nothing.
 use Rattle.std.proofs.Common.{arith, rules}
-use Rattle.rules.specs.Book.{unitOk}
-use Rattle.rules.proofs.LinesLaws.{rising-linesSound}
-use Rattle.rules.proofs.BookLaws.{Accepted, accepted-facts}
+use Rattle.rules.specs.Book.{unit_ok}
+use Rattle.rules.proofs.LinesLaws.{rising_lines_sound}
+use Rattle.rules.proofs.BookLaws.{Accepted, accepted_facts}
 use Rattle.rules.proofs.table.does_serve.Statement.{statement}
 use Rattle.rules.proofs.table.does_serve.Tie as tie
 
 known : (c : tie.Start) → Accepted c.args.book.now c.args.h
-known c = accepted-facts _ _ c.requires
+known c = accepted_facts _ _ c.requires
 
 sub-is-table : tie.Need-overflow-sub-is-table
-sub-is-table c = (known c.before.before).units-le
+sub-is-table c = (known c.before.before).units_le
 
 part-is-table-start : tie.Need-slice-bounds-is-table-start
-part-is-table-start c = (known c.before.before).units-le
+part-is-table-start c = (known c.before.before).units_le
 
 part-is-table-end : tie.Need-slice-bounds-is-table-end
 part-is-table-end c = let k = known c.before.before in omega arith
 
 is-table-requires : tie.Need-is-table-requires
-is-table-requires c κs = (rising-linesSound unitOk _ (known c.before.before.before).units-sound).few
+is-table-requires c κs = (rising_lines_sound unit_ok _ (known c.before.before.before).units_sound).few
 
 pub does-serve-spec : {M : Type 1} → statement M
 does-serve-spec =

@@ -1,7 +1,7 @@
 -- The code's row of tests is the definition's. Assumes nothing.
 use Rattle.std.proofs.Common.{leb, refl, rules}
 use Rattle.choice.proofs.TestsLaws.{both}
-use Rattle.rules.specs.Table.{hasBit}
+use Rattle.rules.specs.Table.{has_bit}
 use Rattle.rules.proofs.table.has_bit.Statement.{statement}
 use Rattle.rules.proofs.table.has_bit.Tie as tie
 
@@ -9,7 +9,7 @@ find-last-period-requires : tie.Need-find-last-period-requires
 find-last-period-requires c κs = search rules
 
 returns : tie.Need-returns
-unfolding hasBit
+unfolding has_bit
 returns c = let last = c.find-last-period.ensures in both refl (λ i. leb c.before.args.period (last i))
 
 pub has-bit-spec : {M : Type 1} → statement M

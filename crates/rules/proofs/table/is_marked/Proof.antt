@@ -1,8 +1,8 @@
 -- The shifted word's last bit is the bit asked for. Assumes nothing.
 use Rattle.std.proofs.Common.{ℕ, ◌+◌, ◌*◌, ◌/◌, ◌%◌, eqb, get_or, ap, rules}
-use Rattle.rules.specs.Table.{rowWords}
+use Rattle.rules.specs.Table.{row_words}
 use Rattle.rules.specs.Marks.{marked}
-use Rattle.rules.proofs.BitLaws.{bitAt-and}
+use Rattle.rules.proofs.BitLaws.{bit_at-and}
 use Rattle.rules.proofs.table.is_marked.Statement.{statement}
 use Rattle.rules.proofs.table.is_marked.Tie as tie
 
@@ -25,7 +25,7 @@ returns : tie.Need-returns
 unfolding marked
 returns c =
     let a = c.before.args in
-    ap (λ (b : ℕ). eqb b 1) (bitAt-and (get_or a.table.now (rowWords * a.j + a.bit / 64) 0) (a.bit % 64))
+    ap (λ (b : ℕ). eqb b 1) (bit_at-and (get_or a.table.now (row_words * a.j + a.bit / 64) 0) (a.bit % 64))
 
 pub is-marked-spec : {M : Type 1} → statement M
 is-marked-spec =

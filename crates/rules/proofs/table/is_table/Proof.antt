@@ -1,7 +1,7 @@
 -- The code's row of tests is the definition's. Assumes nothing.
 use Rattle.std.proofs.Common.{refl, rules}
 use Rattle.choice.proofs.TestsLaws.{both}
-use Rattle.rules.specs.Table.{isTable}
+use Rattle.rules.specs.Table.{is_table}
 use Rattle.rules.proofs.table.is_table.Statement.{statement}
 use Rattle.rules.proofs.table.is_table.Tie as tie
 
@@ -9,7 +9,7 @@ mul-result : tie.Need-overflow-mul-result
 mul-result c = search rules
 
 returns : tie.Need-returns
-unfolding isTable
+unfolding is_table
 returns c = both refl refl
 
 pub is-table-spec : {M : Type 1} → statement M

@@ -1,7 +1,7 @@
 -- The shifted one is the power of two of the bit. Assumes nothing.
 use Rattle.std.proofs.Common.{ℕ, ◌+◌, ◌*◌, ◌/◌, ◌%◌, get_or, set, ap, arith, rules}
 use lib.Bits.{bit_or}
-use Rattle.rules.specs.Table.{rowWords, withMark}
+use Rattle.rules.specs.Table.{row_words, with_mark}
 use Rattle.rules.proofs.BitLaws.{one_shifted}
 use Rattle.rules.proofs.table.mark.Statement.{statement}
 use Rattle.rules.proofs.table.mark.Tie as tie
@@ -31,10 +31,10 @@ same_length : tie.Need-same-length
 same_length c = search rules
 
 returns : tie.Need-returns
-unfolding withMark
+unfolding with_mark
 returns c =
     let a = c.before.args in
-    let word = rowWords * a.j + a.bit / 64 in
+    let word = row_words * a.j + a.bit / 64 in
     ap (λ (m : ℕ). set a.table.now word (bit_or (get_or a.table.now word 0) m)) (one_shifted (a.bit % 64) (omega arith))
 
 pub mark_spec : {M : Type 1} → statement M

@@ -1,9 +1,9 @@
 -- A record whose period has no bit leaves the table as it was. Assumes nothing.
 use Rattle.std.proofs.Common.{ℕ, ap, ◌∙◌, ap₂, rules}
-use Rattle.choice.proofs.TestsLaws.{is-not}
-use Rattle.rules.specs.Bytes.{linesIn}
+use Rattle.choice.proofs.TestsLaws.{is_not}
+use Rattle.rules.specs.Bytes.{lines_in}
 use Rattle.rules.specs.Place.{place}
-use Rattle.rules.specs.Table.{hasBit}
+use Rattle.rules.specs.Table.{has_bit}
 use Rattle.rules.proofs.NotedLaws.{noted-out}
 use Rattle.rules.proofs.table.note_line.Statement.{statement}
 use Rattle.rules.proofs.table.note_line.Tie as tie
@@ -20,8 +20,8 @@ has-bit-requires c κs = search rules
 returns : tie.Need-returns
 returns c =
     let told = c.before in
-    (noted-out _ _ _ (is-not (told.has-bit.ensures ∙ ap₂ hasBit told.before.before.kind.ensures told.before.period.ensures)
-    c.if1.true)).now-noted
+    (noted-out _ _ _ (is_not (told.has-bit.ensures ∙ ap₂ has_bit told.before.before.kind.ensures told.before.period.ensures)
+    c.if1.true)).now_noted
 
 unit-number-requires : tie.Need-unit-number-requires
 unit-number-requires c κs = search rules
@@ -35,7 +35,7 @@ note-requires c κs =
     let begun = c.before.before.before.before.before.before.before.before.before.before.before in (
       begun.requires.0,
       (
-        found.find.ensures ∙ ap (λ (x : ℕ). place x 0 (linesIn begun.args.units.now)) found.before.unit-number.ensures,
+        found.find.ensures ∙ ap (λ (x : ℕ). place x 0 (lines_in begun.args.units.now)) found.before.unit-number.ensures,
         begun.requires.1.1,
       ),
     )

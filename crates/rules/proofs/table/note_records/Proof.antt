@@ -1,13 +1,13 @@
 -- An opened book has room for its unit lines and its records, and its unit lines rise. Assumes nothing.
 use Rattle.std.proofs.Common.{arith, rules}
-use Rattle.rules.specs.Book.{unitOk}
-use Rattle.rules.proofs.BookLaws.{Accepted, accepted-facts}
-use Rattle.rules.proofs.LinesLaws.{rising-linesSound}
+use Rattle.rules.specs.Book.{unit_ok}
+use Rattle.rules.proofs.BookLaws.{Accepted, accepted_facts}
+use Rattle.rules.proofs.LinesLaws.{rising_lines_sound}
 use Rattle.rules.proofs.table.note_records.Statement.{statement}
 use Rattle.rules.proofs.table.note_records.Tie as tie
 
 known : (c : tie.After-slice-known) → Accepted c.before.before.before.args.book.now c.before.before.before.args.h
-known c = accepted-facts _ _ c.before.before.before.requires.0
+known c = accepted_facts _ _ c.before.before.before.requires.0
 
 sub-note-lines : tie.Need-overflow-sub-note-lines
 sub-note-lines c = let k = known c in omega arith
@@ -22,7 +22,7 @@ note-lines-requires : tie.Need-note-lines-requires
 note-lines-requires c κs =
     let begun = c.before.before in
     let k = known begun in
-    (omega arith, (rising-linesSound unitOk _ k.units-sound, begun.before.before.before.requires.1.1))
+    (omega arith, (rising_lines_sound unit_ok _ k.units_sound, begun.before.before.before.requires.1.1))
 
 same_length : tie.Need-same-length
 same_length c = search rules

@@ -3,12 +3,12 @@ use Prim.Native.Nat.{ℕ, ◌+◌}
 use mathlib.Core.Path.{sym}
 use lib.ListN.{length-replicate}
 use borrow.Author.Rules.{rules}
-use Rattle.rules.specs.Book.{longestBook}
+use Rattle.rules.specs.Book.{longest_book}
 use Rattle.tablet.proofs.round.run.Statement.{statement}
 use Rattle.tablet.proofs.round.run.Tie as tie
 
 slice-aggregate-run-in : tie.Need-slice-aggregate-run-in
-slice-aggregate-run-in c = sym (length-replicate {A = ℕ} (longestBook + 1) 0)
+slice-aggregate-run-in c = sym (length-replicate {A = ℕ} (longest_book + 1) 0)
 
 run-in-requires : tie.Need-run-in-requires
 run-in-requires c κs = search rules

@@ -3,8 +3,8 @@ use Prim.Native.Nat.{◌-◌, ◌*◌, ◌/◌}
 use mathlib.Core.Path.{◌≡◌}
 use lib.ListN.{length}
 use borrow.Author.Rules.{rules}
-use Rattle.rules.specs.Book.{longestBook}
-use Rattle.queue.specs.Slots.{slotCount}
+use Rattle.rules.specs.Book.{longest_book}
+use Rattle.queue.specs.Slots.{slot_count}
 use Rattle.tablet.proofs.round.take_turns.Statement.{statement}
 use Rattle.tablet.proofs.round.take_turns.Tie as tie
 
@@ -12,7 +12,7 @@ abbrev invariant-loop : tie.invariant-loop
 invariant-loop list path budget room₀ q₀ log₀ turns₀ room q log turns = length room ≡ length room₀
 
 abbrev decreases-loop : tie.decreases-loop
-decreases-loop list path budget room₀ q₀ log₀ turns₀ room q log turns = slotCount * (longestBook / 32 - 1) - turns
+decreases-loop list path budget room₀ q₀ log₀ turns₀ room q log turns = slot_count * (longest_book / 32 - 1) - turns
 
 loop-holds : tie.Need-loop-init invariant-loop decreases-loop
 loop-holds c = search rules

@@ -5,26 +5,26 @@ use mathlib.Core.Path.{◌≡◌}
 use native.Mathlib.Omega.{arith}
 use lib.ListN.{length, drop}
 use borrow.Author.Rules.{rules}
-use Rattle.choice.proofs.TestsLaws.{is-not, is-so}
-use Rattle.text.specs.Budget.{highest, budgetIn}
-use Rattle.text.proofs.BudgetLaws.{budgetFrom, budgetIn-nil, budgetIn-some, budgetFrom-digit, budgetFrom-other, budgetFrom-above, budgetFrom-end, isDigit→within}
+use Rattle.choice.proofs.TestsLaws.{is_not, is_so}
+use Rattle.text.specs.Budget.{highest, budget_in}
+use Rattle.text.proofs.BudgetLaws.{budget_from, budget_in-nil, budget_in_some, budget_from_digit, budget_from_other, budget_from_above, budget_from_end, is_digit→within}
 use Rattle.text.proofs.budget.read.Statement.{statement}
 use Rattle.text.proofs.budget.read.Tie as tie
 
 abbrev invariant-loop : tie.invariant-loop
-invariant-loop word v₀ i₀ v i = (i ≤ length word) × (v ≤ highest) × (budgetFrom v (drop i word) ≡ budgetIn word)
+invariant-loop word v₀ i₀ v i = (i ≤ length word) × (v ≤ highest) × (budget_from v (drop i word) ≡ budget_in word)
 
 abbrev decreases-loop : tie.decreases-loop
 decreases-loop word v₀ i₀ v i = length word - i
 
 returns : tie.Need-returns invariant-loop decreases-loop
-returns c = budgetIn-nil c.before.before.args.word.now c.if1.true
+returns c = budget_in-nil c.before.before.args.word.now c.if1.true
 
 loop-holds : tie.Need-loop-init invariant-loop decreases-loop
 loop-holds c =
     let w = c.before.before.args.word.now in
     let some = c.if1.false in
-    (zero-le, zero-le, budgetIn-some w (omega arith))
+    (zero-le, zero-le, budget_in_some w (omega arith))
 
 shared-slice-read-b : tie.Need-shared-slice-read-b invariant-loop decreases-loop
 shared-slice-read-b c = search rules
@@ -37,8 +37,8 @@ returns-2 c =
     let turn = c.before.before.before in
     let at = turn.before.loop in
     let w = turn.before.before.before.before.args.word.now in
-    budgetFrom-other at.v w at.i turn.loop-test.true at.invariant.2
-    (is-not c.before.is_digit.ensures c.if2.true)
+    budget_from_other at.v w at.i turn.loop-test.true at.invariant.2
+    (is_not c.before.is_digit.ensures c.if2.true)
 
 mul-v : tie.Need-overflow-mul-v invariant-loop decreases-loop
 mul-v c =
@@ -46,17 +46,17 @@ mul-v c =
     omega arith
 
 sub-v : tie.Need-overflow-sub-v invariant-loop decreases-loop
-sub-v c = (isDigit→within _ (is-so c.before.is_digit.ensures c.if2.false)).0
+sub-v c = (is_digit→within _ (is_so c.before.is_digit.ensures c.if2.false)).0
 
 cast-v : tie.Need-overflow-cast-v invariant-loop decreases-loop
 cast-v c =
-    let within = isDigit→within _ (is-so c.before.is_digit.ensures c.if2.false) in
+    let within = is_digit→within _ (is_so c.before.is_digit.ensures c.if2.false) in
     search (rules, within)
 
 add-v : tie.Need-overflow-add-v invariant-loop decreases-loop
 add-v c =
     let low = c.before.before.before.before.loop.invariant.1 in
-    let within = isDigit→within _ (is-so c.before.is_digit.ensures c.if2.false) in
+    let within = is_digit→within _ (is_so c.before.is_digit.ensures c.if2.false) in
     omega (arith, within)
 
 returns-3 : tie.Need-returns-3 invariant-loop decreases-loop
@@ -65,9 +65,9 @@ returns-3 c =
     let turn = digit.before.before.before in
     let at = turn.before.loop in
     let w = turn.before.before.before.before.args.word.now in
-    budgetFrom-above _ (drop (at.i + 1) w)
-    (budgetFrom-digit at.v w at.i turn.loop-test.true at.invariant.2
-    (is-so digit.before.is_digit.ensures digit.if2.false))
+    budget_from_above _ (drop (at.i + 1) w)
+    (budget_from_digit at.v w at.i turn.loop-test.true at.invariant.2
+    (is_so digit.before.is_digit.ensures digit.if2.false))
     c.if3.true
 
 add-i : tie.Need-overflow-add-i invariant-loop decreases-loop
@@ -84,8 +84,8 @@ loop-again c =
     let w = turn.before.before.before.before.args.word.now in (
       search rules,
       c.if3.false,
-      budgetFrom-digit at.v w at.i turn.loop-test.true at.invariant.2
-          (is-so digit.before.is_digit.ensures digit.if2.false),
+      budget_from_digit at.v w at.i turn.loop-test.true at.invariant.2
+          (is_so digit.before.is_digit.ensures digit.if2.false),
     )
 
 cast-t14 : tie.Need-overflow-cast-t14 invariant-loop decreases-loop
@@ -95,7 +95,7 @@ returns-4 : tie.Need-returns-4 invariant-loop decreases-loop
 returns-4 c =
     let at = c.before.loop in
     let w = c.before.before.before.before.args.word.now in
-    budgetFrom-end at.v w at.i c.loop-test.false at.invariant.2 at.invariant.1
+    budget_from_end at.v w at.i c.loop-test.false at.invariant.2 at.invariant.1
 
 pub read_spec : {M : Type 1} → statement M
 read_spec =

@@ -1,8 +1,8 @@
 -- The word goes on a blank page, and zeros behind it. Assumes nothing.
 use borrow.Author.Rules.{rules}
-use Rattle.text.specs.Frame.{callAnswer}
-use Rattle.text.proofs.PageLaws.{extended-more}
-use Rattle.text.proofs.FrameLaws.{length-callAnswer, answer-pageOf}
+use Rattle.text.specs.Frame.{call_answer}
+use Rattle.text.proofs.PageLaws.{extended_more}
+use Rattle.text.proofs.FrameLaws.{length-call_answer, answer-page_of}
 use Rattle.text.proofs.frame.answer_call.Statement.{statement}
 use Rattle.text.proofs.frame.answer_call.Tie as tie
 
@@ -16,12 +16,12 @@ say-bytes-requires-2 : tie.Need-say-bytes-requires-2
 say-bytes-requires-2 c κs = search rules
 
 returns : tie.Need-returns
-unfolding callAnswer
+unfolding call_answer
 returns c =
     let said = c.before in
-    answer-pageOf _ said.before.take-blank.ensures
-    (extended-more _ _ _ said.say-bytes.ensures c.say-bytes2.ensures)
-    (length-callAnswer _)
+    answer-page_of _ said.before.take-blank.ensures
+    (extended_more _ _ _ said.say-bytes.ensures c.say-bytes2.ensures)
+    (length-call_answer _)
 
 pub answer-call-spec : {M : Type 1} → statement M
 answer-call-spec =

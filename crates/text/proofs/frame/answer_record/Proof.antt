@@ -3,9 +3,9 @@ use mathlib.Core.Path.{ap, ◌∙◌}
 use borrow.Author.Rules.{rules}
 use Rattle.text.specs.declared.frame.Told.{Told}
 use Rattle.text.specs.Page.{page_of}
-use Rattle.text.specs.Frame.{toldBytes, recordAnswer}
-use Rattle.text.proofs.PageLaws.{extended-more}
-use Rattle.text.proofs.FrameLaws.{length-toldBytes, answer-pageOf}
+use Rattle.text.specs.Frame.{told_bytes, record_answer}
+use Rattle.text.proofs.PageLaws.{extended_more}
+use Rattle.text.proofs.FrameLaws.{length-told_bytes, answer-page_of}
 use Rattle.text.proofs.frame.answer_record.Statement.{statement}
 use Rattle.text.proofs.frame.answer_record.Tie as tie
 
@@ -43,7 +43,7 @@ say-bytes-requires-9 : tie.Need-say-bytes-requires-9
 say-bytes-requires-9 c κs = search rules
 
 returns : tie.Need-returns
-unfolding toldBytes recordAnswer
+unfolding told_bytes record_answer
 returns c =
     let n2o = c.before in
     let ch4 = n2o.before in
@@ -55,15 +55,15 @@ returns c =
     let number = reason.before in
     let page = number.before in
     let told = page.before in
-    let why = extended-more _ _ _ number.say-bytes.ensures reason.say-bytes2.ensures in
-    let how = extended-more _ _ _ why method.say-bytes3.ensures in
-    let front = extended-more _ _ _ (extended-more _ _ _ how ledger.say-bytes4.ensures) gap.say-bytes5.ensures in
-    let co2-said = extended-more _ _ _ front co2.say-bytes6.ensures in
-    let masses = extended-more _ _ _ (extended-more _ _ _ co2-said ch4.say-bytes7.ensures) n2o.say-bytes8.ensures in
-    answer-pageOf _ page.take-blank.ensures
-    (extended-more _ _ _ masses c.say-bytes9.ensures)
-    (length-toldBytes told.tell.result)
-    ∙ ap (λ (t : Told). page_of (toldBytes t)) told.tell.ensures
+    let why = extended_more _ _ _ number.say-bytes.ensures reason.say-bytes2.ensures in
+    let how = extended_more _ _ _ why method.say-bytes3.ensures in
+    let front = extended_more _ _ _ (extended_more _ _ _ how ledger.say-bytes4.ensures) gap.say-bytes5.ensures in
+    let co2-said = extended_more _ _ _ front co2.say-bytes6.ensures in
+    let masses = extended_more _ _ _ (extended_more _ _ _ co2-said ch4.say-bytes7.ensures) n2o.say-bytes8.ensures in
+    answer-page_of _ page.take-blank.ensures
+    (extended_more _ _ _ masses c.say-bytes9.ensures)
+    (length-told_bytes told.tell.result)
+    ∙ ap (λ (t : Told). page_of (told_bytes t)) told.tell.ensures
 
 pub answer-record-spec : {M : Type 1} → statement M
 answer-record-spec =

@@ -1,8 +1,8 @@
 -- The word, what the number asks for and zeros stand one behind the other. Assumes nothing.
 use borrow.Author.Rules.{rules}
-use Rattle.text.specs.Frame.{reportAnswer}
-use Rattle.text.proofs.PageLaws.{extended-more}
-use Rattle.text.proofs.FrameLaws.{length-reportAnswer, answer-pageOf}
+use Rattle.text.specs.Frame.{report_answer}
+use Rattle.text.proofs.PageLaws.{extended_more}
+use Rattle.text.proofs.FrameLaws.{length-report_answer, answer-page_of}
 use Rattle.text.proofs.frame.answer_report.Statement.{statement}
 use Rattle.text.proofs.frame.answer_report.Tie as tie
 
@@ -19,14 +19,14 @@ say-bytes-requires-2 : tie.Need-say-bytes-requires-2
 say-bytes-requires-2 c κs = search rules
 
 returns : tie.Need-returns
-unfolding reportAnswer
+unfolding report_answer
 returns c =
     let told = c.before in
     let said = told.before in
-    let front = extended-more _ _ _ said.say-bytes.ensures told.say-part.ensures in
-    answer-pageOf _ said.before.take-blank.ensures
-    (extended-more _ _ _ front c.say-bytes2.ensures)
-    (length-reportAnswer _ _ _)
+    let front = extended_more _ _ _ said.say-bytes.ensures told.say-part.ensures in
+    answer-page_of _ said.before.take-blank.ensures
+    (extended_more _ _ _ front c.say-bytes2.ensures)
+    (length-report_answer _ _ _)
 
 pub answer-report-spec : {M : Type 1} → statement M
 answer-report-spec =

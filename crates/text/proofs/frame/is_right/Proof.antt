@@ -4,7 +4,7 @@ use mathlib.Core.Path.{ap₂, ◌∙◌}
 use lib.Dec.{leb}
 use borrow.Author.Rules.{rules}
 use Rattle.choice.proofs.TestsLaws.{both}
-use Rattle.text.specs.Frame.{mostBehind, argumentOk, headOk}
+use Rattle.text.specs.Frame.{most_behind, argument_ok, head_ok}
 use Rattle.text.proofs.frame.is_right.Statement.{statement}
 use Rattle.text.proofs.frame.is_right.Tie as tie
 
@@ -39,7 +39,7 @@ add-result-2 : tie.Need-overflow-add-result-2
 add-result-2 c = search rules
 
 returns : tie.Need-returns
-unfolding headOk
+unfolding head_ok
 returns c =
     let out = c.before in
     let checkpoint = out.before in
@@ -53,10 +53,10 @@ returns c =
     let book-read = book.read-word3.ensures.0 in
     let checkpoint-read = checkpoint.read-word4.ensures.0 in
     let out-read = out.read-word5.ensures.0 in
-    let argument-right = right.is-argument-right.ensures ∙ ap₂ argumentOk call-read argument-read in
+    let argument-right = right.is-argument-right.ensures ∙ ap₂ argument_ok call-read argument-read in
     let known = both (λ i. leb 1 (call-read i)) (λ i. leb (call-read i) 4) in
     let asked = both (both known gap.are-zero.ensures) argument-right in
-    both (both asked (λ i. leb (book-read i + checkpoint-read i + out-read i) mostBehind)) c.are-zero2.ensures
+    both (both asked (λ i. leb (book-read i + checkpoint-read i + out-read i) most_behind)) c.are-zero2.ensures
 
 pub is-right-spec : {M : Type 1} → statement M
 is-right-spec =

@@ -5,7 +5,7 @@ use native.Mathlib.Omega.{arith}
 use lib.ListN.{length, drop}
 use borrow.Author.Rules.{rules}
 use Rattle.text.specs.Frame.{same}
-use Rattle.text.proofs.FrameLaws.{same_next, same-other, same_end}
+use Rattle.text.proofs.FrameLaws.{same_next, same_other, same_end}
 use Rattle.text.proofs.frame.is_same.Statement.{statement}
 use Rattle.text.proofs.frame.is_same.Tie as tie
 
@@ -34,7 +34,7 @@ returns : tie.Need-returns invariant-loop decreases-loop
 returns c =
     let at = c.before.before.loop in
     let a = c.before.before.before.args in
-    same-other a.t1 a.t2 at.i at.invariant.1 (search rules) (search rules) c.if1.true
+    same_other a.t1 a.t2 at.i at.invariant.1 (search rules) (search rules) c.if1.true
 
 add-i : tie.Need-overflow-add-i invariant-loop decreases-loop
 add-i c = search rules

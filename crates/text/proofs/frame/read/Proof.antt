@@ -1,12 +1,12 @@
 -- A head has its length and passes its row of tests, or the frames stop. Assumes nothing.
 use borrow.Author.Rules.{rules}
 use Rattle.choice.proofs.TestsLaws.{is}
-use Rattle.text.proofs.FrameLaws.{askedIn-length, askedIn-bad, askedIn-right}
+use Rattle.text.proofs.FrameLaws.{asked_in-length, asked_in_bad, asked_in_right}
 use Rattle.text.proofs.frame.read.Statement.{statement}
 use Rattle.text.proofs.frame.read.Tie as tie
 
 returns : tie.Need-returns
-returns c = askedIn-length c.before.before.args.head.now c.if1.true
+returns c = asked_in-length c.before.before.args.head.now c.if1.true
 
 is-right-requires : tie.Need-is-right-requires
 is-right-requires c κs = search rules
@@ -17,13 +17,13 @@ take-frame-requires c κs = search rules
 returns-2 : tie.Need-returns-2
 returns-2 c =
     let test = c.before.before in
-    askedIn-right test.before.before.before.args.head.now test.before.if1.false
+    asked_in_right test.before.before.before.args.head.now test.before.if1.false
     (is test.is_right.ensures c.before.if2.true) c.take-frame.ensures
 
 returns-3 : tie.Need-returns-3
 returns-3 c =
     let test = c.before in
-    askedIn-bad test.before.before.before.args.head.now test.before.if1.false
+    asked_in_bad test.before.before.before.args.head.now test.before.if1.false
     (is test.is_right.ensures c.if2.false)
 
 pub read_spec : {M : Type 1} → statement M

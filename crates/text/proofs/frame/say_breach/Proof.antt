@@ -2,7 +2,7 @@
 use mathlib.Core.Path.{sym, ap, ◌∙◌}
 use borrow.Author.Rules.{rules}
 use Rattle.text.specs.Extended.{extended}
-use Rattle.text.specs.Frame.{breachText}
+use Rattle.text.specs.Frame.{breach_text}
 use Rattle.text.proofs.frame.say_breach.Statement.{statement}
 use Rattle.text.proofs.frame.say_breach.Tie as tie
 
@@ -25,10 +25,10 @@ say-requires-2 : tie.Need-say-requires-2
 say-requires-2 c κs = search rules
 
 returns : tie.Need-returns
-returns c = c.say.ensures ∙ ap (extended _) (sym (ap breachText c.before.before.enum_told.given.1))
+returns c = c.say.ensures ∙ ap (extended _) (sym (ap breach_text c.before.before.enum_told.given.1))
 
 returns-2 : tie.Need-returns-2
-returns-2 c = c.say2.ensures ∙ ap (extended _) (sym (ap breachText c.before.before.enum-told2.given.1))
+returns-2 c = c.say2.ensures ∙ ap (extended _) (sym (ap breach_text c.before.before.enum-told2.given.1))
 
 pub say-breach-spec : {M : Type 1} → statement M
 say-breach-spec =

@@ -4,8 +4,8 @@ use mathlib.Core.Path.{ap, ◌∙◌}
 use borrow.Author.Rules.{rules}
 use Rattle.rules.specs.Bytes.{bytes_of}
 use Rattle.text.specs.Extended.{extended}
-use Rattle.text.specs.Frame.{changePart}
-use Rattle.text.proofs.PageLaws.{extended-more}
+use Rattle.text.specs.Frame.{change_part}
+use Rattle.text.proofs.PageLaws.{extended_more}
 use Rattle.text.proofs.frame.say_change.Statement.{statement}
 use Rattle.text.proofs.frame.say_change.Tie as tie
 
@@ -19,11 +19,11 @@ say-bytes-requires-2 : tie.Need-say-bytes-requires-2
 say-bytes-requires-2 c κs = search rules
 
 returns : tie.Need-returns
-unfolding changePart
+unfolding change_part
 returns c =
     let told = c.before in
     let change = ap (λ (v : ℕ). extended told.before.say-bytes.result (bytes_of 1 v)) told.tell-change.ensures in
-    extended-more _ _ _ told.before.say-bytes.ensures (c.say-bytes2.ensures ∙ change)
+    extended_more _ _ _ told.before.say-bytes.ensures (c.say-bytes2.ensures ∙ change)
 
 pub say-change-spec : {M : Type 1} → statement M
 say-change-spec =

@@ -1,7 +1,7 @@
 -- The figures stand one behind the other. Assumes nothing.
 use borrow.Author.Rules.{rules}
-use Rattle.text.specs.Frame.{figuresPart}
-use Rattle.text.proofs.PageLaws.{extended-more}
+use Rattle.text.specs.Frame.{figures_part}
+use Rattle.text.proofs.PageLaws.{extended_more}
 use Rattle.text.proofs.frame.say_figures.Statement.{statement}
 use Rattle.text.proofs.frame.say_figures.Tie as tie
 
@@ -45,17 +45,17 @@ say-bytes-requires-7 : tie.Need-say-bytes-requires-7
 say-bytes-requires-7 c κs = search rules
 
 returns : tie.Need-returns
-unfolding figuresPart
+unfolding figures_part
 returns c =
     let decision = c.before in
     let co2e = decision.before in
     let n2o = co2e.before in
     let ch4 = n2o.before in
     let biomass = ch4.before in
-    let co2 = extended-more _ _ _ biomass.before.say-bytes.ensures biomass.say-bytes2.ensures in
-    let gases = extended-more _ _ _ (extended-more _ _ _ co2 ch4.say-bytes3.ensures) n2o.say-bytes4.ensures in
-    let all = extended-more _ _ _ gases co2e.say-bytes5.ensures in
-    extended-more _ _ _ (extended-more _ _ _ all decision.say-bytes6.ensures) c.say-bytes7.ensures
+    let co2 = extended_more _ _ _ biomass.before.say-bytes.ensures biomass.say-bytes2.ensures in
+    let gases = extended_more _ _ _ (extended_more _ _ _ co2 ch4.say-bytes3.ensures) n2o.say-bytes4.ensures in
+    let all = extended_more _ _ _ gases co2e.say-bytes5.ensures in
+    extended_more _ _ _ (extended_more _ _ _ all decision.say-bytes6.ensures) c.say-bytes7.ensures
 
 pub say-figures-spec : {M : Type 1} → statement M
 say-figures-spec =

@@ -2,9 +2,9 @@
 use mathlib.Core.Path.{refl, sym, ap, ◌∙◌}
 use borrow.Author.Rules.{rules}
 use borrow.Author.Tests.{eq-eqb, ne_eqb}
-use Rattle.choice.proofs.TestsLaws.{choose-t, choose-f}
+use Rattle.choice.proofs.TestsLaws.{choose_t, choose_f}
 use Rattle.text.specs.Extended.{extended}
-use Rattle.text.specs.Frame.{reportPart}
+use Rattle.text.specs.Frame.{report_part}
 use Rattle.text.proofs.frame.say_part.Statement.{statement}
 use Rattle.text.proofs.frame.say_part.Tie as tie
 
@@ -12,15 +12,15 @@ say-figures-requires : tie.Need-say-figures-requires
 say-figures-requires c κs = search rules
 
 returns : tie.Need-returns
-unfolding reportPart
-returns c = c.say-figures.ensures ∙ ap (extended _) (sym (choose-t _ (eq-eqb _ 0 c.before.if1.true) refl))
+unfolding report_part
+returns c = c.say-figures.ensures ∙ ap (extended _) (sym (choose_t _ (eq-eqb _ 0 c.before.if1.true) refl))
 
 say-change-requires : tie.Need-say-change-requires
 say-change-requires c κs = search rules
 
 returns-2 : tie.Need-returns-2
-unfolding reportPart
-returns-2 c = c.say-change.ensures ∙ ap (extended _) (sym (choose-f _ (ne_eqb _ 0 c.before.if1.false) refl))
+unfolding report_part
+returns-2 c = c.say-change.ensures ∙ ap (extended _) (sym (choose_f _ (ne_eqb _ 0 c.before.if1.false) refl))
 
 pub say-part-spec : {M : Type 1} → statement M
 say-part-spec = tie.close (tie.spec say-figures-requires returns say-change-requires returns-2)

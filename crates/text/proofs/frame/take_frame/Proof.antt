@@ -1,6 +1,6 @@
 -- Each field is read where it stands. Assumes nothing.
 use borrow.Author.Rules.{rules}
-use Rattle.text.specs.Frame.{frameIn}
+use Rattle.text.specs.Frame.{frame_in}
 use Rattle.text.proofs.frame.take_frame.Statement.{statement}
 use Rattle.text.proofs.frame.take_frame.Tie as tie
 
@@ -26,7 +26,7 @@ read-word-requires-5 : tie.Need-read-word-requires-5
 read-word-requires-5 c κs = search rules
 
 returns : tie.Need-returns
-unfolding frameIn
+unfolding frame_in
 returns c =
     let checkpoint = c.before in
     let book = checkpoint.before in

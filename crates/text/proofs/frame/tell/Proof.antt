@@ -3,8 +3,8 @@ use mathlib.Core.Path.{sym, ap, ◌∙◌}
 use borrow.Author.Rules.{rules}
 use Rattle.rules.specs.declared.reader.Seen.{Seen}
 use Rattle.rules.specs.Reader.{sight}
-use Rattle.text.specs.Frame.{toldOf}
-use Rattle.text.proofs.FrameLaws.{toldOf-refused, toldOf-missing, toldOf-record}
+use Rattle.text.specs.Frame.{told_of}
+use Rattle.text.proofs.FrameLaws.{told_of-refused, told_of-missing, told_of_record}
 use Rattle.text.proofs.frame.tell.Statement.{statement}
 use Rattle.text.proofs.frame.tell.Tie as tie
 
@@ -34,18 +34,18 @@ tell-outcome-requires c κs = search rules
 
 returns : tie.Need-returns
 returns c =
-    toldOf-refused _ c.before.number-fault.ensures c.tell-uncounted.ensures
-    ∙ sym (ap (λ (x : Seen). toldOf (sight x)) c.before.before.before.seen.given.1)
+    told_of-refused _ c.before.number-fault.ensures c.tell-uncounted.ensures
+    ∙ sym (ap (λ (x : Seen). told_of (sight x)) c.before.before.before.seen.given.1)
 
 returns-2 : tie.Need-returns-2
 returns-2 c =
-    toldOf-missing c.tell-uncounted2.ensures
-    ∙ sym (ap (λ (x : Seen). toldOf (sight x)) c.before.enum_told.given.1)
+    told_of-missing c.tell-uncounted2.ensures
+    ∙ sym (ap (λ (x : Seen). told_of (sight x)) c.before.enum_told.given.1)
 
 returns-3 : tie.Need-returns-3
 returns-3 c =
-    toldOf-record _ c.tell-outcome.ensures
-    ∙ sym (ap (λ (x : Seen). toldOf (sight x)) c.before.before.seen2.given.1)
+    told_of_record _ c.tell-outcome.ensures
+    ∙ sym (ap (λ (x : Seen). told_of (sight x)) c.before.before.seen2.given.1)
 
 pub tell-spec : {M : Type 1} → statement M
 tell-spec =

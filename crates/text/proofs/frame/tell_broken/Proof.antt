@@ -1,10 +1,10 @@
 -- One part behind the other, and both fit on a blank page. Assumes nothing.
 use native.Mathlib.Omega.{arith}
 use borrow.Author.Rules.{rules}
-use Rattle.text.specs.Frame.{brokenText}
-use Rattle.text.proofs.PageLaws.{extended-more, extended-blank}
+use Rattle.text.specs.Frame.{broken_text}
+use Rattle.text.proofs.PageLaws.{extended_more, extended-blank}
 use Rattle.text.proofs.WordsLaws.{wider}
-use Rattle.text.proofs.FrameLaws.{brokenText-le}
+use Rattle.text.proofs.FrameLaws.{broken_text-le}
 use Rattle.text.proofs.frame.tell_broken.Statement.{statement}
 use Rattle.text.proofs.frame.tell_broken.Tie as tie
 
@@ -21,12 +21,12 @@ say-breach-requires : tie.Need-say-breach-requires
 say-breach-requires c κs = search rules
 
 returns : tie.Need-returns
-unfolding brokenText
+unfolding broken_text
 returns c =
     let a = c.before.before.before.before.args in
     extended-blank _ c.before.before.before.take-blank.ensures
-    (extended-more _ _ _ c.before.say-field.ensures c.say-breach.ensures)
-    (wider (brokenText-le a.i a.x) (omega arith)).le
+    (extended_more _ _ _ c.before.say-field.ensures c.say-breach.ensures)
+    (wider (broken_text-le a.i a.x) (omega arith)).le
 
 pub tell-broken-spec : {M : Type 1} → statement M
 tell-broken-spec =

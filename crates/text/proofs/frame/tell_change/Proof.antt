@@ -1,7 +1,7 @@
 -- Equal figures are no change. Assumes nothing.
 use mathlib.Core.Path.{refl, sym}
 use borrow.Author.Rules.{rules}
-use Rattle.choice.proofs.TestsLaws.{choose-t, choose-f, is}
+use Rattle.choice.proofs.TestsLaws.{choose_t, choose_f, is}
 use Rattle.text.proofs.frame.tell_change.Statement.{statement}
 use Rattle.text.proofs.frame.tell_change.Tie as tie
 
@@ -9,10 +9,10 @@ is-same-requires : tie.Need-is-same-requires
 is-same-requires c κs = search rules
 
 returns : tie.Need-returns
-returns c = sym (choose-t 1 (is c.before.is_same.ensures c.if1.true) refl)
+returns c = sym (choose_t 1 (is c.before.is_same.ensures c.if1.true) refl)
 
 returns-2 : tie.Need-returns-2
-returns-2 c = sym (choose-f 0 (is c.before.is_same.ensures c.if1.false) refl)
+returns-2 c = sym (choose_f 0 (is c.before.is_same.ensures c.if1.false) refl)
 
 pub tell-change-spec : {M : Type 1} → statement M
 tell-change-spec = tie.close (tie.spec is-same-requires returns returns-2)

@@ -1,6 +1,6 @@
 -- The fields are those of the entry, and the ledger is told by its number. Assumes nothing.
 use borrow.Author.Rules.{rules}
-use Rattle.text.specs.Frame.{toldOf}
+use Rattle.text.specs.Frame.{told_of}
 use Rattle.text.proofs.frame.tell_counted.Statement.{statement}
 use Rattle.text.proofs.frame.tell_counted.Tie as tie
 
@@ -11,7 +11,7 @@ cast-t7 : tie.Need-overflow-cast-t7
 cast-t7 c = search rules
 
 returns : tie.Need-returns
-unfolding toldOf
+unfolding told_of
 returns c =
     let told = c.before.before.before.before in
     let e = told.before.args.e in

@@ -3,7 +3,7 @@ use mathlib.Core.Path.{sym, ap, ◌∙◌}
 use borrow.Author.Rules.{rules}
 use Rattle.rules.specs.declared.record.Outcome.{Outcome}
 use Rattle.rules.specs.Reader.{shown}
-use Rattle.text.specs.Frame.{toldOf}
+use Rattle.text.specs.Frame.{told_of}
 use Rattle.text.proofs.frame.tell_outcome.Statement.{statement}
 use Rattle.text.proofs.frame.tell_outcome.Tie as tie
 
@@ -23,11 +23,11 @@ tell-counted-requires : tie.Need-tell-counted-requires
 tell-counted-requires c κs = search rules
 
 returns : tie.Need-returns
-unfolding toldOf
-returns c = c.tell-uncounted.ensures ∙ sym (ap (λ (o : Outcome). toldOf (shown o)) c.before.before.o.given.1)
+unfolding told_of
+returns c = c.tell-uncounted.ensures ∙ sym (ap (λ (o : Outcome). told_of (shown o)) c.before.before.o.given.1)
 
 returns-2 : tie.Need-returns-2
-returns-2 c = c.tell-counted.ensures ∙ sym (ap (λ (o : Outcome). toldOf (shown o)) c.before.before.o2.given.1)
+returns-2 c = c.tell-counted.ensures ∙ sym (ap (λ (o : Outcome). told_of (shown o)) c.before.before.o2.given.1)
 
 pub tell-outcome-spec : {M : Type 1} → statement M
 tell-outcome-spec =

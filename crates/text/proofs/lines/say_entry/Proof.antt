@@ -1,7 +1,7 @@
 -- Method, ledger and masses stand one behind the other. Assumes nothing.
 use borrow.Author.Rules.{rules}
-use Rattle.text.proofs.PageLaws.{extended-more}
-use Rattle.text.specs.Lines.{outcomeText}
+use Rattle.text.proofs.PageLaws.{extended_more}
+use Rattle.text.specs.Lines.{outcome_text}
 use Rattle.text.proofs.lines.say_entry.Statement.{statement}
 use Rattle.text.proofs.lines.say_entry.Tie as tie
 
@@ -15,10 +15,10 @@ say-masses-requires : tie.Need-say-masses-requires
 say-masses-requires c κs = search rules
 
 returns : tie.Need-returns
-unfolding outcomeText
+unfolding outcome_text
 returns c =
     let method = c.before.before.say-method.ensures in
-    extended-more _ _ _ (extended-more _ _ _ method c.before.say-ledger.ensures) c.say-masses.ensures
+    extended_more _ _ _ (extended_more _ _ _ method c.before.say-ledger.ensures) c.say-masses.ensures
 
 pub say-entry-spec : {M : Type 1} → statement M
 say-entry-spec =

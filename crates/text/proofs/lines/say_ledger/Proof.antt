@@ -2,7 +2,7 @@
 use mathlib.Core.Path.{sym, ap, ◌∙◌}
 use borrow.Author.Rules.{rules}
 use Rattle.text.specs.Extended.{extended}
-use Rattle.text.specs.Lines.{ledgerText}
+use Rattle.text.specs.Lines.{ledger_text}
 use Rattle.text.proofs.lines.say_ledger.Statement.{statement}
 use Rattle.text.proofs.lines.say_ledger.Tie as tie
 
@@ -34,13 +34,13 @@ say-requires-3 : tie.Need-say-requires-3
 say-requires-3 c κs = search rules
 
 returns : tie.Need-returns
-returns c = c.say.ensures ∙ ap (extended _) (sym (ap ledgerText c.before.before.enum_told.given.1))
+returns c = c.say.ensures ∙ ap (extended _) (sym (ap ledger_text c.before.before.enum_told.given.1))
 
 returns-2 : tie.Need-returns-2
-returns-2 c = c.say2.ensures ∙ ap (extended _) (sym (ap ledgerText c.before.before.enum-told2.given.1))
+returns-2 c = c.say2.ensures ∙ ap (extended _) (sym (ap ledger_text c.before.before.enum-told2.given.1))
 
 returns-3 : tie.Need-returns-3
-returns-3 c = c.say3.ensures ∙ ap (extended _) (sym (ap ledgerText c.before.before.enum-told3.given.1))
+returns-3 c = c.say3.ensures ∙ ap (extended _) (sym (ap ledger_text c.before.before.enum-told3.given.1))
 
 pub say-ledger-spec : {M : Type 1} → statement M
 say-ledger-spec =

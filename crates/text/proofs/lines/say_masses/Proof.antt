@@ -1,7 +1,7 @@
 -- One field behind the other. Assumes nothing.
 use borrow.Author.Rules.{rules}
-use Rattle.text.proofs.PageLaws.{extended-more}
-use Rattle.text.specs.Lines.{massesText}
+use Rattle.text.proofs.PageLaws.{extended_more}
+use Rattle.text.specs.Lines.{masses_text}
 use Rattle.text.proofs.lines.say_masses.Statement.{statement}
 use Rattle.text.proofs.lines.say_masses.Tie as tie
 
@@ -24,10 +24,10 @@ say-field-requires-3 : tie.Need-say-field-requires-3
 say-field-requires-3 c κs = search rules
 
 returns : tie.Need-returns
-unfolding massesText
+unfolding masses_text
 returns c =
     let co2 = c.before.before.before.before.say-field.ensures in
-    extended-more _ _ _ (extended-more _ _ _ co2 c.before.before.say-field2.ensures) c.say-field3.ensures
+    extended_more _ _ _ (extended_more _ _ _ co2 c.before.before.say-field2.ensures) c.say-field3.ensures
 
 pub say-masses-spec : {M : Type 1} → statement M
 say-masses-spec =

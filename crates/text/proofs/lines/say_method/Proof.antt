@@ -2,7 +2,7 @@
 use mathlib.Core.Path.{sym, ap, ◌∙◌}
 use borrow.Author.Rules.{rules}
 use Rattle.text.specs.Extended.{extended}
-use Rattle.text.proofs.LinesLaws.{methodText-fuel, methodText-anodes, methodText-hour}
+use Rattle.text.proofs.LinesLaws.{method_text-fuel, method_text_anodes, method_text-hour}
 use Rattle.text.proofs.lines.say_method.Statement.{statement}
 use Rattle.text.proofs.lines.say_method.Tie as tie
 
@@ -13,7 +13,7 @@ say-field-requires : tie.Need-say-field-requires
 say-field-requires c κs = search rules
 
 returns : tie.Need-returns
-returns c = c.say-field.ensures ∙ ap (extended _) (sym (methodText-fuel _ _ c.before.before.if1.true))
+returns c = c.say-field.ensures ∙ ap (extended _) (sym (method_text-fuel _ _ c.before.before.if1.true))
 
 slice-aggregate-say : tie.Need-slice-aggregate-say
 slice-aggregate-say c = search rules
@@ -24,7 +24,7 @@ say-requires c κs = search rules
 returns-2 : tie.Need-returns-2
 returns-2 c =
     let test = c.before.before in
-    c.say.ensures ∙ ap (extended _) (sym (methodText-anodes _ _ test.before.if1.false test.if2.true))
+    c.say.ensures ∙ ap (extended _) (sym (method_text_anodes _ _ test.before.if1.false test.if2.true))
 
 slice-aggregate-say-2 : tie.Need-slice-aggregate-say-2
 slice-aggregate-say-2 c = search rules
@@ -35,7 +35,7 @@ say-requires-2 c κs = search rules
 returns-3 : tie.Need-returns-3
 returns-3 c =
     let test = c.before.before in
-    c.say2.ensures ∙ ap (extended _) (sym (methodText-hour _ _ test.before.if1.false test.if2.false))
+    c.say2.ensures ∙ ap (extended _) (sym (method_text-hour _ _ test.before.if1.false test.if2.false))
 
 pub say-method-spec : {M : Type 1} → statement M
 say-method-spec =

@@ -2,8 +2,8 @@
 use mathlib.Core.Path.{sym, ap, ◌∙◌}
 use borrow.Author.Rules.{rules}
 use Rattle.text.specs.Extended.{extended}
-use Rattle.text.specs.Lines.{outcomeText}
-use Rattle.text.proofs.LinesLaws.{outcomeText-setAside}
+use Rattle.text.specs.Lines.{outcome_text}
+use Rattle.text.proofs.LinesLaws.{outcome_text_set_aside}
 use Rattle.text.proofs.lines.say_outcome.Statement.{statement}
 use Rattle.text.proofs.lines.say_outcome.Tie as tie
 
@@ -28,10 +28,10 @@ say-entry-requires c κs = search rules
 returns : tie.Need-returns
 returns c =
     c.say-field.ensures
-    ∙ ap (extended _) (sym (outcomeText-setAside _ _ c.before.before.before.o.given.1))
+    ∙ ap (extended _) (sym (outcome_text_set_aside _ _ c.before.before.before.o.given.1))
 
 returns-2 : tie.Need-returns-2
-returns-2 c = c.say-entry.ensures ∙ ap (extended _) (sym (ap (outcomeText _) c.before.before.o2.given.1))
+returns-2 c = c.say-entry.ensures ∙ ap (extended _) (sym (ap (outcome_text _) c.before.before.o2.given.1))
 
 pub say-outcome-spec : {M : Type 1} → statement M
 say-outcome-spec =

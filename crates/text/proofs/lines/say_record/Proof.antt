@@ -1,6 +1,6 @@
 -- The index, what became of the record, and the end of the line. Assumes nothing.
 use borrow.Author.Rules.{rules}
-use Rattle.text.proofs.PageLaws.{extended-more}
+use Rattle.text.proofs.PageLaws.{extended_more}
 use Rattle.text.proofs.lines.say_record.Statement.{statement}
 use Rattle.text.proofs.lines.say_record.Tie as tie
 
@@ -22,7 +22,7 @@ say-requires c κs = search rules
 returns : tie.Need-returns
 returns c =
     let index = c.before.before.before.say-field.ensures in
-    extended-more _ _ _ (extended-more _ _ _ index c.before.before.say-outcome.ensures) c.say.ensures
+    extended_more _ _ _ (extended_more _ _ _ index c.before.before.say-outcome.ensures) c.say.ensures
 
 pub say-record-spec : {M : Type 1} → statement M
 say-record-spec =

@@ -2,7 +2,7 @@
 use mathlib.Core.Path.{sym, ap, ◌∙◌}
 use borrow.Author.Rules.{rules}
 use Rattle.text.specs.Extended.{extended}
-use Rattle.text.proofs.LinesLaws.{lineText-refused, lineText-missing, lineText-record}
+use Rattle.text.proofs.LinesLaws.{line_text-refused, line_text-missing, line_text_record}
 use Rattle.text.proofs.lines.say_seen.Statement.{statement}
 use Rattle.text.proofs.lines.say_seen.Tie as tie
 
@@ -24,17 +24,17 @@ say-record-requires c κs = search rules
 returns : tie.Need-returns
 returns c =
     c.say-fault.ensures
-    ∙ ap (extended _) (sym (lineText-refused _ _ _ c.before.before.seen.given.1))
+    ∙ ap (extended _) (sym (line_text-refused _ _ _ c.before.before.seen.given.1))
 
 returns-2 : tie.Need-returns-2
 unfolding extended
 returns-2 c =
-    sym (ap (extended c.before.before.args.p) (lineText-missing c.before.before.args.i c.before.before.args.kind c.enum_told.given.1))
+    sym (ap (extended c.before.before.args.p) (line_text-missing c.before.before.args.i c.before.before.args.kind c.enum_told.given.1))
 
 returns-3 : tie.Need-returns-3
 returns-3 c =
     c.say-record.ensures
-    ∙ ap (extended _) (sym (lineText-record _ _ _ c.before.before.seen2.given.1))
+    ∙ ap (extended _) (sym (line_text_record _ _ _ c.before.before.seen2.given.1))
 
 pub say-seen-spec : {M : Type 1} → statement M
 say-seen-spec =

@@ -3,7 +3,7 @@ use native.Mathlib.Omega.{arith}
 use borrow.Author.Rules.{rules}
 use Rattle.text.proofs.PageLaws.{extended-blank}
 use Rattle.text.proofs.WordsLaws.{wider}
-use Rattle.text.proofs.LinesLaws.{lineText-le}
+use Rattle.text.proofs.LinesLaws.{line_text-le}
 use Rattle.text.proofs.lines.tell_record.Statement.{statement}
 use Rattle.text.proofs.lines.tell_record.Tie as tie
 
@@ -16,7 +16,7 @@ say-seen-requires c κs = search rules
 returns : tie.Need-returns
 returns c =
     extended-blank _ c.before.take-blank.ensures c.say-seen.ensures
-    (wider (lineText-le c.before.before.args.i c.before.before.args.kind _) (omega arith)).le
+    (wider (line_text-le c.before.before.args.i c.before.before.args.kind _) (omega arith)).le
 
 pub tell-record-spec : {M : Type 1} → statement M
 tell-record-spec = tie.close (tie.spec take-blank-requires say-seen-requires returns)

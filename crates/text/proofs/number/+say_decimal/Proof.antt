@@ -8,8 +8,8 @@ use borrow.Fn.Kinds.{In}
 use borrow.Fn.PlainCycle.{Measures, is, falls, and}
 use Rattle.text.specs.Extended.{extended}
 use Rattle.text.specs.Words.{decimal}
-use Rattle.text.proofs.PageLaws.{extended-one, extended-last}
-use Rattle.text.proofs.WordsLaws.{decimal-few, decimal-many}
+use Rattle.text.proofs.PageLaws.{extended_one, extended_last}
+use Rattle.text.proofs.WordsLaws.{decimal-few, decimal_many}
 use Rattle.text.proofs.number.say_decimal.Reads as say-decimal
 use Rattle.text.proofs.number.say_decimal.Kinds as say-decimal-kinds
 use Rattle.text.proofs.number.+say_decimal.Lts-say_decimal as say-decimal-lts
@@ -45,7 +45,7 @@ module _ (t : ℕ) where
   returns : say-decimal-lts.Need-returns callees (say-decimal-at t) say-decimal.Post
   returns c =
       let a = c.before.before.args in
-      extended-one a.p (48 + a.n) c.say-byte.ensures
+      extended_one a.p (48 + a.n) c.say-byte.ensures
       ∙ ap (extended a.p) (sym (decimal-few a.n c.before.if1.true))
 
   say-decimal-requires : say-decimal-lts.Need-say-decimal-requires callees (say-decimal-at t) say-decimal.Post
@@ -67,9 +67,9 @@ module _ (t : ℕ) where
   returns-2 c =
       let start = c.before.before.before in
       let a = start.args in
-      extended-last a.p (decimal (a.n / 10)) (48 + a.n % 10)
+      extended_last a.p (decimal (a.n / 10)) (48 + a.n % 10)
       c.before.say-decimal.ensures c.say-byte2.ensures
-      ∙ ap (extended a.p) (sym (decimal-many a.n c.before.before.if1.false start.ranges.n.fits))
+      ∙ ap (extended a.p) (sym (decimal_many a.n c.before.before.if1.false start.ranges.n.fits))
 
 pub +say-decimal-spec : {M : Type 1} → statement M
 +say-decimal-spec = close μ-say-decimal λ t. say-decimal-lts.spec (callees t)

@@ -7,7 +7,7 @@ use native.Mathlib.Omega.{arith}
 use borrow.Author.Rules.{rules}
 use Rattle.rules.specs.Bytes.{bytes_of}
 use Rattle.text.specs.Extended.{extended}
-use Rattle.text.proofs.PageLaws.{extended-bytes-next, extended-bytes-last}
+use Rattle.text.proofs.PageLaws.{extended_bytes_next, extended_bytes_last}
 use Rattle.text.proofs.number.say_bytes.Statement.{statement}
 use Rattle.text.proofs.number.say_bytes.Tie as tie
 
@@ -40,7 +40,7 @@ loop-again c =
     let at = c.before.before.loop in
     let one : a.n - at.i ≡ suc (a.n - (at.i + 1)) = omega arith in (
       search rules,
-      extended-bytes-next at.next (a.n - at.i) (a.n - (at.i + 1)) at.rest one
+      extended_bytes_next at.next (a.n - at.i) (a.n - (at.i + 1)) at.rest one
           c.say-byte.ensures at.invariant.1,
     )
 
@@ -49,7 +49,7 @@ returns c =
     let a = c.before.before.args in
     let at = c.before.loop in
     let none : a.n - at.i ≡ 0 = omega arith in
-    extended-bytes-last at.next (a.n - at.i) at.rest none at.invariant.1
+    extended_bytes_last at.next (a.n - at.i) at.rest none at.invariant.1
 
 pub say-bytes-spec : {M : Type 1} → statement M
 say-bytes-spec =

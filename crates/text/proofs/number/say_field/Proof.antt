@@ -1,6 +1,6 @@
 -- The number's digits stand behind the word. Assumes nothing.
 use borrow.Author.Rules.{rules}
-use Rattle.text.proofs.PageLaws.{extended-more}
+use Rattle.text.proofs.PageLaws.{extended_more}
 use Rattle.text.proofs.number.say_field.Statement.{statement}
 use Rattle.text.proofs.number.say_field.Tie as tie
 
@@ -11,7 +11,7 @@ say-decimal-requires : tie.Need-say-decimal-requires
 say-decimal-requires c κs = search rules
 
 returns : tie.Need-returns
-returns c = extended-more _ _ _ c.before.say.ensures c.say-decimal.ensures
+returns c = extended_more _ _ _ c.before.say.ensures c.say-decimal.ensures
 
 pub say-field-spec : {M : Type 1} → statement M
 say-field-spec = tie.close (tie.spec say-requires say-decimal-requires returns)

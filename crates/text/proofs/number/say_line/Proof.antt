@@ -1,6 +1,6 @@
 -- A line is a field and the byte that ends it. Assumes nothing.
 use borrow.Author.Rules.{rules}
-use Rattle.text.proofs.PageLaws.{extended-more}
+use Rattle.text.proofs.PageLaws.{extended_more}
 use Rattle.text.proofs.number.say_line.Statement.{statement}
 use Rattle.text.proofs.number.say_line.Tie as tie
 
@@ -14,7 +14,7 @@ say-requires : tie.Need-say-requires
 say-requires c κs = search rules
 
 returns : tie.Need-returns
-returns c = extended-more _ _ _ c.before.before.say-field.ensures c.say.ensures
+returns c = extended_more _ _ _ c.before.before.say-field.ensures c.say.ensures
 
 pub say-line-spec : {M : Type 1} → statement M
 say-line-spec = tie.close (tie.spec say-field-requires slice-aggregate-say say-requires returns)

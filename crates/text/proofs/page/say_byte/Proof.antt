@@ -2,8 +2,8 @@
 use mathlib.Core.Path.{refl, sym}
 use borrow.Author.Rules.{rules}
 use borrow.Author.Tests.{lt-ltb, le-ltb}
-use Rattle.choice.proofs.TestsLaws.{choose-t, choose-f}
-use Rattle.text.specs.Extended.{withByte}
+use Rattle.choice.proofs.TestsLaws.{choose_t, choose_f}
+use Rattle.text.specs.Extended.{with_byte}
 use Rattle.text.proofs.page.say_byte.Statement.{statement}
 use Rattle.text.proofs.page.say_byte.Tie as tie
 
@@ -14,12 +14,12 @@ add-next : tie.Need-overflow-add-next
 add-next c = search rules
 
 returns : tie.Need-returns
-unfolding withByte
-returns c = sym (choose-t _ (lt-ltb _ _ c.if1.true) refl)
+unfolding with_byte
+returns c = sym (choose_t _ (lt-ltb _ _ c.if1.true) refl)
 
 returns-2 : tie.Need-returns-2
-unfolding withByte
-returns-2 c = sym (choose-f _ (le-ltb _ _ c.if1.false) refl)
+unfolding with_byte
+returns-2 c = sym (choose_f _ (le-ltb _ _ c.if1.false) refl)
 
 pub say-byte-spec : {M : Type 1} → statement M
 say-byte-spec = tie.close (tie.spec element-write-next add-next returns returns-2)

@@ -3,7 +3,7 @@ use mathlib.Core.Path.{ap, sym, ◌∙◌}
 use borrow.Author.Rules.{rules}
 use Rattle.text.specs.Extended.{extended}
 use Rattle.text.proofs.PageLaws.{extended_none}
-use Rattle.text.proofs.PlantsLaws.{faultText-plants, faultText-wrong, faultText-again, faultText-many}
+use Rattle.text.proofs.PlantsLaws.{fault_text-plants, fault_text_wrong, fault_text_again, fault_text_many}
 use Rattle.text.proofs.plants.say_fault.Statement.{statement}
 use Rattle.text.proofs.plants.say_fault.Tie as tie
 
@@ -41,18 +41,18 @@ say-requires : tie.Need-say-requires
 say-requires c κs = search rules
 
 returns : tie.Need-returns
-returns c = extended_none _ ∙ ap (extended _) (sym (faultText-plants _ c.enum_told.given.1))
+returns c = extended_none _ ∙ ap (extended _) (sym (fault_text-plants _ c.enum_told.given.1))
 
 returns-2 : tie.Need-returns-2
 returns-2 c =
     let wrong = c.before.before.before.x.given.1 in
-    c.say-wrong.ensures ∙ ap (extended _) (sym (faultText-wrong _ _ c.before.take-line.ensures wrong))
+    c.say-wrong.ensures ∙ ap (extended _) (sym (fault_text_wrong _ _ c.before.take-line.ensures wrong))
 
 returns-3 : tie.Need-returns-3
-returns-3 c = c.say-of-line.ensures ∙ ap (extended _) (sym (faultText-again _ c.before.before.before.x2.given.1))
+returns-3 c = c.say-of-line.ensures ∙ ap (extended _) (sym (fault_text_again _ c.before.before.before.x2.given.1))
 
 returns-4 : tie.Need-returns-4
-returns-4 c = c.say.ensures ∙ ap (extended _) (sym (faultText-many _ c.before.before.enum-told2.given.1))
+returns-4 c = c.say.ensures ∙ ap (extended _) (sym (fault_text_many _ c.before.before.enum-told2.given.1))
 
 pub say-fault-spec : {M : Type 1} → statement M
 say-fault-spec =

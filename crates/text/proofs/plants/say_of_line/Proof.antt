@@ -1,6 +1,6 @@
 -- One part behind the other. Assumes nothing.
 use borrow.Author.Rules.{rules}
-use Rattle.text.proofs.PageLaws.{extended-more}
+use Rattle.text.proofs.PageLaws.{extended_more}
 use Rattle.text.proofs.plants.say_of_line.Statement.{statement}
 use Rattle.text.proofs.plants.say_of_line.Tie as tie
 
@@ -17,7 +17,7 @@ say-requires : tie.Need-say-requires
 say-requires c κs = search rules
 
 returns : tie.Need-returns
-returns c = extended-more _ _ _ c.before.say-field.ensures c.say.ensures
+returns c = extended_more _ _ _ c.before.say-field.ensures c.say.ensures
 
 pub say-of-line-spec : {M : Type 1} → statement M
 say-of-line-spec =

@@ -3,7 +3,7 @@ use mathlib.Core.Path.{ap, sym, ◌∙◌}
 use borrow.Author.Rules.{rules}
 use Rattle.roster.specs.declared.mistake.Mistake.TheVariants.{Comment, Return, Space, Long, Form}
 use Rattle.text.specs.Extended.{extended}
-use Rattle.text.proofs.PlantsLaws.{wrongText-found}
+use Rattle.text.proofs.PlantsLaws.{wrong_text_found}
 use Rattle.text.proofs.plants.say_wrong.Statement.{statement}
 use Rattle.text.proofs.plants.say_wrong.Tie as tie
 
@@ -59,31 +59,31 @@ returns : tie.Need-returns
 returns c =
     let found = c.before.before in
     c.say-of-line.ensures
-    ∙ ap (extended _) (sym (wrongText-found Comment _ _ found.before.before.find.ensures found.enum_told.given.1))
+    ∙ ap (extended _) (sym (wrong_text_found Comment _ _ found.before.before.find.ensures found.enum_told.given.1))
 
 returns-2 : tie.Need-returns-2
 returns-2 c =
     let found = c.before.before in
     c.say-of-line2.ensures
-    ∙ ap (extended _) (sym (wrongText-found Return _ _ found.before.before.find.ensures found.enum-told2.given.1))
+    ∙ ap (extended _) (sym (wrong_text_found Return _ _ found.before.before.find.ensures found.enum-told2.given.1))
 
 returns-3 : tie.Need-returns-3
 returns-3 c =
     let found = c.before.before in
     c.say-of-line3.ensures
-    ∙ ap (extended _) (sym (wrongText-found Space _ _ found.before.before.find.ensures found.enum-told3.given.1))
+    ∙ ap (extended _) (sym (wrong_text_found Space _ _ found.before.before.find.ensures found.enum-told3.given.1))
 
 returns-4 : tie.Need-returns-4
 returns-4 c =
     let found = c.before.before in
     c.say-of-line4.ensures
-    ∙ ap (extended _) (sym (wrongText-found Long _ _ found.before.before.find.ensures found.enum-told4.given.1))
+    ∙ ap (extended _) (sym (wrong_text_found Long _ _ found.before.before.find.ensures found.enum-told4.given.1))
 
 returns-5 : tie.Need-returns-5
 returns-5 c =
     let found = c.before.before in
     c.say-of-line5.ensures
-    ∙ ap (extended _) (sym (wrongText-found Form _ _ found.before.before.find.ensures found.enum-told5.given.1))
+    ∙ ap (extended _) (sym (wrong_text_found Form _ _ found.before.before.find.ensures found.enum-told5.given.1))
 
 pub say-wrong-spec : {M : Type 1} → statement M
 say-wrong-spec =

@@ -3,7 +3,7 @@ use native.Mathlib.Omega.{arith}
 use borrow.Author.Rules.{rules}
 use Rattle.text.proofs.PageLaws.{extended-blank}
 use Rattle.text.proofs.WordsLaws.{wider}
-use Rattle.text.proofs.PlantsLaws.{faultText-le}
+use Rattle.text.proofs.PlantsLaws.{fault_text-le}
 use Rattle.text.proofs.plants.tell_fault.Statement.{statement}
 use Rattle.text.proofs.plants.tell_fault.Tie as tie
 
@@ -16,7 +16,7 @@ say-fault-requires c κs = search rules
 returns : tie.Need-returns
 returns c =
     extended-blank _ c.before.take-blank.ensures c.say-fault.ensures
-    (wider (faultText-le _ _) (omega arith)).le
+    (wider (fault_text-le _ _) (omega arith)).le
 
 pub tell-fault-spec : {M : Type 1} → statement M
 tell-fault-spec = tie.close (tie.spec take-blank-requires say-fault-requires returns)

@@ -2,7 +2,7 @@
 use mathlib.Core.Path.{ap, sym, ◌∙◌}
 use borrow.Author.Rules.{rules}
 use Rattle.text.specs.Page.{page_of}
-use Rattle.text.proofs.ProgressLaws.{hintText-book, hintText-30, hintText-31, hintText-32}
+use Rattle.text.proofs.ProgressLaws.{hint_text_book, hint_text_30, hint_text_31, hint_text_32}
 use Rattle.text.proofs.progress.hint.Statement.{statement}
 use Rattle.text.proofs.progress.hint.Tie as tie
 
@@ -31,16 +31,16 @@ take-blank-requires-2 : tie.Need-take-blank-requires-2
 take-blank-requires-2 c κs = search rules
 
 returns : tie.Need-returns
-returns c = c.take-blank.ensures ∙ ap page_of (sym (hintText-book c.before.enum_told.given.1))
+returns c = c.take-blank.ensures ∙ ap page_of (sym (hint_text_book c.before.enum_told.given.1))
 
 returns-2 : tie.Need-returns-2
-returns-2 c = c.hint-fresh.ensures ∙ ap page_of (sym (hintText-30 c.before.enum-told2.given.1))
+returns-2 c = c.hint-fresh.ensures ∙ ap page_of (sym (hint_text_30 c.before.enum-told2.given.1))
 
 returns-3 : tie.Need-returns-3
-returns-3 c = c.hint-fresh2.ensures ∙ ap page_of (sym (hintText-31 c.before.enum-told3.given.1))
+returns-3 c = c.hint-fresh2.ensures ∙ ap page_of (sym (hint_text_31 c.before.enum-told3.given.1))
 
 returns-4 : tie.Need-returns-4
-returns-4 c = c.take-blank2.ensures ∙ ap page_of (sym (hintText-32 c.before.enum-told4.given.1))
+returns-4 c = c.take-blank2.ensures ∙ ap page_of (sym (hint_text_32 c.before.enum-told4.given.1))
 
 pub hint-spec : {M : Type 1} → statement M
 hint-spec =

@@ -4,7 +4,7 @@ use native.Mathlib.Omega.{arith}
 use borrow.Author.Rules.{rules}
 use Rattle.text.specs.Page.{page_of}
 use Rattle.text.proofs.PageLaws.{extended-blank}
-use Rattle.text.proofs.ProgressLaws.{hintText-fresh}
+use Rattle.text.proofs.ProgressLaws.{hint_text-fresh}
 use Rattle.text.proofs.progress.hint_fresh.Statement.{statement}
 use Rattle.text.proofs.progress.hint_fresh.Tie as tie
 
@@ -20,7 +20,7 @@ say-requires c κs = search rules
 returns : tie.Need-returns
 returns c =
     extended-blank _ c.before.before.take-blank.ensures c.say.ensures (omega arith)
-    ∙ ap page_of (sym hintText-fresh)
+    ∙ ap page_of (sym hint_text-fresh)
 
 pub hint-fresh-spec : {M : Type 1} → statement M
 hint-fresh-spec = tie.close (tie.spec take-blank-requires slice-aggregate-say say-requires returns)

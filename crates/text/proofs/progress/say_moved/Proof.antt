@@ -1,7 +1,7 @@
 -- One part behind the other. Assumes nothing.
 use borrow.Author.Rules.{rules}
-use Rattle.text.proofs.PageLaws.{extended-more}
-use Rattle.text.specs.Progress.{movedText}
+use Rattle.text.proofs.PageLaws.{extended_more}
+use Rattle.text.specs.Progress.{moved_text}
 use Rattle.text.proofs.progress.say_moved.Statement.{statement}
 use Rattle.text.proofs.progress.say_moved.Tie as tie
 
@@ -21,11 +21,11 @@ say-line-requires : tie.Need-say-line-requires
 say-line-requires c κs = search rules
 
 returns : tie.Need-returns
-unfolding movedText
+unfolding moved_text
 returns c =
     let done = c.before.before in
     let moved = done.before.say-field.ensures in
-    extended-more _ _ _ (extended-more _ _ _ moved done.say-field2.ensures) c.say-line.ensures
+    extended_more _ _ _ (extended_more _ _ _ moved done.say-field2.ensures) c.say-line.ensures
 
 pub say-moved-spec : {M : Type 1} → statement M
 say-moved-spec =

@@ -2,8 +2,8 @@
 use mathlib.Core.Path.{sym, ap, ◌∙◌}
 use borrow.Author.Rules.{rules}
 use Rattle.text.specs.Extended.{extended}
-use Rattle.text.proofs.PageLaws.{extended-more}
-use Rattle.text.proofs.ProgressLaws.{progressBy-notReported, progressBy-unfinished, progressBy-recordAside, progressBy-given}
+use Rattle.text.proofs.PageLaws.{extended_more}
+use Rattle.text.proofs.ProgressLaws.{progress_by_not_reported, progress_by_unfinished, progress_by_record_aside, progress_by-given}
 use Rattle.text.proofs.progress.say_progress.Statement.{statement}
 use Rattle.text.proofs.progress.say_progress.Tie as tie
 
@@ -43,22 +43,22 @@ say-reported-requires-2 c κs = search rules
 returns : tie.Need-returns
 returns c =
     c.say-refusal.ensures
-    ∙ ap (extended _) (sym (progressBy-notReported _ _ _ _ c.before.before.r.given.1))
+    ∙ ap (extended _) (sym (progress_by_not_reported _ _ _ _ c.before.before.r.given.1))
 
 returns-2 : tie.Need-returns-2
 returns-2 c =
     c.say-moved.ensures
-    ∙ ap (extended _) (sym (progressBy-unfinished _ _ _ _ c.before.before.r2.given.1))
+    ∙ ap (extended _) (sym (progress_by_unfinished _ _ _ _ c.before.before.r2.given.1))
 
 returns-3 : tie.Need-returns-3
 returns-3 c =
-    extended-more _ _ _ c.before.say-moved2.ensures c.say-reported.ensures
-    ∙ ap (extended _) (sym (progressBy-recordAside _ _ _ _ _ c.before.before.before.r3.given.1))
+    extended_more _ _ _ c.before.say-moved2.ensures c.say-reported.ensures
+    ∙ ap (extended _) (sym (progress_by_record_aside _ _ _ _ _ c.before.before.before.r3.given.1))
 
 returns-4 : tie.Need-returns-4
 returns-4 c =
-    extended-more _ _ _ c.before.say-moved3.ensures c.say-reported2.ensures
-    ∙ ap (extended _) (sym (progressBy-given _ _ _ _ c.before.before.before.r4.given.1))
+    extended_more _ _ _ c.before.say-moved3.ensures c.say-reported2.ensures
+    ∙ ap (extended _) (sym (progress_by-given _ _ _ _ c.before.before.before.r4.given.1))
 
 pub say-progress-spec : {M : Type 1} → statement M
 say-progress-spec =

@@ -1,10 +1,10 @@
 -- What `open` answers decides. Assumes nothing.
 use mathlib.Core.Path.{sym, ap, ◌∙◌}
 use borrow.Author.Rules.{rules}
-use Rattle.rules.proofs.BookLaws.{opened-open, opened-wrong}
-use Rattle.job.proofs.WakeLaws.{ifOpen-refused}
+use Rattle.rules.proofs.BookLaws.{opened_open, opened_wrong}
+use Rattle.job.proofs.WakeLaws.{if_open-refused}
 use Rattle.text.specs.Page.{page_of}
-use Rattle.text.specs.Progress.{progressWith}
+use Rattle.text.specs.Progress.{progress_with}
 use Rattle.text.proofs.progress.tell.Statement.{statement}
 use Rattle.text.proofs.progress.tell.Tie as tie
 
@@ -23,15 +23,15 @@ enum-known-h c = search rules
 tell-open-requires : tie.Need-tell-open-requires
 tell-open-requires c κs = (
   c.before.before.before.before.before.before.before.requires,
-  opened-open _ c.before.before.before.«open».ensures c.before.h.given.1,
+  opened_open _ c.before.before.before.«open».ensures c.before.h.given.1,
 )
 
 returns : tie.Need-returns
-unfolding progressWith
+unfolding progress_with
 returns c =
     c.refuse-book.ensures
-    ∙ ap page_of (sym (ifOpen-refused _ _ _
-    (opened-wrong _ c.before.before.before.before.«open».ensures c.before.before.fault.given.1)))
+    ∙ ap page_of (sym (if_open-refused _ _ _
+    (opened_wrong _ c.before.before.before.before.«open».ensures c.before.before.fault.given.1)))
 
 returns-2 : tie.Need-returns-2
 returns-2 c = search rules

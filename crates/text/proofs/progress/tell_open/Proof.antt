@@ -4,12 +4,12 @@ use mathlib.Core.Path.{sym, ap, ◌∙◌}
 use native.Mathlib.Omega.{arith}
 use borrow.Author.Rules.{rules}
 use Rattle.job.specs.Reply.{Reply}
-use Rattle.job.proofs.WakeLaws.{ifOpen-accepted}
+use Rattle.job.proofs.WakeLaws.{if_open-accepted}
 use Rattle.text.specs.Page.{page_of}
-use Rattle.text.specs.Progress.{progressBy, progressWith}
+use Rattle.text.specs.Progress.{progress_by, progress_with}
 use Rattle.text.proofs.PageLaws.{extended-blank}
 use Rattle.text.proofs.WordsLaws.{wider}
-use Rattle.text.proofs.ProgressLaws.{progressBy-le}
+use Rattle.text.proofs.ProgressLaws.{progress_by-le}
 use Rattle.text.proofs.progress.tell_open.Statement.{statement}
 use Rattle.text.proofs.progress.tell_open.Tie as tie
 
@@ -23,14 +23,14 @@ say-progress-requires : tie.Need-say-progress-requires
 say-progress-requires c κs = search rules
 
 returns : tie.Need-returns
-unfolding progressWith
+unfolding progress_with
 returns c =
     let start = c.before.before.before.before.before.before in
     let a = start.args in
     extended-blank _ c.before.take-blank.ensures c.say-progress.ensures
-    (wider (progressBy-le _ a.h a.moved start.requires.0 _) (omega arith)).le
-    ∙ ap (λ (x : Reply). page_of (progressBy a.gap.now a.h a.moved x)) c.before.before.report.ensures
-    ∙ ap page_of (sym (ifOpen-accepted _ _ _ start.requires.1))
+    (wider (progress_by-le _ a.h a.moved start.requires.0 _) (omega arith)).le
+    ∙ ap (λ (x : Reply). page_of (progress_by a.gap.now a.h a.moved x)) c.before.before.report.ensures
+    ∙ ap page_of (sym (if_open-accepted _ _ _ start.requires.1))
 
 pub tell-open-spec : {M : Type 1} → statement M
 tell-open-spec =

@@ -1,6 +1,6 @@
 -- `tell`, with what stands between the two parts. Assumes nothing.
 use borrow.Author.Rules.{rules}
-use Rattle.text.specs.Progress.{progressText}
+use Rattle.text.specs.Progress.{progress_text}
 use Rattle.text.proofs.progress.tell_progress.Statement.{statement}
 use Rattle.text.proofs.progress.tell_progress.Tie as tie
 
@@ -11,7 +11,7 @@ tell-requires : tie.Need-tell-requires
 tell-requires c κs = search rules
 
 returns : tie.Need-returns
-unfolding progressText
+unfolding progress_text
 returns c = c.tell.ensures
 
 pub tell-progress-spec : {M : Type 1} → statement M

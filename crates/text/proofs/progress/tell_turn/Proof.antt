@@ -1,6 +1,6 @@
 -- `tell`, with what stands between the two parts. Assumes nothing.
 use borrow.Author.Rules.{rules}
-use Rattle.text.specs.Progress.{turnText}
+use Rattle.text.specs.Progress.{turn_text}
 use Rattle.text.proofs.progress.tell_turn.Statement.{statement}
 use Rattle.text.proofs.progress.tell_turn.Tie as tie
 
@@ -11,7 +11,7 @@ tell-requires : tie.Need-tell-requires
 tell-requires c κs = search rules
 
 returns : tie.Need-returns
-unfolding turnText
+unfolding turn_text
 returns c = c.tell.ensures
 
 pub tell-turn-spec : {M : Type 1} → statement M

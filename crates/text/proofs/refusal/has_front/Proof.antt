@@ -3,14 +3,14 @@ use mathlib.Core.Path.{sym, ◌∙◌}
 use lib.ListN.{length}
 use lib.Seq.{length-take-le}
 use borrow.Author.Rules.{rules}
-use Rattle.text.proofs.RefusalLaws.{begins-short, begins-same}
+use Rattle.text.proofs.RefusalLaws.{begins_short, begins-same}
 use Rattle.text.proofs.refusal.has_front.Statement.{statement}
 use Rattle.text.proofs.refusal.has_front.Tie as tie
 
 returns : tie.Need-returns
 returns c =
     let a = c.before.before.before.args in
-    begins-short a.word.now a.text.now c.if1.true
+    begins_short a.word.now a.text.now c.if1.true
 
 slice-aggregate-are-same : tie.Need-slice-aggregate-are-same
 slice-aggregate-are-same c =

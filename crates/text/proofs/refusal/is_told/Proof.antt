@@ -4,19 +4,19 @@ use mathlib.Core.Path.{◌≡◌, refl}
 use lib.ListN.{length, drop}
 use borrow.Author.Rules.{rules}
 use Rattle.choice.proofs.TestsLaws.{is, both}
-use Rattle.text.specs.Refusal.{tells, hasRefusal}
-use Rattle.text.proofs.RefusalLaws.{tells-here, tells-next, tells-end}
+use Rattle.text.specs.Refusal.{tells, has_refusal}
+use Rattle.text.proofs.RefusalLaws.{tells_here, tells_next, tells_end}
 use Rattle.text.proofs.refusal.is_told.Statement.{statement}
 use Rattle.text.proofs.refusal.is_told.Tie as tie
 
 abbrev invariant-loop : tie.invariant-loop
-invariant-loop text first₀ i₀ left first i = (i ≤ length text) × (tells first (drop i text) ≡ hasRefusal text)
+invariant-loop text first₀ i₀ left first i = (i ≤ length text) × (tells first (drop i text) ≡ has_refusal text)
 
 abbrev decreases-loop : tie.decreases-loop
 decreases-loop text first₀ i₀ left first i = length text - i
 
 loop-holds : tie.Need-loop-init invariant-loop decreases-loop
-unfolding hasRefusal
+unfolding has_refusal
 loop-holds c = (zero-le, refl)
 
 sub-has-front : tie.Need-overflow-sub-has-front invariant-loop decreases-loop
@@ -38,7 +38,7 @@ returns : tie.Need-returns invariant-loop decreases-loop
 returns c =
     let turn = c.before.before.before.before in
     let at = turn.before.loop in
-    tells-here at.first turn.before.before.before.args.text.now at.i at.invariant.1 turn.loop-test.true
+    tells_here at.first turn.before.before.before.args.text.now at.i at.invariant.1 turn.loop-test.true
     (is (both refl c.before.has-front.ensures) c.if1.true)
 
 shared-slice-read-first : tie.Need-shared-slice-read-first invariant-loop decreases-loop
@@ -56,14 +56,14 @@ loop-again c =
     let turn = found.before.before.before in
     let at = turn.before.loop in (
       search rules,
-      tells-next at.first turn.before.before.before.args.text.now at.i at.invariant.1 turn.loop-test.true
+      tells_next at.first turn.before.before.before.args.text.now at.i at.invariant.1 turn.loop-test.true
           (is (both refl found.has-front.ensures) c.before.if1.false),
     )
 
 returns-2 : tie.Need-returns-2 invariant-loop decreases-loop
 returns-2 c =
     let at = c.before.loop in
-    tells-end at.first c.before.before.before.args.text.now at.i at.invariant.1 c.loop-test.false
+    tells_end at.first c.before.before.before.args.text.now at.i at.invariant.1 c.loop-test.false
 
 pub is-told-spec : {M : Type 1} → statement M
 is-told-spec =

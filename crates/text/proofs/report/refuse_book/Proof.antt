@@ -3,7 +3,7 @@ use native.Mathlib.Omega.{arith}
 use borrow.Author.Rules.{rules}
 use Rattle.text.proofs.PageLaws.{extended-blank}
 use Rattle.text.proofs.WordsLaws.{wider}
-use Rattle.text.proofs.ReportLaws.{refusedText-le}
+use Rattle.text.proofs.ReportLaws.{refused_text-le}
 use Rattle.text.proofs.report.refuse_book.Statement.{statement}
 use Rattle.text.proofs.report.refuse_book.Tie as tie
 
@@ -16,7 +16,7 @@ say-fault-requires c κs = search rules
 returns : tie.Need-returns
 returns c =
     extended-blank _ c.before.take-blank.ensures c.say-fault.ensures
-    (wider (refusedText-le _ _) (omega arith)).le
+    (wider (refused_text-le _ _) (omega arith)).le
 
 pub refuse-book-spec : {M : Type 1} → statement M
 refuse-book-spec = tie.close (tie.spec take-blank-requires say-fault-requires returns)

@@ -2,8 +2,8 @@
 use mathlib.Core.Path.{sym, ap, ◌∙◌}
 use borrow.Author.Rules.{rules}
 use Rattle.text.specs.Extended.{extended}
-use Rattle.text.proofs.PageLaws.{extended-more}
-use Rattle.text.proofs.ReportLaws.{refusedText-aside}
+use Rattle.text.proofs.PageLaws.{extended_more}
+use Rattle.text.proofs.ReportLaws.{refused_text_aside}
 use Rattle.text.proofs.report.say_aside.Statement.{statement}
 use Rattle.text.proofs.report.say_aside.Tie as tie
 
@@ -29,9 +29,9 @@ returns : tie.Need-returns
 returns c =
     let a = c.before.before.before.before.before.before.args in
     let told = c.before.before.before.before.say-field.ensures in
-    let record-i = extended-more _ _ _ told c.before.before.say-field2.ensures in
-    extended-more _ _ _ record-i c.say-line.ensures
-    ∙ ap (extended a.p) (sym (refusedText-aside a.i a.reason))
+    let record-i = extended_more _ _ _ told c.before.before.say-field2.ensures in
+    extended_more _ _ _ record-i c.say-line.ensures
+    ∙ ap (extended a.p) (sym (refused_text_aside a.i a.reason))
 
 pub say-aside-spec : {M : Type 1} → statement M
 say-aside-spec =

@@ -2,8 +2,8 @@
 use mathlib.Core.Path.{sym, ap, ◌∙◌}
 use borrow.Author.Rules.{rules}
 use Rattle.text.specs.Extended.{extended}
-use Rattle.text.proofs.PageLaws.{extended-more}
-use Rattle.text.proofs.ReportLaws.{figuresText-six}
+use Rattle.text.proofs.PageLaws.{extended_more}
+use Rattle.text.proofs.ReportLaws.{figures_text_six}
 use Rattle.text.proofs.report.say_figures.Statement.{statement}
 use Rattle.text.proofs.report.say_figures.Tie as tie
 
@@ -58,14 +58,14 @@ returns c =
     let to-3 = to-5.before.before.before.before in
     let to-1 = to-3.before.before.before.before in
     let a = to-1.before.before.args in
-    let records = extended-more _ _ _ to-1.say-line.ensures to-3.before.before.say-line2.ensures in
-    let fossil = extended-more _ _ _ records to-3.say-line3.ensures in
-    let biomass = extended-more _ _ _ fossil to-5.before.before.say-line4.ensures in
-    let ch4 = extended-more _ _ _ biomass to-5.say-line5.ensures in
-    let n2o = extended-more _ _ _ ch4 c.before.before.before.say-line6.ensures in
-    let co2e = extended-more _ _ _ n2o c.before.say-line7.ensures in
-    extended-more _ _ _ co2e c.say-decision.ensures
-    ∙ ap (extended a.p) (sym (figuresText-six a.h a.f))
+    let records = extended_more _ _ _ to-1.say-line.ensures to-3.before.before.say-line2.ensures in
+    let fossil = extended_more _ _ _ records to-3.say-line3.ensures in
+    let biomass = extended_more _ _ _ fossil to-5.before.before.say-line4.ensures in
+    let ch4 = extended_more _ _ _ biomass to-5.say-line5.ensures in
+    let n2o = extended_more _ _ _ ch4 c.before.before.before.say-line6.ensures in
+    let co2e = extended_more _ _ _ n2o c.before.say-line7.ensures in
+    extended_more _ _ _ co2e c.say-decision.ensures
+    ∙ ap (extended a.p) (sym (figures_text_six a.h a.f))
 
 pub say-figures-spec : {M : Type 1} → statement M
 say-figures-spec =

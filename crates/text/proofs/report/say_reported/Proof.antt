@@ -2,7 +2,7 @@
 use mathlib.Core.Path.{sym, ap, ◌∙◌}
 use borrow.Author.Rules.{rules}
 use Rattle.text.specs.Extended.{extended}
-use Rattle.text.proofs.ReportLaws.{replyText-notReported, replyText-unfinished, replyText-recordAside, replyText-given}
+use Rattle.text.proofs.ReportLaws.{reply_text_not_reported, reply_text_unfinished, reply_text_record_aside, reply_text-given}
 use Rattle.text.proofs.report.say_reported.Statement.{statement}
 use Rattle.text.proofs.report.say_reported.Tie as tie
 
@@ -33,22 +33,22 @@ say-figures-requires c κs = search rules
 returns : tie.Need-returns
 returns c =
     c.say-refusal.ensures
-    ∙ ap (extended _) (sym (replyText-notReported _ _ c.before.before.r.given.1))
+    ∙ ap (extended _) (sym (reply_text_not_reported _ _ c.before.before.r.given.1))
 
 returns-2 : tie.Need-returns-2
 returns-2 c =
     c.say-number.ensures
-    ∙ ap (extended _) (sym (replyText-unfinished _ _ c.before.enum_told.given.1))
+    ∙ ap (extended _) (sym (reply_text_unfinished _ _ c.before.enum_told.given.1))
 
 returns-3 : tie.Need-returns-3
 returns-3 c =
     c.say-aside.ensures
-    ∙ ap (extended _) (sym (replyText-recordAside _ _ _ c.before.before.r2.given.1))
+    ∙ ap (extended _) (sym (reply_text_record_aside _ _ _ c.before.before.r2.given.1))
 
 returns-4 : tie.Need-returns-4
 returns-4 c =
     c.say-figures.ensures
-    ∙ ap (extended _) (sym (replyText-given _ _ c.before.before.r3.given.1))
+    ∙ ap (extended _) (sym (reply_text-given _ _ c.before.before.r3.given.1))
 
 pub say-reported-spec : {M : Type 1} → statement M
 say-reported-spec =

@@ -2,7 +2,7 @@
 use mathlib.Core.Path.{sym, ap, ◌∙◌}
 use borrow.Author.Rules.{rules}
 use Rattle.text.specs.Page.{page_of}
-use Rattle.text.proofs.ReportLaws.{annualHeld-more, annualHeld-long, annualHeld-year}
+use Rattle.text.proofs.ReportLaws.{annual_held_more, annual_held_long, annual_held-year}
 use Rattle.text.proofs.report.tell_annual.Statement.{statement}
 use Rattle.text.proofs.report.tell_annual.Tie as tie
 
@@ -10,7 +10,7 @@ refuse-book-requires : tie.Need-refuse-book-requires
 refuse-book-requires c κs = search rules
 
 returns : tie.Need-returns
-returns c = c.refuse-book.ensures ∙ ap page_of (sym (annualHeld-more _ c.before.if1.true))
+returns c = c.refuse-book.ensures ∙ ap page_of (sym (annual_held_more _ c.before.if1.true))
 
 refuse-book-requires-2 : tie.Need-refuse-book-requires-2
 refuse-book-requires-2 c κs = search rules
@@ -18,7 +18,7 @@ refuse-book-requires-2 c κs = search rules
 returns-2 : tie.Need-returns-2
 returns-2 c =
     c.refuse-book2.ensures
-    ∙ ap page_of (sym (annualHeld-long _ c.before.before.if1.false c.before.if2.true))
+    ∙ ap page_of (sym (annual_held_long _ c.before.before.if1.false c.before.if2.true))
 
 tell-year-requires : tie.Need-tell-year-requires
 tell-year-requires c κs = search rules
@@ -26,7 +26,7 @@ tell-year-requires c κs = search rules
 returns-3 : tie.Need-returns-3
 returns-3 c =
     c.tell-year.ensures
-    ∙ ap page_of (sym (annualHeld-year _ c.before.before.if1.false c.before.if2.false))
+    ∙ ap page_of (sym (annual_held-year _ c.before.before.if1.false c.before.if2.false))
 
 pub tell-annual-spec : {M : Type 1} → statement M
 tell-annual-spec =

@@ -6,7 +6,7 @@ use borrow.Author.Rules.{rules}
 use Rattle.text.specs.Page.{page_of}
 use Rattle.text.proofs.PageLaws.{extended-blank}
 use Rattle.text.proofs.WordsLaws.{wider}
-use Rattle.text.proofs.ReportLaws.{replyText-le, yearText-whole}
+use Rattle.text.proofs.ReportLaws.{reply_text-le, year_text-whole}
 use Rattle.text.proofs.report.tell_open.Statement.{statement}
 use Rattle.text.proofs.report.tell_open.Tie as tie
 
@@ -43,8 +43,8 @@ returns c =
     let begun = woke.before.before.before.before in
     let start = begun.before.before.before in
     extended-blank _ c.before.take-blank.ensures c.say-reported.ensures
-    (wider (replyText-le start.args.h _) (omega arith)).le
-    ∙ ap page_of (yearText-whole _ start.requires _ _ refl refl
+    (wider (reply_text-le start.args.h _) (omega arith)).le
+    ∙ ap page_of (year_text-whole _ start.requires _ _ refl refl
     begun.fresh.ensures.1 woke.wake.ensures.1 c.before.before.report.ensures)
 
 pub tell-open-spec : {M : Type 1} → statement M

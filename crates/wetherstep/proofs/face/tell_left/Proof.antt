@@ -2,8 +2,8 @@
 use mathlib.Core.Path.{ap, ◌∙◌}
 use borrow.Author.Rules.{rules}
 use Rattle.job.specs.Reply.{remaining}
-use Rattle.job.proofs.ReplyLaws.{remaining-unknown, remaining-left}
-use Rattle.wetherstep.proofs.FaceLaws.{wordOf-none, wordOf-count}
+use Rattle.job.proofs.ReplyLaws.{remaining_unknown, remaining_left}
+use Rattle.wetherstep.proofs.FaceLaws.{word_of-none, word_of_count}
 use Rattle.wetherstep.proofs.face.tell_left.Statement.{statement}
 use Rattle.wetherstep.proofs.face.tell_left.Tie as tie
 
@@ -24,13 +24,13 @@ pack-requires-2 c κs = search rules
 
 returns : tie.Need-returns
 returns c =
-    let told = ap remaining c.before.before.before.m.given.1 ∙ remaining-unknown _ in
-    wordOf-none told c.before.number-refusal.ensures c.pack.ensures
+    let told = ap remaining c.before.before.before.m.given.1 ∙ remaining_unknown _ in
+    word_of-none told c.before.number-refusal.ensures c.pack.ensures
 
 returns-2 : tie.Need-returns-2
 returns-2 c =
-    let told = ap remaining c.before.before.m2.given.1 ∙ remaining-left _ in
-    wordOf-count told c.pack2.ensures
+    let told = ap remaining c.before.before.m2.given.1 ∙ remaining_left _ in
+    word_of_count told c.pack2.ensures
 
 pub tell-left-spec : {M : Type 1} → statement M
 tell-left-spec =

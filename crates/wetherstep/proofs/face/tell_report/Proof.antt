@@ -3,8 +3,8 @@
 use mathlib.Core.Path.{refl, sym, ap, ◌∙◌}
 use borrow.Author.Rules.{rules}
 use Rattle.job.specs.Reply.{reported}
-use Rattle.job.proofs.ReplyLaws.{reported-notReported, reported-unfinished, reported-recordAside, reported-given}
-use Rattle.wetherstep.proofs.FaceLaws.{wordOf-none, wordOf-count, wordOf-aside, wordOf-given, figuresAfter-kept, figuresAfter-given}
+use Rattle.job.proofs.ReplyLaws.{reported_not_reported, reported_unfinished, reported_record_aside, reported-given}
+use Rattle.wetherstep.proofs.FaceLaws.{word_of-none, word_of_count, word_of_aside, word_of-given, figures_after-kept, figures_after-given}
 use Rattle.wetherstep.proofs.face.tell_report.Statement.{statement}
 use Rattle.wetherstep.proofs.face.tell_report.Tie as tie
 
@@ -40,23 +40,23 @@ pack-requires-4 c κs = search rules
 
 returns : tie.Need-returns
 returns c =
-    let told = ap reported c.before.before.before.s.given.1 ∙ reported-notReported _ in
-    (wordOf-none told c.before.number-refusal.ensures c.pack.ensures, sym (figuresAfter-kept _ told refl))
+    let told = ap reported c.before.before.before.s.given.1 ∙ reported_not_reported _ in
+    (word_of-none told c.before.number-refusal.ensures c.pack.ensures, sym (figures_after-kept _ told refl))
 
 returns-2 : tie.Need-returns-2
 returns-2 c =
-    let told = ap reported c.before.before.s2.given.1 ∙ reported-unfinished _ in
-    (wordOf-count told c.pack2.ensures, sym (figuresAfter-kept _ told refl))
+    let told = ap reported c.before.before.s2.given.1 ∙ reported_unfinished _ in
+    (word_of_count told c.pack2.ensures, sym (figures_after-kept _ told refl))
 
 returns-3 : tie.Need-returns-3
 returns-3 c =
-    let told = ap reported c.before.before.s3.given.1 ∙ reported-recordAside _ _ in
-    (wordOf-aside told c.pack3.ensures, sym (figuresAfter-kept _ told refl))
+    let told = ap reported c.before.before.s3.given.1 ∙ reported_record_aside _ _ in
+    (word_of_aside told c.pack3.ensures, sym (figures_after-kept _ told refl))
 
 returns-4 : tie.Need-returns-4
 returns-4 c =
     let told = ap reported c.before.before.before.s4.given.1 ∙ reported-given _ in
-    (wordOf-given _ told c.pack4.ensures, c.before.list.ensures ∙ sym (figuresAfter-given _ told _))
+    (word_of-given _ told c.pack4.ensures, c.before.list.ensures ∙ sym (figures_after-given _ told _))
 
 pub tell-report-spec : {M : Type 1} → statement M
 tell-report-spec =

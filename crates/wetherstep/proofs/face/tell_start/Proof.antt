@@ -2,8 +2,8 @@
 use mathlib.Core.Path.{refl, ap, ◌∙◌}
 use borrow.Author.Rules.{rules}
 use Rattle.job.specs.Reply.{started}
-use Rattle.job.proofs.ReplyLaws.{started-notStarted, started-fresh}
-use Rattle.wetherstep.proofs.FaceLaws.{wordOf-none}
+use Rattle.job.proofs.ReplyLaws.{started_not_started, started-fresh}
+use Rattle.wetherstep.proofs.FaceLaws.{word_of-none}
 use Rattle.wetherstep.proofs.face.tell_start.Statement.{statement}
 use Rattle.wetherstep.proofs.face.tell_start.Tie as tie
 
@@ -24,13 +24,13 @@ pack-requires-2 c κs = search rules
 
 returns : tie.Need-returns
 returns c =
-    let told = ap started c.before.before.before.s.given.1 ∙ started-notStarted _ in
-    wordOf-none told c.before.number-refusal.ensures c.pack.ensures
+    let told = ap started c.before.before.before.s.given.1 ∙ started_not_started _ in
+    word_of-none told c.before.number-refusal.ensures c.pack.ensures
 
 returns-2 : tie.Need-returns-2
 returns-2 c =
     let told = ap started c.before.enum_told.given.1 ∙ started-fresh in
-    wordOf-none told refl c.pack2.ensures
+    word_of-none told refl c.pack2.ensures
 
 pub tell-start-spec : {M : Type 1} → statement M
 tell-start-spec =

@@ -2,8 +2,8 @@
 use mathlib.Core.Path.{ap, ◌∙◌}
 use borrow.Author.Rules.{rules}
 use Rattle.job.specs.Reply.{woken}
-use Rattle.job.proofs.ReplyLaws.{woken-notWoken, woken-moved}
-use Rattle.wetherstep.proofs.FaceLaws.{wordOf-none, wordOf-count}
+use Rattle.job.proofs.ReplyLaws.{woken_not_woken, woken-moved}
+use Rattle.wetherstep.proofs.FaceLaws.{word_of-none, word_of_count}
 use Rattle.wetherstep.proofs.face.tell_wake.Statement.{statement}
 use Rattle.wetherstep.proofs.face.tell_wake.Tie as tie
 
@@ -24,13 +24,13 @@ pack-requires-2 c κs = search rules
 
 returns : tie.Need-returns
 returns c =
-    let told = ap woken c.before.before.before.w.given.1 ∙ woken-notWoken _ in
-    wordOf-none told c.before.number-refusal.ensures c.pack.ensures
+    let told = ap woken c.before.before.before.w.given.1 ∙ woken_not_woken _ in
+    word_of-none told c.before.number-refusal.ensures c.pack.ensures
 
 returns-2 : tie.Need-returns-2
 returns-2 c =
     let told = ap woken c.before.before.w2.given.1 ∙ woken-moved _ in
-    wordOf-count told c.pack2.ensures
+    word_of_count told c.pack2.ensures
 
 pub tell-wake-spec : {M : Type 1} → statement M
 tell-wake-spec =

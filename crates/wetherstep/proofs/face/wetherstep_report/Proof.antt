@@ -2,7 +2,7 @@
 use mathlib.Core.Path.{ap, ◌∙◌}
 use borrow.Author.Rules.{rules}
 use Rattle.job.specs.Reply.{Reply}
-use Rattle.wetherstep.specs.Face.{word_of, figuresAfter}
+use Rattle.wetherstep.specs.Face.{word_of, figures_after}
 use Rattle.wetherstep.proofs.face.wetherstep_report.Statement.{statement}
 use Rattle.wetherstep.proofs.face.wetherstep_report.Tie as tie
 
@@ -17,7 +17,7 @@ returns c =
     let gave = c.before.before.report.ensures in
     let told = c.tell-report.ensures in
     let before = c.before.before.before.before.before.args.figures.now in
-    (told.0 ∙ ap word_of gave, told.1 ∙ ap (λ (r : Reply). figuresAfter r before) gave)
+    (told.0 ∙ ap word_of gave, told.1 ∙ ap (λ (r : Reply). figures_after r before) gave)
 
 pub wetherstep-report-spec : {M : Type 1} → statement M
 wetherstep-report-spec = tie.close (tie.spec report-requires tell-report-requires returns)

@@ -1,7 +1,7 @@
 -- The word is the sum that `packed` stands for, with no count. Assumes nothing.
 use native.Mathlib.Omega.{arith}
 use borrow.Author.Rules.{rules}
-use Rattle.wetherstep.proofs.FaceLaws.{packed-sum}
+use Rattle.wetherstep.proofs.FaceLaws.{packed_sum}
 use Rattle.wetherstep_record.proofs.face.pack.Statement.{statement}
 use Rattle.wetherstep_record.proofs.face.pack.Tie as tie
 
@@ -24,7 +24,7 @@ add-result-3 : tie.Need-overflow-add-result-3
 add-result-3 c = search rules
 
 returns : tie.Need-returns
-returns c = omega (arith, packed-sum c.args.number c.args.reason c.args.method c.args.ledger 0)
+returns c = omega (arith, packed_sum c.args.number c.args.reason c.args.method c.args.ledger 0)
 
 pub pack-spec : {M : Type 1} → statement M
 pack-spec = tie.close (tie.spec mul-result add-result mul-result-2 add-result-2 mul-result-3 add-result-3 returns)

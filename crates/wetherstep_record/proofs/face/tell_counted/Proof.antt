@@ -2,7 +2,7 @@
 -- nothing.
 use mathlib.Core.Path.{refl}
 use borrow.Author.Rules.{rules}
-use Rattle.wetherstep_record.proofs.FaceLaws.{recordWord-counted}
+use Rattle.wetherstep_record.proofs.FaceLaws.{record_word-counted}
 use Rattle.wetherstep_record.proofs.face.tell_counted.Statement.{statement}
 use Rattle.wetherstep_record.proofs.face.tell_counted.Tie as tie
 
@@ -13,7 +13,7 @@ pack-requires : tie.Need-pack-requires
 pack-requires c κs = search rules
 
 returns : tie.Need-returns
-returns c = (recordWord-counted refl c.before.number-ledger.ensures c.pack.ensures, refl)
+returns c = (record_word-counted refl c.before.number-ledger.ensures c.pack.ensures, refl)
 
 pub tell-counted-spec : {M : Type 1} → statement M
 tell-counted-spec = tie.close (tie.spec number-ledger-requires pack-requires returns)

@@ -2,8 +2,8 @@
 use mathlib.Core.Path.{sym, ap, ◌∙◌}
 use borrow.Author.Rules.{rules}
 use Rattle.rules.specs.Reader.{shown}
-use Rattle.wetherstep_record.specs.Face.{recordWord}
-use Rattle.wetherstep_record.proofs.FaceLaws.{recordWord-aside, massesAfter-aside, massesAfter-counted}
+use Rattle.wetherstep_record.specs.Face.{record_word}
+use Rattle.wetherstep_record.proofs.FaceLaws.{record_word_aside, masses_after_aside, masses_after-counted}
 use Rattle.wetherstep_record.proofs.face.tell_outcome.Statement.{statement}
 use Rattle.wetherstep_record.proofs.face.tell_outcome.Tie as tie
 
@@ -22,13 +22,13 @@ tell-counted-requires c κs = search rules
 returns : tie.Need-returns
 returns c =
     let seen = ap shown c.before.before.o.given.1 in
-    (recordWord-aside seen c.pack.ensures, sym (massesAfter-aside seen _))
+    (record_word_aside seen c.pack.ensures, sym (masses_after_aside seen _))
 
 returns-2 : tie.Need-returns-2
 returns-2 c =
     let seen = ap shown c.before.before.before.o2.given.1 in
     let told = c.tell-counted.ensures in
-    (told.0 ∙ ap recordWord (sym seen), told.1 ∙ sym (massesAfter-counted seen _))
+    (told.0 ∙ ap record_word (sym seen), told.1 ∙ sym (masses_after-counted seen _))
 
 pub tell-outcome-spec : {M : Type 1} → statement M
 tell-outcome-spec =

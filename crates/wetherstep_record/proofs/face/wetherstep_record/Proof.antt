@@ -2,7 +2,7 @@
 use mathlib.Core.Path.{ap, ◌∙◌}
 use borrow.Author.Rules.{rules}
 use Rattle.rules.specs.Reader.{Sight}
-use Rattle.wetherstep_record.specs.Face.{recordWord, massesAfter}
+use Rattle.wetherstep_record.specs.Face.{record_word, masses_after}
 use Rattle.wetherstep_record.proofs.face.wetherstep_record.Statement.{statement}
 use Rattle.wetherstep_record.proofs.face.wetherstep_record.Tie as tie
 
@@ -17,7 +17,7 @@ returns c =
     let seen = c.before.before.look.ensures in
     let told = c.tell-record.ensures in
     let before = c.before.before.before.before.args.masses.now in
-    (told.0 ∙ ap recordWord seen, told.1 ∙ ap (λ (x : Sight). massesAfter x before) seen)
+    (told.0 ∙ ap record_word seen, told.1 ∙ ap (λ (x : Sight). masses_after x before) seen)
 
 pub wetherstep-record-spec : {M : Type 1} → statement M
 wetherstep-record-spec = tie.close (tie.spec look-requires tell-record-requires returns)
