@@ -1,4 +1,6 @@
 // The annual report of the book on standard input, or the line that refuses it: `annual <BOOK`.
+#![tactic(auto)]
+
 use files::ended::Ended;
 use files::{Got, ended};
 use text::report;

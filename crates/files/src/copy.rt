@@ -9,7 +9,7 @@ use crate::{Got, real, save};
 pub const LONGEST_CHECKPOINT: usize = save::LONGEST_SAVED - 5;
 
 // How the copy stands to a book.
-#[derive(Drop)]
+#[derive(Clone, Copy)]
 pub(crate) enum Compared {
     Same,
     // There is no copy.

@@ -7,7 +7,7 @@ ghost use Rattle.files.specs.Ended.{is_done};
 
 use libc::STDERR_FILENO;
 
-#[derive(Drop)]
+#[derive(Clone, Copy)]
 pub enum Ended {
     // It did what it is for.
     Done,

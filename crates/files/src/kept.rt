@@ -14,7 +14,7 @@ use rules::book;
 use rules::book::Opened;
 
 // What is due before a wake of a book may be saved.
-#[derive(Drop)]
+#[derive(Clone, Copy)]
 pub enum Due {
     // The copy is this book.
     Nothing,
@@ -29,7 +29,7 @@ pub enum Due {
 }
 
 // Where a job stands.
-#[derive(Drop)]
+#[derive(Clone, Copy)]
 pub enum Place {
     // So many bytes of a checkpoint stand at the start of the buffer.
     At(usize),
@@ -40,7 +40,7 @@ pub enum Place {
 }
 
 // What came of a wake.
-#[derive(Drop)]
+#[derive(Clone, Copy)]
 pub enum Kept {
     // So many records were gone through, and the checkpoint is saved.
     Moved(u32),

@@ -3,6 +3,8 @@
 //
 // No contract can say what a call of the operating system read or wrote. Beside what it states, each
 // function is proved to end if those calls return.
+#![tactic(auto)]
+
 pub mod copy;
 pub mod ended;
 pub mod kept;
@@ -29,7 +31,7 @@ pub const BOOK_ROOM: usize = LONGEST_BOOK + 1;
 pub const CHECKPOINT_ROOM: usize = checkpoint::SIZE + 1;
 
 // What came of reading into a buffer. Either way its other bytes may have changed too.
-#[derive(Drop)]
+#[derive(Clone, Copy)]
 pub enum Got {
     // So many bytes stand at the start of the buffer: all there were, or as many as it holds.
     Bytes(usize),

@@ -7,7 +7,7 @@ use crate::checkpoint;
 use crate::reply::Refusal;
 use rules::book::Head;
 
-#[derive(Drop)]
+#[derive(Clone, Copy)]
 pub(crate) enum Admission {
     // The first rule that the checkpoint breaks.
     Refused(Refusal),

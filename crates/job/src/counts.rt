@@ -1,5 +1,5 @@
 // How far a job is: how many records are done, and which of them were set aside.
-#[derive(Drop)]
+#[derive(Clone, Copy)]
 pub struct Counts {
     pub done: u32,
     pub aside: u32,

@@ -23,7 +23,7 @@ use rules::weighing::Weighed;
 use rules::{hints, index, record, sorting, table, weighing};
 
 // How a quick look at a record ends.
-#[derive(Drop)]
+#[derive(Clone, Copy)]
 enum Taken {
     // The record is gone through.
     Done,

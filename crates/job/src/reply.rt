@@ -7,7 +7,7 @@ use rules::book;
 use rules::book::Fault;
 
 // Why a call was turned away. Nothing was written.
-#[derive(Drop)]
+#[derive(Clone, Copy)]
 pub enum Refusal {
     // 20 to 23: the book is not sound.
     Book(Fault),
@@ -31,21 +31,21 @@ pub fn number_refusal(x: Refusal) -> u8
     }
 }
 
-#[derive(Drop)]
+#[derive(Clone, Copy)]
 pub enum Started {
     NotStarted(Refusal),
     // The buffer holds a fresh checkpoint.
     Fresh,
 }
 
-#[derive(Drop)]
+#[derive(Clone, Copy)]
 pub enum Woken {
     NotWoken(Refusal),
     // The buffer holds the new checkpoint, and so many records were gone through.
     Moved(u32),
 }
 
-#[derive(Drop)]
+#[derive(Clone, Copy)]
 pub enum Reported {
     NotReported(Refusal),
     // 40: so many records are done, and some are left.
@@ -56,7 +56,7 @@ pub enum Reported {
     Given(Figures),
 }
 
-#[derive(Drop)]
+#[derive(Clone, Copy)]
 pub enum Remaining {
     Unknown(Refusal),
     // So many records are left.

@@ -1,5 +1,7 @@
 // A line for each record of the book on standard input, or the line that refuses the book:
 // `lines <BOOK`.
+#![tactic(auto)]
+
 use files::ended::Ended;
 use files::{Got, ended};
 use rules::{reader, table};

@@ -5,15 +5,15 @@ ghost use Rattle.mass.specs.Anode.{AnodesInReach, co2_of_anodes};
 use crate::{Ug, fuel, rounding};
 
 // Metal made, in kg.
-#[derive(Drop)]
+#[derive(Clone, Copy)]
 pub struct Metal(pub u32);
 
 // Net anode use, in g for each kg of metal.
-#[derive(Drop)]
+#[derive(Clone, Copy)]
 pub struct AnodeUse(pub u32);
 
 // What of the anodes isn't carbon, in hundredths of a percent.
-#[derive(Drop)]
+#[derive(Clone, Copy)]
 pub struct Impurities(pub u32);
 
 const HUNDREDTHS: u64 = 10000;

@@ -7,13 +7,13 @@ use crate::ledger::{Ledger, Ledgers};
 use crate::{Kg, Ng, ledger};
 
 // How many kilograms of CO2 one of each gas stands for.
-#[derive(Drop)]
+#[derive(Clone, Copy)]
 pub struct Warming {
     pub ch4: u64,
     pub n2o: u64,
 }
 
-#[derive(Drop)]
+#[derive(Clone, Copy)]
 pub struct Figures {
     pub fossil: Kg,
     pub biomass: Kg,

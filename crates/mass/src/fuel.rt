@@ -6,28 +6,28 @@ ghost use Rattle.mass.specs.Fuel.{HeatInReach, CarbonInReach, co2_of_heat, co2_o
 use crate::{Ng, Ug};
 
 // An amount of fuel in the unit of its kind: kilograms, litres or standard cubic metres.
-#[derive(Drop)]
+#[derive(Clone, Copy)]
 pub struct Amount(pub u32);
 
 // Heat in kJ for each unit of fuel.
-#[derive(Drop)]
+#[derive(Clone, Copy)]
 pub struct Heat(pub u32);
 
 // Heat as some suppliers of natural gas quote it, without that of its water vapour. No mass is made
 // from it as it stands.
-#[derive(Drop)]
+#[derive(Clone, Copy)]
 pub struct LowHeat(pub u32);
 
 // Carbon in mg for each unit of fuel.
-#[derive(Drop)]
+#[derive(Clone, Copy)]
 pub struct Carbon(pub u32);
 
 // CO2 in mg for each MJ of heat.
-#[derive(Drop)]
+#[derive(Clone, Copy)]
 pub struct Co2Factor(pub u32);
 
 // CH4 or N2O in µg for each MJ of heat.
-#[derive(Drop)]
+#[derive(Clone, Copy)]
 pub struct TraceFactor(pub u32);
 
 // µg of CO2 for each mg of carbon.

@@ -7,15 +7,15 @@ use crate::fuel::Amount;
 use crate::{Ug, fuel, rounding};
 
 // Carbon in mg for each kg of gas.
-#[derive(Drop)]
+#[derive(Clone, Copy)]
 pub struct CarbonShare(pub u32);
 
 // Molecular weight in g for each kmol.
-#[derive(Drop)]
+#[derive(Clone, Copy)]
 pub struct MolecularWeight(pub u32);
 
 // The room that a kmol of gas takes, in litres.
-#[derive(Drop)]
+#[derive(Clone, Copy)]
 pub struct MolarVolume(pub u32);
 
 pub fn weigh(a: Amount, c: CarbonShare, w: MolecularWeight, v: MolarVolume) -> Ug

@@ -4,7 +4,7 @@ ghost use Rattle.mass.specs.Ledger.{tonne, total, Canonical, Sound, ledger_of, a
 
 use crate::{Ng, Ug};
 
-#[derive(Drop)]
+#[derive(Clone, Copy)]
 pub struct Ledger {
     pub tonnes: u64,
     // Below a tonne.
@@ -12,7 +12,7 @@ pub struct Ledger {
 }
 
 // Where every mass of a site goes.
-#[derive(Drop)]
+#[derive(Clone, Copy)]
 pub struct Ledgers {
     pub fossil: Ledger,
     pub biomass: Ledger,

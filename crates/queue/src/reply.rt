@@ -6,7 +6,7 @@ ghost use Rattle.queue.specs.Reply.{queue_number};
 use crate::slots::Queue;
 
 // Why a call was turned away. The queue is as it was.
-#[derive(Drop)]
+#[derive(Clone, Copy)]
 pub enum Refusal {
     // 50: all 16 slots are taken.
     Full,
@@ -30,40 +30,40 @@ pub fn number_refusal(x: Refusal) -> u8
     }
 }
 
-#[derive(Drop)]
+#[derive(Clone, Copy)]
 pub enum Added {
     NotAdded(Refusal),
     // The book stands in this slot.
     At(usize),
 }
 
-#[derive(Drop)]
+#[derive(Clone, Copy)]
 pub enum Removed {
     NotRemoved(Refusal),
     // The slot is free.
     Gone,
 }
 
-#[derive(Drop)]
+#[derive(Clone, Copy)]
 pub enum Turned {
     NotTurned(Refusal),
     // This slot was served, and so many of its records moved.
     Served(usize, u32),
 }
 
-#[derive(Drop)]
+#[derive(Clone, Copy)]
 pub struct AfterAdd {
     pub answer: Added,
     pub queue: Queue,
 }
 
-#[derive(Drop)]
+#[derive(Clone, Copy)]
 pub struct AfterRemove {
     pub answer: Removed,
     pub queue: Queue,
 }
 
-#[derive(Drop)]
+#[derive(Clone, Copy)]
 pub struct AfterTurn {
     pub answer: Turned,
     pub queue: Queue,

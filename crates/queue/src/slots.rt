@@ -8,7 +8,7 @@ pub const SLOT_COUNT: usize = 16;
 const LAST_AT_START: u8 = 15;
 
 // What a slot holds. A book with 0 records left keeps its slot until it is removed.
-#[derive(Drop)]
+#[derive(Clone, Copy)]
 pub enum Slot {
     Free,
     // So many records are left of the book.
@@ -16,7 +16,7 @@ pub enum Slot {
 }
 
 // An array's elements are structs, not enums.
-#[derive(Drop)]
+#[derive(Clone, Copy)]
 pub struct Held {
     pub slot: Slot,
 }

@@ -1,4 +1,6 @@
 // Answers a stream of calls, so that any other program can drive the library: `replay <FRAMES`.
+#![tactic(auto)]
+
 use files::ended::Ended;
 use files::{Got, ended};
 use rules::reader;
@@ -24,7 +26,7 @@ const LONG: usize = frame::MOST_BEHIND as usize;
 const SHORT: usize = LONG / 2;
 
 // What came of a frame, or of filling one of its parts.
-#[derive(Drop)]
+#[derive(Clone, Copy)]
 enum Answered {
     Whole,
     // The input is over.

@@ -4,7 +4,7 @@ ghost use Rattle.roster.specs.Mistake.{is_long, mistake_in};
 
 use crate::{bytes, plants};
 
-#[derive(Drop)]
+#[derive(Clone, Copy)]
 pub enum Mistake {
     // The line begins with `#`.
     Comment,

@@ -6,7 +6,7 @@ ghost use Rattle.roster.specs.Search.{part_of};
 
 use crate::{bytes, lines};
 
-#[derive(Drop)]
+#[derive(Clone, Copy)]
 pub enum Listed {
     // So many plants, one a line.
     Plants(u8),
@@ -19,7 +19,7 @@ pub enum Listed {
 }
 
 // By what lines are compared.
-#[derive(Drop)]
+#[derive(Clone, Copy)]
 pub(crate) enum Part {
     Line,
     Checkpoint,

@@ -6,7 +6,7 @@ use crate::listing::Sort;
 use crate::{listing, trailer};
 
 // What is known of a book that was opened.
-#[derive(Drop)]
+#[derive(Clone, Copy)]
 pub struct Head {
     // How many records it has.
     pub n: usize,
@@ -20,7 +20,7 @@ pub struct Head {
     pub warming: u8,
 }
 
-#[derive(Drop)]
+#[derive(Clone, Copy)]
 pub enum Opened {
     // The first rule that the bytes break.
     Wrong(Fault),
@@ -28,7 +28,7 @@ pub enum Opened {
     Open(Head),
 }
 
-#[derive(Drop)]
+#[derive(Clone, Copy)]
 pub enum Fault {
     // 20: the length isn't a multiple of 32, or out of its range.
     Length,

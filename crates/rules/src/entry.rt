@@ -12,7 +12,7 @@ use mass::gas::{CarbonShare, MolarVolume, MolecularWeight};
 use mass::{Ng, Ug, anode, fuel, gas};
 
 // The ledger that a record's CO2 goes to. CH4 and N2O have one each.
-#[derive(Drop)]
+#[derive(Clone, Copy)]
 pub enum Destination {
     Fossil,
     Biomass,
@@ -20,7 +20,7 @@ pub enum Destination {
     Nowhere,
 }
 
-#[derive(Drop)]
+#[derive(Clone, Copy)]
 pub struct Entry {
     // 1 to 4, or 0 for a record of no fuel.
     pub method: u8,

@@ -7,7 +7,7 @@ ghost use Rattle.rules.specs.Factors.{factors_of};
 use crate::book::Head;
 use crate::{bytes, listed};
 
-#[derive(Drop)]
+#[derive(Clone, Copy)]
 pub struct Factors {
     // The default heat in kJ for each unit of fuel, 0 for none.
     pub heat: u32,

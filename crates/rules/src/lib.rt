@@ -1,4 +1,6 @@
 // The rules of a book: whether it is sound, and what becomes of each record. It knows no checkpoint.
+#![tactic(auto)]
+
 pub mod book;
 pub mod bytes;
 pub mod entry;

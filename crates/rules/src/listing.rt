@@ -7,7 +7,7 @@ ghost use Rattle.rules.specs.Listing.{line_ok, Rising, head_ok, blank_from};
 
 use crate::{bytes, listed};
 
-#[derive(Drop)]
+#[derive(Clone, Copy)]
 pub enum Sort {
     Unit,
     Fuel,
@@ -110,7 +110,7 @@ fn do_agree(kind: u8, class: u8) -> bool
     known & ((class == 0) | (kind as u32 + class as u32 == 4))
 }
 
-#[derive(Drop)]
+#[derive(Clone, Copy)]
 pub enum Found {
     At(usize),
     Nothing,

@@ -8,7 +8,7 @@ use crate::book::{Fault, Head, Opened};
 use crate::record::Outcome;
 use crate::{book, bytes, field, record};
 
-#[derive(Drop)]
+#[derive(Clone, Copy)]
 pub enum Seen {
     // The bytes are no sound book.
     Refused(Fault),
@@ -26,7 +26,7 @@ pub struct Reader<'a> {
 }
 
 // One step through the records of a book, from one place to the next.
-#[derive(Drop)]
+#[derive(Clone, Copy)]
 pub struct Step {
     // What is seen at the place.
     pub seen: Seen,
@@ -39,7 +39,7 @@ pub struct Step {
 }
 
 // Where a step leads: the place after it, and how many records are left from there on.
-#[derive(Drop)]
+#[derive(Clone, Copy)]
 struct Onward {
     next: usize,
     left: usize,

@@ -19,7 +19,7 @@ use mass::{Ug, gas};
 pub const HEAT_LIMITS: [u32; 8] = [0, 200000, 0, 200000, 0, 180000, 0, 180000];
 
 // What a fuel record adds, before the factors of its fuel enter.
-#[derive(Drop)]
+#[derive(Clone, Copy)]
 pub struct Share {
     // 16 for each fuel line before its own, and 4 if its unit's monitor gives the CO2.
     pub at: usize,
@@ -33,7 +33,7 @@ pub struct Share {
     pub co2: Ug,
 }
 
-#[derive(Drop)]
+#[derive(Clone, Copy)]
 pub enum Sorted {
     // Whether the record counts isn't said.
     Unsure,

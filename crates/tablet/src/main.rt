@@ -1,4 +1,6 @@
 // Several plants in turn, as a tablet starts it in the morning: `tablet LIST BUDGET`.
+#![tactic(auto)]
+
 mod log;
 mod plant;
 mod round;

@@ -18,7 +18,7 @@ pub(crate) struct Answer {
 }
 
 // What a plant is asked: how many records it has left, or a turn of so many.
-#[derive(Drop)]
+#[derive(Clone, Copy)]
 pub(crate) enum Asked {
     Count,
     Turn(u32),

@@ -19,7 +19,7 @@ use rules::book::LONGEST_BOOK;
 const MOST_TURNS: u32 = (SLOT_COUNT * (LONGEST_BOOK / 32 - 1)) as u32;
 
 // The queue, and what was told while it was filled or served.
-#[derive(Drop)]
+#[derive(Clone, Copy)]
 struct Round {
     queue: Queue,
     log: Log,

@@ -2,7 +2,7 @@
 ghost use Rattle.std.specs.Prelude.{◌≡◌};
 ghost use Rattle.text.specs.Budget.{is_digit, budget_in};
 
-#[derive(Drop)]
+#[derive(Clone, Copy)]
 pub enum Budget {
     Records(u32),
     // The word is no decimal number of 32 bits.

@@ -15,7 +15,7 @@ use rules::entry::{Destination, Entry};
 use rules::reader::Seen;
 use rules::record::Outcome;
 
-#[derive(Drop)]
+#[derive(Clone, Copy)]
 pub struct Frame {
     // 1 fresh start, 2 wake, 3 report, 4 one record.
     pub call: u8,
@@ -27,7 +27,7 @@ pub struct Frame {
     pub out: usize,
 }
 
-#[derive(Drop)]
+#[derive(Clone, Copy)]
 pub enum Asked {
     Call(Frame),
     // The bytes are no right head: nothing is answered from here on.
@@ -35,7 +35,7 @@ pub enum Asked {
 }
 
 // Why the answers end at a frame.
-#[derive(Drop)]
+#[derive(Clone, Copy)]
 pub enum Broken {
     // Its head breaks a rule.
     Head,
@@ -186,7 +186,7 @@ fn is_same(xs: [u64; 6], ys: [u64; 6]) -> bool
 }
 
 // What is told of a record, with 0 for what doesn't apply.
-#[derive(Drop)]
+#[derive(Clone, Copy)]
 struct Told {
     // 20 to 23 where the book is refused.
     number: u64,

@@ -1,4 +1,6 @@
 // The bytes of what the programs print and parse. A program reads, calls and writes.
+#![tactic(auto)]
+
 pub mod budget;
 pub mod frame;
 pub mod lines;

@@ -1,4 +1,6 @@
 // One wake of a job that is kept in files: `wake BOOK CHECKPOINT BUDGET [fresh]`.
+#![tactic(auto)]
+
 mod kept;
 
 use files::copy::LONGEST_CHECKPOINT;
