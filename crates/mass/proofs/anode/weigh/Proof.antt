@@ -7,36 +7,36 @@ use Rattle.mass.proofs.AnodeLaws.{anodes_le, anodes_carbon-le, anodes_product_le
 use Rattle.mass.proofs.anode.weigh.Statement.{statement}
 use Rattle.mass.proofs.anode.weigh.Tie as tie
 
-cast-anodes : tie.Need-overflow-cast-anodes
+cast-anodes : tie.Need-overflow_cast-anodes
 cast-anodes c = search rules
 
-cast-anodes-2 : tie.Need-overflow-cast-anodes-2
+cast-anodes-2 : tie.Need-overflow_cast-anodes-2
 cast-anodes-2 c = search rules
 
-mul-anodes : tie.Need-overflow-mul-anodes
+mul-anodes : tie.Need-overflow_mul-anodes
 mul-anodes c = omega (arith, anodes_le c.before.before.requires)
 
-cast-carbon : tie.Need-overflow-cast-carbon
+cast-carbon : tie.Need-overflow_cast-carbon
 cast-carbon c = search rules
 
-sub-carbon : tie.Need-overflow-sub-carbon
+sub-carbon : tie.Need-overflow_sub-carbon
 sub-carbon c = search rules
 
-mul-carbon : tie.Need-overflow-mul-carbon
+mul-carbon : tie.Need-overflow_mul-carbon
 mul-carbon c = omega (arith, anodes_carbon-le c.before.before.before.requires)
 
-mul-tenths : tie.Need-overflow-mul-tenths
+mul-tenths : tie.Need-overflow_mul-tenths
 mul-tenths c = omega (arith, anodes_product_le c.before.before.before.requires)
 
-round-fraction-requires : tie.Need-round-fraction-requires
+round-fraction-requires : tie.Need-round_fraction-co2-requires
 round-fraction-requires c κs = (omega (arith, anodes_product_le c.before.before.before.requires), lit< tt)
 
 returns : tie.Need-returns
 unfolding co2_of_anodes
-returns c = λ i. record { 0 = c.round-fraction.ensures i }
+returns c = λ i. record { 0 = c.round_fraction-co2.ensures i }
 
-pub weigh-spec : {M : Type 1} → statement M
-weigh-spec =
+pub weigh_spec : {M : Type 1} → statement M
+weigh_spec =
     tie.close
     (tie.spec
     cast-anodes

@@ -14,7 +14,7 @@ capped : (c : tie.After-cap)
     → total c.cap.result ≡ min (total c.before.before.before.args.biomass) (15000 * tonne)
 capped c = ap total c.cap.ensures ∙ total-ledger_of _
 
-returns : tie.Need-returns
+returns : tie.Need-returns-then-all-ge-REPORT_ALL_FROM
 unfolding total
 returns c =
     let a = c.before.before.args in
@@ -30,7 +30,7 @@ subtract-requires c κs =
     let h = c.before.before.before.requires in
     ((h.0.0, canonical), omega (arith, capped c))
 
-returns-2 : tie.Need-returns-2
+returns-2 : tie.Need-returns
 unfolding total
 returns-2 c =
     let a = c.before.before.before.before.args in
@@ -38,5 +38,5 @@ returns-2 c =
     ∙ ap (λ (x : ℕ). ledger_of (total a.all - x)) (capped c.before)
     ∙ sym (ap ledger_of (decisive-small (total a.all) (total a.biomass) (omega arith)))
 
-pub leave-out-spec : {M : Type 1} → statement M
-leave-out-spec = tie.close (tie.spec returns cap-requires subtract-requires returns-2)
+pub leave_out_spec : {M : Type 1} → statement M
+leave_out_spec = tie.close (tie.spec returns cap-requires subtract-requires returns-2)

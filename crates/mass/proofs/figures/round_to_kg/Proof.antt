@@ -6,18 +6,18 @@ use Rattle.mass.proofs.FiguresLaws.{kg_of_parts}
 use Rattle.mass.proofs.figures.round_to_kg.Statement.{statement}
 use Rattle.mass.proofs.figures.round_to_kg.Tie as tie
 
-mul-kg : tie.Need-overflow-mul-kg
+mul-kg : tie.Need-overflow_mul-kg
 mul-kg c = search rules
 
-add-kg : tie.Need-overflow-add-kg
+add-kg : tie.Need-overflow_add-kg
 add-kg c = search rules
 
-add-kg-2 : tie.Need-overflow-add-kg-2
+add-kg-2 : tie.Need-overflow_add-kg-2
 add-kg-2 c = search rules
 
 returns : tie.Need-returns
 unfolding total
 returns c = kg_of_parts _ _ _ refl
 
-pub round-to-kg-spec : {M : Type 1} → statement M
-round-to-kg-spec = tie.close (tie.spec mul-kg add-kg add-kg-2 returns)
+pub round_to_kg_spec : {M : Type 1} → statement M
+round_to_kg_spec = tie.close (tie.spec mul-kg add-kg add-kg-2 returns)

@@ -5,14 +5,14 @@ use Rattle.mass.proofs.FuelLaws.{high_of_hundredths}
 use Rattle.mass.proofs.fuel.find_high.Statement.{statement}
 use Rattle.mass.proofs.fuel.find_high.Tie as tie
 
-mul-hundredths : tie.Need-overflow-mul-hundredths
+mul-hundredths : tie.Need-overflow_mul-hundredths
 mul-hundredths c = search rules
 
-add-kj : tie.Need-overflow-add-kj
+add-kj : tie.Need-overflow_add-kj
 add-kj c = search rules
 
 returns : tie.Need-returns
 returns c = high_of_hundredths _ _ refl
 
-pub find-high-spec : {M : Type 1} → statement M
-find-high-spec = tie.close (tie.spec mul-hundredths add-kj returns)
+pub find_high_spec : {M : Type 1} → statement M
+find_high_spec = tie.close (tie.spec mul-hundredths add-kj returns)

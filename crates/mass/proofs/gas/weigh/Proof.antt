@@ -8,22 +8,22 @@ use Rattle.mass.proofs.GasLaws.{gas_carbon-le, gas_weight_le, gas_left_lt, gas_w
 use Rattle.mass.proofs.gas.weigh.Statement.{statement}
 use Rattle.mass.proofs.gas.weigh.Tie as tie
 
-cast-carbon : tie.Need-overflow-cast-carbon
+cast-carbon : tie.Need-overflow_cast-carbon
 cast-carbon c = search rules
 
-cast-carbon-2 : tie.Need-overflow-cast-carbon-2
+cast-carbon-2 : tie.Need-overflow_cast-carbon-2
 cast-carbon-2 c = search rules
 
-mul-carbon : tie.Need-overflow-mul-carbon
+mul-carbon : tie.Need-overflow_mul-carbon
 mul-carbon c = omega (arith, gas_carbon-le c.before.before.requires)
 
-cast-weight : tie.Need-overflow-cast-weight
+cast-weight : tie.Need-overflow_cast-weight
 cast-weight c = search rules
 
-mul-weight : tie.Need-overflow-mul-weight
+mul-weight : tie.Need-overflow_mul-weight
 mul-weight c = omega (arith, gas_weight_le c.before.before.before.requires)
 
-round-product-requires : tie.Need-round-product-requires
+round-product-requires : tie.Need-round_product-co2-requires
 round-product-requires c κs =
     let r = c.before.before.before.requires in
     (lt_of_lt_of_le (lit< tt) r.volume_ge, (gas_left_lt r, gas_whole-lt r))
@@ -31,11 +31,11 @@ round-product-requires c κs =
 returns : tie.Need-returns
 returns c =
     let a = c.before.before.before.before.args in
-    let mass = c.round-product.ensures ∙ co2_of_gas_product a.a a.c a.w a.v in
+    let mass = c.round_product-co2.ensures ∙ co2_of_gas_product a.a a.c a.w a.v in
     λ i. record { 0 = mass i }
 
-pub weigh-spec : {M : Type 1} → statement M
-weigh-spec =
+pub weigh_spec : {M : Type 1} → statement M
+weigh_spec =
     tie.close
     (tie.spec
     cast-carbon

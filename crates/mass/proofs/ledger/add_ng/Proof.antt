@@ -6,7 +6,7 @@ use Rattle.mass.specs.Ledger.{total, ledger_of, added}
 use Rattle.mass.proofs.ledger.add_ng.Statement.{statement}
 use Rattle.mass.proofs.ledger.add_ng.Tie as tie
 
-add-carry : tie.Need-overflow-add-carry
+add-carry : tie.Need-overflow_add-g
 add-carry c = search rules
 
 carry-requires : tie.Need-carry-requires
@@ -16,5 +16,5 @@ returns : tie.Need-returns
 unfolding added total
 returns c = c.carry.ensures ∙ ap ledger_of (omega arith)
 
-pub add-ng-spec : {M : Type 1} → statement M
-add-ng-spec = tie.close (tie.spec add-carry carry-requires returns)
+pub add_ng_spec : {M : Type 1} → statement M
+add_ng_spec = tie.close (tie.spec add-carry carry-requires returns)

@@ -7,13 +7,13 @@ use Rattle.mass.specs.Ledger.{total, ledger_of, added}
 use Rattle.mass.proofs.ledger.add_ug.Statement.{statement}
 use Rattle.mass.proofs.ledger.add_ug.Tie as tie
 
-mul-rest : tie.Need-overflow-mul-rest
+mul-rest : tie.Need-overflow_mul-rest
 mul-rest c = search rules
 
-add-carry : tie.Need-overflow-add-carry
+add-carry : tie.Need-overflow_add-g
 add-carry c = search rules
 
-add-carry-2 : tie.Need-overflow-add-carry-2
+add-carry-2 : tie.Need-overflow_add-g-2
 add-carry-2 c = search rules
 
 carry-requires : tie.Need-carry-requires
@@ -23,5 +23,5 @@ returns : tie.Need-returns
 unfolding added total
 returns c = c.carry.ensures ∙ ap ledger_of (omega arith)
 
-pub add-ug-spec : {M : Type 1} → statement M
-add-ug-spec = tie.close (tie.spec mul-rest add-carry add-carry-2 carry-requires returns)
+pub add_ug_spec : {M : Type 1} → statement M
+add_ug_spec = tie.close (tie.spec mul-rest add-carry add-carry-2 carry-requires returns)

@@ -6,11 +6,11 @@ use Rattle.mass.proofs.LedgerLaws.{ledger_of_unique}
 use Rattle.mass.proofs.ledger.carry.Statement.{statement}
 use Rattle.mass.proofs.ledger.carry.Tie as tie
 
-add-t4 : tie.Need-overflow-add-t4
+add-t4 : tie.Need-overflow_add-result
 add-t4 c = search rules
 
 returns : tie.Need-returns
 returns c = ledger_of_unique _ _ (omega arith) (omega arith)
 
-pub carry-spec : {M : Type 1} → statement M
-carry-spec = tie.close (tie.spec add-t4 returns)
+pub carry_spec : {M : Type 1} → statement M
+carry_spec = tie.close (tie.spec add-t4 returns)

@@ -8,13 +8,13 @@ use Rattle.mass.specs.Rounding.{nearest_to}
 use Rattle.mass.proofs.rounding.round_fraction.Statement.{statement}
 use Rattle.mass.proofs.rounding.round_fraction.Tie as tie
 
-div-round-mixed : tie.Need-nonzero-div-round-mixed
+div-round-mixed : tie.Need-nonzero_div-n
 div-round-mixed c = search rules
 
-rem-round-mixed : tie.Need-nonzero-rem-round-mixed
+rem-round-mixed : tie.Need-nonzero_rem-n
 rem-round-mixed c = search rules
 
-round-mixed-requires : tie.Need-round-mixed-requires
+round-mixed-requires : tie.Need-round_mixed-requires
 round-mixed-requires c κs =
     let n = c.args.n in
     let d = c.args.d in
@@ -23,8 +23,8 @@ round-mixed-requires c κs =
 returns : tie.Need-returns
 returns c =
     let a = c.before.args in
-    c.round-mixed.ensures ∙ ap (λ (m : ℕ). nearest_to m a.d) (div-add-mod' a.n a.d)
+    c.round_mixed.ensures ∙ ap (λ (m : ℕ). nearest_to m a.d) (div-add-mod' a.n a.d)
 
-pub round-fraction-spec : {M : Type 1} → statement M
-round-fraction-spec =
+pub round_fraction_spec : {M : Type 1} → statement M
+round_fraction_spec =
     tie.close (tie.spec div-round-mixed rem-round-mixed round-mixed-requires returns)

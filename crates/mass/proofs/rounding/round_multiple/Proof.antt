@@ -20,7 +20,7 @@ bits c = to_bits binary64 c.args.p
 
 units : (c : tie.Start)
     → units_in binary64 c.args.p ≡ field_units binary64 (exponent (bits c)) (digits (bits c))
-units c = units_in-to_bits c.args.p (subst T (sym c.well-formed.1.0.1) tt) c.requires.1.0
+units c = units_in-to_bits c.args.p (subst T (sym c.well_formed.1.0.1) tt) c.requires.1.0
 
 few : (c : tie.Start) → digits (bits c) < 2 ^ 52
 few c = mod-lt _ (pow_pos 52)
@@ -33,17 +33,17 @@ at_most c =
 room : (c : tie.Start) → c.args.k * (2 ^ 52 + digits (bits c)) < 2 ^ 63
 room c = omega (arith, few c, mul-le-mul_right (2 ^ 52 + digits (bits c)) c.requires.0)
 
-float-to-bits-bits : tie.Need-float-to-bits-bits
+float-to-bits-bits : tie.Need-float_to_bits-bits
 float-to-bits-bits c = natural→number c.args.p c.requires.1.0
 
-returns : tie.Need-returns
+returns : tie.Need-returns-then-exponent-lt-LEAST
 returns c =
     let s = c.before in
     let k = s.args.k in
-    sym (multiple_vanishes k (exponent (bits s)) (digits (bits s)) s.requires.0 (few s) c.if1.true)
+    sym (multiple_vanishes k (exponent (bits s)) (digits (bits s)) s.requires.0 (few s) c.if-exponent-lt-LEAST.true)
     ∙ ap (λ (u : ℕ). nearest_to (k * u) (2 ^ 1074)) (sym (units s))
 
-add-digits : tie.Need-overflow-add-digits
+add-digits : tie.Need-overflow_add-digits
 add-digits c = search rules
 
 abbrev divisor : tie.Start → ℕ
@@ -55,33 +55,33 @@ power c h =
     let places = 1075 - exponent (bits c) in
     shl_exact 1 places 64 (lit< tt) (omega arith) ∙ one-mul (2 ^ places)
 
-mul-round-fraction : tie.Need-overflow-mul-round-fraction
+mul-round-fraction : tie.Need-overflow_mul-k
 mul-round-fraction c = omega (arith, room c.before)
 
-sub-round-fraction : tie.Need-overflow-sub-round-fraction
+sub-round-fraction : tie.Need-overflow_sub-exponent
 sub-round-fraction c = omega (arith, at_most c.before)
 
-shl-round-fraction : tie.Need-overflow-shl-round-fraction
+shl-round-fraction : tie.Need-overflow_shl-exponent
 shl-round-fraction c = search rules
 
-round-fraction-requires : tie.Need-round-fraction-requires
+round-fraction-requires : tie.Need-round_fraction-requires
 round-fraction-requires c κs = (
   room c.before,
-  omega (arith, power c.before c.if1.false, pow_pos (1075 - exponent (bits c.before))),
+  omega (arith, power c.before c.if-exponent-lt-LEAST.false, pow_pos (1075 - exponent (bits c.before))),
 )
 
-returns-2 : tie.Need-returns-2
+returns-2 : tie.Need-returns
 returns-2 c =
     let e = c.before in
     let s = e.before in
     let k = s.args.k in
-    c.round-fraction.ensures
-    ∙ ap (nearest_to (k * (2 ^ 52 + digits (bits s)))) (power s e.if1.false)
-    ∙ multiple_reduced k (exponent (bits s)) (digits (bits s)) e.if1.false (at_most s)
+    c.round_fraction.ensures
+    ∙ ap (nearest_to (k * (2 ^ 52 + digits (bits s)))) (power s e.if-exponent-lt-LEAST.false)
+    ∙ multiple_reduced k (exponent (bits s)) (digits (bits s)) e.if-exponent-lt-LEAST.false (at_most s)
     ∙ ap (λ (u : ℕ). nearest_to (k * u) (2 ^ 1074)) (sym (units s))
 
-pub round-multiple-spec : {M : Type 1} → statement M
-round-multiple-spec = tie.close (tie.spec
+pub round_multiple_spec : {M : Type 1} → statement M
+round_multiple_spec = tie.close (tie.spec
     float-to-bits-bits
     returns
     add-digits
