@@ -123,8 +123,9 @@ entered (v ∷ vs) o l n t = entered vs (o + 64) l n (set t (o + n) (v l))
 filled_entered : {v : List ℕ → ℕ} {s t : List ℕ} {o n : ℕ} (vs : List (List ℕ → ℕ)) (q j : ℕ) (l : List ℕ) → o + 64 ≤ q
     → Filled v s o n t → Filled v s o n (entered vs q l j t)
 filled_entered [] q j l h filled = filled
-filled_entered (w ∷ vs) q j l h filled =
-    filled_entered vs (q + 64) j l (omega arith) (filled_kept filled (q + j) (w l) (λ i low e. omega arith))
+filled_entered {v} {s} {t} {o} {n} (w ∷ vs) q j l h filled =
+    filled_entered {t = set t (q + j) (w l)} vs (q + 64) j l (omega arith)
+    (filled_kept filled (q + j) (w l) (λ i low e. omega arith))
 
 columns-kept : {s t : List ℕ} {n o : ℕ} {vs : List (List ℕ → ℕ)} (p x : ℕ) → p < o → Columns s n t vs o
     → Columns s n (set t p x) vs o
@@ -135,10 +136,10 @@ columns-kept p x h (more filled rest) =
 columns_next : {s t : List ℕ} {n o : ℕ} (vs : List (List ℕ → ℕ)) → n < 64 → Columns s n t vs o
     → Columns s (n + 1) (entered vs o (line n s) n t) vs o
 columns_next [] few none = none
-columns_next {s} {n = n} {o} (v ∷ vs) few (more filled rest) =
+columns_next {s} {t} {n} {o} (v ∷ vs) few (more filled rest) =
     more
     (filled_entered vs (o + 64) n (line n s) (omega arith) (filled_next filled few))
-    (columns_next vs few (columns-kept (o + n) (v (line n s)) (omega arith) rest))
+    (columns_next {t = set t (o + n) (v (line n s))} vs few (columns-kept (o + n) (v (line n s)) (omega arith) rest))
 
 pub columns-blank : {t : List ℕ} (vs : List (List ℕ → ℕ)) (s : List ℕ) (o m : ℕ) → o + 64 * length vs ≤ m
     → t ≡ replicate m no_number → Columns s 0 t vs o

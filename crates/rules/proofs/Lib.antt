@@ -32,9 +32,6 @@ pub mod ListedLaws
 pub mod AloneLaws
 pub mod ReasonLaws
 pub mod ReaderLaws
-pub mod WalkLaws
-pub mod ReaderHeld
-pub mod ReaderRelay
 pub mod Cases
 pub mod Sample
 pub mod Unique

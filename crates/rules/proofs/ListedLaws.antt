@@ -44,6 +44,7 @@ module _ (ok : List ℕ → Bool) where
   above-lines_ok : (before : ℕ) (ls : List (List ℕ)) (a : List ℕ) → lines_ok ok before ls ≡ true → Memᴰ a ls
       → before < number a
   unfolding lines_ok
+  above-lines_ok before [] a h i = elim i [ ]
   above-lines_ok before (y ∷ ls) a h (Memᴰ.head p) =
       subst (λ (b : List ℕ). before < number b) (sym p) (ltb-true _ _ (also_l _ _ (also_l _ _ h)))
   above-lines_ok before (y ∷ ls) a h (Memᴰ.tail i) =
@@ -55,6 +56,7 @@ module _ (ok : List ℕ → Bool) where
   same-lines_ok : (before : ℕ) (ls : List (List ℕ)) (a b : List ℕ) → lines_ok ok before ls ≡ true
       → number a ≡ number b → Memᴰ a ls → Memᴰ b ls → a ≡ b
   unfolding lines_ok
+  same-lines_ok before [] a b h e i j = elim i [ ]
   same-lines_ok before (y ∷ ls) a b h e (Memᴰ.head p) (Memᴰ.head q) = p ∙ sym q
   same-lines_ok before (y ∷ ls) a b h e (Memᴰ.head p) (Memᴰ.tail j) =
       let first : number a ≡ number y = ap number p in

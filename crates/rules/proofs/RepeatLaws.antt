@@ -46,6 +46,7 @@ stands_snoc k u w (e ∷ ls) l =
 pub stands-among : (k u w : ℕ) (ls : List (List ℕ)) (e : List ℕ) → Memᴰ e ls → Is k u w e
     → stands k u w ls ≡ true
 unfolding stands
+stands-among k u w [] e i is = elim i [ ]
 stands-among k u w (l ∷ ls) e (Memᴰ.head p) is =
     either_t _ (ap (is_of k u w) (sym p) ∙ is_of_is k u w e is)
 stands-among k u w (l ∷ ls) e (Memᴰ.tail i) is =

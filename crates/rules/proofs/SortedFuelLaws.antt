@@ -3,7 +3,7 @@
 use Rattle.std.proofs.Common.{◌≡◌, ℕ, ◌+◌, ◌*◌, ◌/◌, ◌%◌, ◌<◌, ◌≤◌, Bool, true, false, not, ◌&&◌, eqb, List, get_or, sym, refl, ap, ◌∙◌, ap₂, le_trans, le_of_eq, le_refl, mul-le-mul, zero-mul, mul-one, arith, lit<, eq-eqb, ne_eqb, eqb-true, le-leb, leb-true}
 use borrow.Author.Tests.{eqb-false}
 use Rattle.choice.proofs.Splitting.{if_test}
-use Rattle.choice.proofs.TestsLaws.{also_t, also_l, also_r, either_t, either_f, choose_t, choose_f, both, is_so}
+use Rattle.choice.proofs.TestsLaws.{also_t, also_l, also_r, either_t, either_f, choose_t, choose_f, both, is}
 use Rattle.mass.specs.declared.Ug.{Ug}
 use Rattle.mass.proofs.FuelLaws.{co2_of_heat_is, co2_of_carbon_is}
 use Rattle.rules.specs.declared.book.Head.{Head}
@@ -168,10 +168,10 @@ pub record Tested (m us fs : List ℕ) (unit fuel j k : ℕ) : Type 0 where
 pub tested : {form heat carbon allowed : Bool} (m us fs : List ℕ) (unit fuel j k : ℕ)
     → form ≡ form_right m → heat ≡ heat_right m → carbon ≡ carbon_right (get_or fs (192 + k) 0) m
     → allowed ≡ allowed_by m (get_or fs (get_or us (64 + j) 0 % 256 + k) 0)
-    → not (eqb (get_or us j 0) unit && eqb (get_or fs k 0) fuel && form && heat && carbon && allowed) ≡ false
+    → (eqb (get_or us j 0) unit && eqb (get_or fs k 0) fuel && form && heat && carbon && allowed) ≡ true
     → Tested m us fs unit fuel j k
 tested m us fs unit fuel j k form heat carbon allowed all =
-    let row = is_so (both (both (both (both (both refl refl) form) heat) carbon) allowed) all in
+    let row = is (both (both (both (both (both refl refl) form) heat) carbon) allowed) all in
     let carbons = also_l _ _ row in
     let heats = also_l _ _ carbons in
     let formed = also_l _ _ heats in

@@ -2,7 +2,7 @@
 -- monitor, from none of it: an amount of 0 gives none. Assumes nothing.
 use Rattle.std.proofs.Common.{◌≡◌, ℕ, ◌+◌, ◌-◌, ◌*◌, ◌/◌, ◌%◌, ◌<◌, ◌≤◌, Bool, true, false, not, ◌&&◌, eqb, ltb, List, get_or, sym, refl, ap, ◌∙◌, ap₂, le_trans, le_of_eq, mul-le-mul, zero-mul, mul-one, arith, lit<, lit≤, ltb-true, lt-ltb, eq-eqb, ne_eqb, eqb-true, le-leb, leb-true}
 use Rattle.choice.proofs.Splitting.{if_test}
-use Rattle.choice.proofs.TestsLaws.{also_t, also_f, also_l, also_r, either_f, choose_t, choose_f, both, is_so}
+use Rattle.choice.proofs.TestsLaws.{also_t, also_f, also_l, also_r, either_f, choose_t, choose_f, both, is}
 use Rattle.mass.specs.declared.Ug.{Ug}
 use Rattle.mass.specs.Gas.{GasInReach, co2_of_gas}
 use Rattle.mass.proofs.GasLaws.{co2_of_gas-none}
@@ -188,11 +188,11 @@ pub record Tested (m us fs : List ℕ) (unit fuel j k : ℕ) : Type 0 where
 
 pub tested : {form heat allowed : Bool} (m us fs : List ℕ) (unit fuel j k : ℕ)
     → form ≡ gas_right m → heat ≡ heat_right m → allowed ≡ allowed_by m (get_or fs (128 + k) 0)
-    → not (eqb (get_or us j 0) unit && eqb (get_or fs k 0) fuel && form && heat && ltb 0 (get_or fs (256 + k) 0) && allowed)
-    ≡ false
+    → (eqb (get_or us j 0) unit && eqb (get_or fs k 0) fuel && form && heat && ltb 0 (get_or fs (256 + k) 0) && allowed)
+    ≡ true
     → Tested m us fs unit fuel j k
 tested m us fs unit fuel j k form heat allowed all =
-    let row = is_so (both (both (both (both (both refl refl) form) heat) refl) allowed) all in
+    let row = is (both (both (both (both (both refl refl) form) heat) refl) allowed) all in
     let volumes = also_l _ _ row in
     let heats = also_l _ _ volumes in
     let formed = also_l _ _ heats in

@@ -1,10 +1,5 @@
--- Two results that a public contract allows are equal. `Post` is the contract's own reading. A
--- function over a reader has none, since the borrow checker doesn't cover it: there the two are equal
--- wherever its `ensures` holds of both, in any model of the logic. Assumes nothing.
+-- Two results that a public contract allows are equal. `Post` is the contract's own reading. Assumes nothing.
 use Rattle.std.proofs.Common.{◌≡◌, sym, ap, ◌∙◌}
-use seplogic.Ra.Ura.{Ura}
-use base.Logic.{ent, sep, fst∗, snd∗}
-use contract.Monad.{fact, fact_i, fact_use}
 use Rattle.rules.specs.Reader.{left_from}
 use Rattle.rules.proofs.BookLaws.{answer_inj}
 use Rattle.rules.proofs.ReaderLaws.{sight_inj}
@@ -23,9 +18,9 @@ use Rattle.rules.proofs.table.does_serve.Reads as does-serve
 use Rattle.rules.proofs.table.note_records.Reads as note-records
 use Rattle.rules.proofs.reader.look.Reads as look
 use Rattle.rules.proofs.reader.take_step.Reads as take_step
-use Rattle.rules.specs.contracts.reader.look_next as look-next
-use Rattle.rules.specs.contracts.reader.count_left as count_left
-use Rattle.rules.specs.contracts.reader.advance as advance
+use Rattle.rules.proofs.reader.look_next.Reads as look-next
+use Rattle.rules.proofs.reader.count_left.Reads as count_left
+use Rattle.rules.proofs.reader.advance.Reads as advance
 
 pub read_word_unique : (κs : _) (a : _) (r s : _) (x y : _) → read_word.Post κs a r x → read_word.Post κs a s y → r ≡ s
 read_word_unique κs a r s x y p q = p.0 ∙ sym q.0
@@ -97,31 +92,13 @@ pub take_step_table_unique : (κs : _) (a : _) (r s : _) (x y : _)
     → take_step.Post κs a r x → take_step.Post κs a s y → x.1.1.0.now ≡ y.1.1.0.now
 take_step_table_unique κs a r s x y p q = p.1.1.1.1 ∙ sym q.1.1.1.1
 
--- Where two facts hold side by side, so does what follows from them.
-both : {M : Type 1} (𝓤 : Ura M) (P Q R : Type 0) → (P → Q → R)
-    → ent 𝓤 (sep 𝓤 (fact 𝓤 P) (fact 𝓤 Q)) (fact 𝓤 R)
-both 𝓤 P Q R f =
-    fact_use 𝓤 P (fst∗ 𝓤 (fact 𝓤 P) (fact 𝓤 Q))
-    (λ p. fact_use 𝓤 Q (snd∗ 𝓤 (fact 𝓤 P) (fact 𝓤 Q)) (λ q. fact_i 𝓤 R (sep 𝓤 (fact 𝓤 P) (fact 𝓤 Q)) (f p q)))
+pub look_next_unique : (κs : _) (a : _) (r s : _) (x y : _)
+    → look-next.Post κs a r x → look-next.Post κs a s y → r ≡ s
+look_next_unique κs a r s x y p q = sight_inj r s (p ∙ sym q)
 
-module _ {M : Type 1} (𝓤 : Ura M) (H : _) (A : _) (mem : _) (run : _) (κs : _) (a : _) (x y : _) where
-  pub look_next_unique : (r s : _)
-      → ent 𝓤
-      (sep 𝓤 ((look-next.clauses 𝓤 H A mem run κs a).ensures tt r x)
-      ((look-next.clauses 𝓤 H A mem run κs a).ensures tt s y))
-      (fact 𝓤 (r ≡ s))
-  look_next_unique r s = both 𝓤 _ _ (r ≡ s) (λ p q. sight_inj r s (p ∙ sym q))
+pub count_left_unique : (κs : _) (a : _) (r s : _) (x y : _)
+    → count_left.Post κs a r x → count_left.Post κs a s y → r ≡ s
+count_left_unique κs a r s x y p q = p ∙ sym q
 
-  pub count_left_unique : (r s : _)
-      → ent 𝓤
-      (sep 𝓤 ((count_left.clauses 𝓤 H A mem run κs a).ensures tt r x)
-      ((count_left.clauses 𝓤 H A mem run κs a).ensures tt s y))
-      (fact 𝓤 (r ≡ s))
-  count_left_unique r s = both 𝓤 _ _ (r ≡ s) (λ p q. p ∙ sym q)
-
-  pub advance_unique : (r s : _)
-      → ent 𝓤
-      (sep 𝓤 ((advance.clauses 𝓤 H A mem run κs a).ensures tt r x)
-      ((advance.clauses 𝓤 H A mem run κs a).ensures tt s y))
-      (fact 𝓤 (r ≡ s))
-  advance_unique r s = both 𝓤 _ _ (r ≡ s) (λ p q. p ∙ sym q)
+pub advance_unique : (κs : _) (a : _) (r s : _) (x y : _) → advance.Post κs a r x → advance.Post κs a s y → r ≡ s
+advance_unique κs a r s x y p q = p ∙ sym q

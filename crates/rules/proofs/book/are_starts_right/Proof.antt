@@ -9,5 +9,5 @@ returns : tie.Need-returns
 unfolding starts_ok
 returns c = both (both (both refl refl) refl) refl
 
-pub are-starts-right-spec : {M : Type 1} → statement M
-are-starts-right-spec = tie.close (tie.spec returns)
+pub are_starts_right_spec : {M : Type 1} → statement M
+are_starts_right_spec = tie.close (tie.spec returns)

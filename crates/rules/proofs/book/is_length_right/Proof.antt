@@ -9,5 +9,5 @@ returns : tie.Need-returns
 unfolding length_ok
 returns c = both (both refl refl) refl
 
-pub is-length-right-spec : {M : Type 1} → statement M
-is-length-right-spec = tie.close (tie.spec returns)
+pub is_length_right_spec : {M : Type 1} → statement M
+is_length_right_spec = tie.close (tie.spec returns)

@@ -6,38 +6,38 @@ use Rattle.rules.proofs.BytesLaws.{zeros-split, zero_or}
 use Rattle.rules.proofs.bytes.are_zero.Statement.{statement}
 use Rattle.rules.proofs.bytes.are_zero.Tie as tie
 
-abbrev invariant-loop : tie.invariant-loop
+abbrev invariant-loop : tie.invariant-loop-at
 invariant-loop s from to start seen₀ at₀ seen at =
     (from ≤ at) × (at ≤ to) × ((to - at) % 8 ≡ 0) × (eqb seen 0 ≡ zeros s from (at - from))
 
-abbrev decreases-loop : tie.decreases-loop
+abbrev decreases-loop : tie.decreases-loop-at
 decreases-loop s from to start seen₀ at₀ seen at = to - at
 
-sub-start : tie.Need-overflow-sub-start invariant-loop decreases-loop
+sub-start : tie.Need-overflow_sub-start invariant-loop decreases-loop
 sub-start c = search rules
 
-add_start : tie.Need-overflow-add-start invariant-loop decreases-loop
+add_start : tie.Need-overflow_add-start invariant-loop decreases-loop
 add_start c = search rules
 
-gather-few-requires : tie.Need-gather-few-requires invariant-loop decreases-loop
+gather-few-requires : tie.Need-gather_few-seen-requires invariant-loop decreases-loop
 gather-few-requires c κs = search rules
 
-loop-holds : tie.Need-loop-init invariant-loop decreases-loop
-loop-holds c = (search rules, search rules, search rules, c.gather-few.ensures)
+loop-holds : tie.Need-loop-at-init invariant-loop decreases-loop
+loop-holds c = (search rules, search rules, search rules, c.gather_few-seen.ensures)
 
-read-word-requires : tie.Need-read-word-requires invariant-loop decreases-loop
+read-word-requires : tie.Need-read_word-seen-requires invariant-loop decreases-loop
 read-word-requires c κs = search rules
 
-add_at : tie.Need-overflow-add-at invariant-loop decreases-loop
+add_at : tie.Need-overflow_add-at invariant-loop decreases-loop
 add_at c = search rules
 
-loop-less : tie.Need-loop-smaller invariant-loop decreases-loop
+loop-less : tie.Need-loop-at-smaller invariant-loop decreases-loop
 loop-less c = search rules
 
-loop-again : tie.Need-loop-preserved invariant-loop decreases-loop
+loop-again : tie.Need-loop-at-preserved invariant-loop decreases-loop
 loop-again c =
-    let loop = c.before.before.loop in
-    let eight = c.read_word in (
+    let loop = c.loop-at in
+    let eight = c.read_word-seen in (
       search rules,
       search rules,
       search rules,
@@ -47,10 +47,10 @@ loop-again c =
     )
 
 returns : tie.Need-returns invariant-loop decreases-loop
-returns c = c.before.loop.invariant.3 ∙ ap (zeros _ _) (omega arith)
+returns c = c.loop-at.invariant.3 ∙ ap (zeros _ _) (omega arith)
 
-pub are-zero-spec : {M : Type 1} → statement M
-are-zero-spec =
+pub are_zero_spec : {M : Type 1} → statement M
+are_zero_spec =
     tie.close
     (tie.spec
     invariant-loop

@@ -4,30 +4,30 @@ use Rattle.rules.proofs.BytesLaws.{word_halves}
 use Rattle.rules.proofs.bytes.read_four.Statement.{statement}
 use Rattle.rules.proofs.bytes.read_four.Tie as tie
 
-read-two-requires : tie.Need-read-two-requires
+read-two-requires : tie.Need-read_two-low-requires
 read-two-requires c κs = search rules
 
-add-read-two : tie.Need-overflow-add-read-two
+add-read-two : tie.Need-overflow_add-at
 add-read-two c = search rules
 
-read-two-requires-2 : tie.Need-read-two-requires-2
+read-two-requires-2 : tie.Need-read_two-high-requires
 read-two-requires-2 c κs = search rules
 
-mul-result : tie.Need-overflow-mul-result
+mul-result : tie.Need-overflow_mul-result
 mul-result c = search rules
 
-add-result : tie.Need-overflow-add-result
+add-result : tie.Need-overflow_add-result
 add-result c = search rules
 
 returns : tie.Need-returns
 returns c =
-    let a = c.before.before.before.args in
-    let low = c.before.read-two in
-    let high = c.read-two2 in
+    let a = c.args in
+    let low = c.read_two-low in
+    let high = c.read_two-high in
     word_halves a.s.now a.at 2 low.result high.result low.ensures.0 high.ensures.0 low.ensures.1
     high.ensures.1
 
-pub read-four-spec : {M : Type 1} → statement M
-read-four-spec =
+pub read_four_spec : {M : Type 1} → statement M
+read_four_spec =
     tie.close
     (tie.spec read-two-requires add-read-two read-two-requires-2 mul-result add-result returns)

@@ -5,24 +5,24 @@ use Rattle.rules.specs.Entry.{destination_by}
 use Rattle.rules.proofs.entry.find_destination.Statement.{statement}
 use Rattle.rules.proofs.entry.find_destination.Tie as tie
 
-returns : tie.Need-returns
+returns : tie.Need-returns-then-by-eq4
 unfolding destination_by
-returns c = sym (choose_t _ (eq-eqb _ _ c.if1.true) refl)
+returns c = sym (choose_t _ (eq-eqb _ _ c.if-by-eq4.true) refl)
 
-fuel-class-requires : tie.Need-fuel-class-requires
+fuel-class-requires : tie.Need-fuel_class-requires
 fuel-class-requires c κs = search rules
 
-returns-2 : tie.Need-returns-2
+returns-2 : tie.Need-returns-then-fuel_class-eq3
 unfolding destination_by
 returns-2 c =
-    sym (choose_f _ (ne_eqb _ _ c.before.before.if1.false)
-    (choose_t _ (eq_of c.before.fuel-class.ensures c.if2.true) refl))
+    sym (choose_f _ (ne_eqb _ _ c.if-by-eq4.false)
+    (choose_t _ (eq_of c.fuel_class.ensures c.if-fuel_class-eq3.true) refl))
 
-returns-3 : tie.Need-returns-3
+returns-3 : tie.Need-returns
 unfolding destination_by
 returns-3 c =
-    sym (choose_f _ (ne_eqb _ _ c.before.before.if1.false)
-    (choose_f _ (ne_of c.before.fuel-class.ensures c.if2.false) refl))
+    sym (choose_f _ (ne_eqb _ _ c.if-by-eq4.false)
+    (choose_f _ (ne_of c.fuel_class.ensures c.if-fuel_class-eq3.false) refl))
 
-pub find-destination-spec : {M : Type 1} → statement M
-find-destination-spec = tie.close (tie.spec returns fuel-class-requires returns-2 returns-3)
+pub find_destination_spec : {M : Type 1} → statement M
+find_destination_spec = tie.close (tie.spec returns fuel-class-requires returns-2 returns-3)

@@ -6,31 +6,31 @@ use Rattle.rules.proofs.EntryLaws.{heat_limit-le}
 use Rattle.rules.proofs.entry.find_heat.Statement.{statement}
 use Rattle.rules.proofs.entry.find_heat.Tie as tie
 
-is-heat-measured-requires : tie.Need-is-heat-measured-requires
+is-heat-measured-requires : tie.Need-is_heat_measured-requires
 is-heat-measured-requires c κs = search rules
 
-find-measured-requires : tie.Need-find-measured-requires
+find-measured-requires : tie.Need-find_measured-requires
 find-measured-requires c κs =
-    let h = c.before.before.before.before.requires in
-    (h.0.0, heat_limit-le _ _ h.1 (is c.before.is-heat-measured.ensures c.if1.true))
+    let h = c.requires in
+    (h.0.0, heat_limit-le _ _ h.1 (is c.is_heat_measured.ensures c.if-is_heat_measured.true))
 
-returns : tie.Need-returns
+returns : tie.Need-returns-then-is_heat_measured
 unfolding heat_in_use
 returns c =
-    c.find-measured.ensures
-    ∙ sym (choose_t _ (is c.before.before.is-heat-measured.ensures c.before.if1.true) refl)
+    c.find_measured.ensures
+    ∙ sym (choose_t _ (is c.is_heat_measured.ensures c.if-is_heat_measured.true) refl)
 
-default-heat-requires : tie.Need-default-heat-requires
+default-heat-requires : tie.Need-default_heat-requires
 default-heat-requires c κs = search rules
 
-returns-2 : tie.Need-returns-2
+returns-2 : tie.Need-returns
 unfolding heat_in_use
 returns-2 c =
-    let heat = c.default-heat.ensures in
+    let heat = c.default_heat.ensures in
     (λ i. record { 0 = heat i })
-    ∙ sym (choose_f _ (is c.before.before.is-heat-measured.ensures c.before.if1.false) refl)
+    ∙ sym (choose_f _ (is c.is_heat_measured.ensures c.if-is_heat_measured.false) refl)
 
-pub find-heat-spec : {M : Type 1} → statement M
-find-heat-spec =
+pub find_heat_spec : {M : Type 1} → statement M
+find_heat_spec =
     tie.close
     (tie.spec is-heat-measured-requires find-measured-requires returns default-heat-requires returns-2)

@@ -8,5 +8,5 @@ returns : tie.Need-returns
 unfolding co2_alone
 returns c = refl
 
-pub give-co2-spec : {M : Type 1} → statement M
-give-co2-spec = tie.close (tie.spec returns)
+pub give_co2_spec : {M : Type 1} → statement M
+give_co2_spec = tie.close (tie.spec returns)

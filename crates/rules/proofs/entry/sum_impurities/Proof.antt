@@ -4,34 +4,34 @@ use Rattle.rules.specs.Entry.{impurities}
 use Rattle.rules.proofs.entry.sum_impurities.Statement.{statement}
 use Rattle.rules.proofs.entry.sum_impurities.Tie as tie
 
-sulphur-requires : tie.Need-sulphur-requires
+sulphur-requires : tie.Need-sulphur-sulphur-requires
 sulphur-requires c κs = search rules
 
-ash-requires : tie.Need-ash-requires
+ash-requires : tie.Need-ash-ash-requires
 ash-requires c κs = search rules
 
-other-impurities-requires : tie.Need-other-impurities-requires
+other-impurities-requires : tie.Need-other_impurities-other-requires
 other-impurities-requires c κs = search rules
 
-add-result : tie.Need-overflow-add-result
+add-result : tie.Need-overflow_add-result
 add-result c = search rules
 
-add-result-2 : tie.Need-overflow-add-result-2
+add-result-2 : tie.Need-overflow_add-result-2
 add-result-2 c = search rules
 
-cast-result : tie.Need-overflow-cast-result
+cast-result : tie.Need-overflow_cast-result
 cast-result c = search rules
 
 returns : tie.Need-returns
 unfolding impurities
 returns c =
-    let sulphur = c.before.before.sulphur.ensures.0 in
-    let ash = c.before.ash.ensures.0 in
-    let other = c.other-impurities.ensures.0 in
+    let sulphur = c.sulphur-sulphur.ensures.0 in
+    let ash = c.ash-ash.ensures.0 in
+    let other = c.other_impurities-other.ensures.0 in
     λ i. sulphur i + ash i + other i
 
-pub sum-impurities-spec : {M : Type 1} → statement M
-sum-impurities-spec =
+pub sum_impurities_spec : {M : Type 1} → statement M
+sum_impurities_spec =
     tie.close
     (tie.spec
     sulphur-requires

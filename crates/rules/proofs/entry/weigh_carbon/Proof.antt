@@ -9,37 +9,37 @@ use Rattle.rules.proofs.EntryLaws.{Reach, reach}
 use Rattle.rules.proofs.entry.weigh_carbon.Statement.{statement}
 use Rattle.rules.proofs.entry.weigh_carbon.Tie as tie
 
-in_reach : (c : tie.After-carbon) →
-    let a = c.before.before.before.before.args in
+in_reach : (c : tie.After-carbon-carbon) →
+    let a = c.args in
     Reach a.l.now a.f.now
 in_reach c =
-    let h = c.before.before.before.before.requires in
+    let h = c.requires in
     reach _ _ h.1.0 h.1.1
 
 amount-requires : tie.Need-amount-requires
 amount-requires c κs = search rules
 
-carbon-requires : tie.Need-carbon-requires
+carbon-requires : tie.Need-carbon-carbon-requires
 carbon-requires c κs = search rules
 
-is-analysed-requires : tie.Need-is-analysed-requires
+is-analysed-requires : tie.Need-is_analysed-requires
 is-analysed-requires c κs = search rules
 
-molecular-weight-requires : tie.Need-molecular-weight-requires
+molecular-weight-requires : tie.Need-molecular_weight-requires
 molecular-weight-requires c κs = search rules
 
-molar-volume-requires : tie.Need-molar-volume-requires
+molar-volume-requires : tie.Need-molar_volume-requires
 molar-volume-requires c κs = search rules
 
 weigh-requires : tie.Need-weigh-requires
 weigh-requires c κs =
-    let test = c.before.before in
-    let read = test.before.before in
-    let amount = read.before.amount.ensures in
-    let carbon = read.carbon.ensures in
-    let weight = c.before.molecular-weight.ensures in
-    let volume = c.molar-volume.ensures in
-    let r = (in_reach read).by_gas (is test.before.is-analysed.ensures test.if1.true) in
+    let test = c in
+    let read = test in
+    let amount = read.amount.ensures in
+    let carbon = read.carbon-carbon.ensures in
+    let weight = c.molecular_weight.ensures in
+    let volume = c.molar_volume.ensures in
+    let r = (in_reach read.before.before.before.before).by_gas (is test.is_analysed.ensures test.if-is_analysed.true) in
     record {
       amount_le = omega arith;
       carbon_le = omega arith;
@@ -48,40 +48,40 @@ weigh-requires c κs =
       volume_le = omega arith;
     }
 
-returns : tie.Need-returns
+returns : tie.Need-returns-then-is_analysed
 unfolding co2_by_carbon
 returns c =
-    let test = c.before.before.before in
-    let read = test.before.before in
-    let amount = read.before.amount.ensures in
-    let carbon = read.carbon.ensures in
-    let weight = c.before.before.molecular-weight.ensures in
-    let volume = c.before.molar-volume.ensures in
+    let test = c in
+    let read = test in
+    let amount = read.amount.ensures in
+    let carbon = read.carbon-carbon.ensures in
+    let weight = c.molecular_weight.ensures in
+    let volume = c.molar_volume.ensures in
     c.weigh.ensures
     ∙ (λ i. co2_of_gas (record { 0 = amount i }) (record { 0 = carbon i }) (record { 0 = weight i }) (record { 0 = volume i }))
-    ∙ sym (choose_t _ (is test.before.is-analysed.ensures test.if1.true) refl)
+    ∙ sym (choose_t _ (is test.is_analysed.ensures test.if-is_analysed.true) refl)
 
-weigh-by-carbon-requires : tie.Need-weigh-by-carbon-requires
+weigh-by-carbon-requires : tie.Need-weigh_by_carbon-requires
 weigh-by-carbon-requires c κs =
-    let read = c.before.before in
-    let amount = read.before.amount.ensures in
-    let carbon = read.carbon.ensures in
-    let r = (in_reach read).by_carbon (is c.before.is-analysed.ensures c.if1.false) in
+    let read = c in
+    let amount = read.amount.ensures in
+    let carbon = read.carbon-carbon.ensures in
+    let r = (in_reach read.before.before).by_carbon (is c.is_analysed.ensures c.if-is_analysed.false) in
     record { amount_le = omega arith; carbon_le = omega arith }
 
-returns-2 : tie.Need-returns-2
+returns-2 : tie.Need-returns
 unfolding co2_by_carbon
 returns-2 c =
-    let test = c.before in
-    let read = test.before.before in
-    let amount = read.before.amount.ensures in
-    let carbon = read.carbon.ensures in
-    c.weigh-by-carbon.ensures
+    let test = c in
+    let read = test in
+    let amount = read.amount.ensures in
+    let carbon = read.carbon-carbon.ensures in
+    c.weigh_by_carbon.ensures
     ∙ (λ i. co2_of_carbon (record { 0 = amount i }) (record { 0 = carbon i }))
-    ∙ sym (choose_f _ (is test.before.is-analysed.ensures test.if1.false) refl)
+    ∙ sym (choose_f _ (is test.is_analysed.ensures test.if-is_analysed.false) refl)
 
-pub weigh-carbon-spec : {M : Type 1} → statement M
-weigh-carbon-spec =
+pub weigh_carbon_spec : {M : Type 1} → statement M
+weigh_carbon_spec =
     tie.close
     (tie.spec
     amount-requires

@@ -6,35 +6,35 @@ use Rattle.rules.proofs.BookLaws.{Accepted, accepted_facts}
 use Rattle.rules.proofs.factors.read_factors.Statement.{statement}
 use Rattle.rules.proofs.factors.read_factors.Tie as tie
 
-known : (c : tie.After-struct-known) → let a = c.before.before.args in Accepted a.book.now a.h
-known c = accepted_facts _ _ c.before.before.requires.0
+known : (c : tie.After-struct_known-1) → let a = c.args in Accepted a.book.now a.h
+known c = accepted_facts _ _ c.requires.0
 
-sub-end : tie.Need-overflow-sub-end
+sub-end : tie.Need-overflow_sub-end
 sub-end c = let k = known c in omega arith
 
-sub-take-line : tie.Need-overflow-sub-take-line
+sub-take-line : tie.Need-slice_bounds-take_line-count
 sub-take-line c = (known c).fuels_le
 
-part-take-line-start : tie.Need-slice-bounds-take-line-start
+part-take-line-start : tie.Need-slice_bounds-take_line-start
 part-take-line-start c = (known c).fuels_le
 
-part-take-line-end : tie.Need-slice-bounds-take-line-end
+part-take-line-end : tie.Need-slice_bounds-take_line-end
 part-take-line-end c = let k = known c in omega arith
 
 returns : tie.Need-returns
 unfolding factors_of
 returns c =
-    let line = c.before.before.before.before.before.take-line.ensures.0 in
+    let line = c.take_line-f.ensures.0 in
     λ i. record {
-      heat = (c.before.before.before.before.default-heat.ensures ∙ ap default_heat line) i;
-      co2 = (c.before.before.before.co2-factor.ensures ∙ ap co2_factor line) i;
-      ch4 = (c.before.before.ch4-factor.ensures ∙ ap ch4_factor line) i;
-      n2o = (c.before.n2o-factor.ensures ∙ ap n2o_factor line) i;
-      biomass = eqb ((c.fuel-class.ensures ∙ ap fuel_class line) i) 3;
+      heat = (c.default_heat.ensures ∙ ap default_heat line) i;
+      co2 = (c.co2_factor.ensures ∙ ap co2_factor line) i;
+      ch4 = (c.ch4_factor.ensures ∙ ap ch4_factor line) i;
+      n2o = (c.n2o_factor.ensures ∙ ap n2o_factor line) i;
+      biomass = eqb ((c.fuel_class.ensures ∙ ap fuel_class line) i) 3;
     }
 
-pub read-factors-spec : {M : Type 1} → statement M
-read-factors-spec =
+pub read_factors_spec : {M : Type 1} → statement M
+read_factors_spec =
     tie.close
     (tie.spec
     sub-end sub-take-line part-take-line-start part-take-line-end (λ c κs. search rules) (λ c κs. search rules)

@@ -9,25 +9,25 @@ use Rattle.rules.proofs.hints.note_units.Tie as tie
 known : (c : tie.Start) → Accepted c.args.book.now c.args.h
 known c = accepted_facts _ _ c.requires.0
 
-sub-note : tie.Need-overflow-sub-note
+sub-note : tie.Need-slice_bounds-note-count
 sub-note c = (known c.before.before).units_le
 
-part-note-start : tie.Need-slice-bounds-note-start
+part-note-start : tie.Need-slice_bounds-note-start
 part-note-start c = (known c.before.before).units_le
 
-part-note-end : tie.Need-slice-bounds-note-end
+part-note-end : tie.Need-slice_bounds-note-end
 part-note-end c = let k = known c.before.before in omega arith
 
 note-requires : tie.Need-note-requires
 note-requires c κs =
-    let begun = c.before.before.before.before in
-    (omega (arith, (rising_lines_sound unit_ok _ (known begun).units_sound).few), begun.requires.1)
+    let begun = c in
+    (omega (arith, (rising_lines_sound unit_ok _ (known begun.before.before.before.before).units_sound).few), begun.requires.1)
 
-same_length : tie.Need-same-length
+same_length : tie.Need-shape_of-hints
 same_length c = search rules
 
 returns : tie.Need-returns
 returns c = search rules
 
-pub note-units-spec : {M : Type 1} → statement M
-note-units-spec = tie.close (tie.spec sub-note part-note-start part-note-end note-requires same_length returns)
+pub note_units_spec : {M : Type 1} → statement M
+note_units_spec = tie.close (tie.spec sub-note part-note-start part-note-end note-requires same_length returns)

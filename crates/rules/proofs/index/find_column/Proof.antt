@@ -6,26 +6,26 @@ use Rattle.rules.specs.Index.{column_of}
 use Rattle.rules.proofs.index.find_column.Statement.{statement}
 use Rattle.rules.proofs.index.find_column.Tie as tie
 
-returns : tie.Need-returns
+returns : tie.Need-returns-then-is_monitored
 unfolding column_of
-returns c = sym (choose_t _ (is c.before.is-monitored.ensures c.if1.true) refl)
+returns c = sym (choose_t _ (is c.is_monitored.ensures c.if-is_monitored.true) refl)
 
-returns-2 : tie.Need-returns-2
+returns-2 : tie.Need-returns-then-rating-le-SMALL_RATING
 unfolding column_of
 returns-2 c =
-    let no-monitor = is c.before.before.before.is-monitored.ensures c.before.before.if1.false in
-    let low = subst (λ (x : ℕ). x ≤ 2500) c.before.rating.ensures c.if2.true in
+    let no-monitor = is c.is_monitored.ensures c.if-is_monitored.false in
+    let low = subst (λ (x : ℕ). x ≤ 2500) c.rating.ensures c.if-rating-le-SMALL_RATING.true in
     sym (choose_f _ no-monitor (choose_t _ (le-leb _ _ low) refl))
 
-returns-3 : tie.Need-returns-3
+returns-3 : tie.Need-returns
 unfolding column_of
 returns-3 c =
-    let no-monitor = is c.before.before.before.is-monitored.ensures c.before.before.if1.false in
-    let high = subst (λ (x : ℕ). 2500 < x) c.before.rating.ensures c.if2.false in
+    let no-monitor = is c.is_monitored.ensures c.if-is_monitored.false in
+    let high = subst (λ (x : ℕ). 2500 < x) c.rating.ensures c.if-rating-le-SMALL_RATING.false in
     sym (choose_f _ no-monitor (choose_f _ (lt-leb _ _ high) refl))
 
-pub find-column-spec : {M : Type 1} → statement M
-find-column-spec =
+pub find_column_spec : {M : Type 1} → statement M
+find_column_spec =
     tie.close
     (tie.spec (λ c κs. search rules) (λ c. search rules) returns (λ c κs. search rules) (λ c. search rules) returns-2
     (λ c. search rules) returns-3)

@@ -5,13 +5,13 @@ use Rattle.rules.specs.Index.{way_of}
 use Rattle.rules.proofs.index.find_way.Statement.{statement}
 use Rattle.rules.proofs.index.find_way.Tie as tie
 
-returns : tie.Need-returns
+returns : tie.Need-returns-then-is_monitored
 unfolding way_of
-returns c = sym (choose_t _ (is c.before.is-monitored.ensures c.if1.true) refl)
+returns c = sym (choose_t _ (is c.is_monitored.ensures c.if-is_monitored.true) refl)
 
-returns-2 : tie.Need-returns-2
+returns-2 : tie.Need-returns
 unfolding way_of
-returns-2 c = sym (choose_f _ (is c.before.is-monitored.ensures c.if1.false) refl)
+returns-2 c = sym (choose_f _ (is c.is_monitored.ensures c.if-is_monitored.false) refl)
 
-pub find-way-spec : {M : Type 1} → statement M
-find-way-spec = tie.close (tie.spec (λ c κs. search rules) returns returns-2)
+pub find_way_spec : {M : Type 1} → statement M
+find_way_spec = tie.close (tie.spec (λ c κs. search rules) returns returns-2)

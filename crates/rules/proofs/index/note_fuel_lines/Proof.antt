@@ -5,51 +5,51 @@ use Rattle.rules.proofs.IndexLaws.{Columns, fuel_columns, columns-blank, fuel_co
 use Rattle.rules.proofs.index.note_fuel_lines.Statement.{statement}
 use Rattle.rules.proofs.index.note_fuel_lines.Tie as tie
 
-abbrev invariant-loop : tie.invariant-loop
+abbrev invariant-loop : tie.invariant-loop-j
 invariant-loop s fuels₀ hints₀ n j₀ fuels hints j = (j ≤ n) × Columns s j fuels fuel_columns 0 × Small hints
 
-abbrev decreases-loop : tie.decreases-loop
+abbrev decreases-loop : tie.decreases-loop-j
 decreases-loop s fuels₀ hints₀ n j₀ fuels hints j = n - j
 
 -- Lines are few.
-few : (c : tie.In-loop invariant-loop decreases-loop) → c.before.loop.j < 64
-few c = omega (arith, c.before.before.before.requires.0.few)
+few : (c : tie.In-loop-j invariant-loop decreases-loop) → c.loop-j.j < 64
+few c = omega (arith, c.requires.0.few)
 
-loop-holds : tie.Need-loop-init invariant-loop decreases-loop
+loop-holds : tie.Need-loop-j-init invariant-loop decreases-loop
 loop-holds c =
-    let blank = c.before.requires.1 in
+    let blank = c.requires.1 in
     (omega arith, columns-blank fuel_columns _ 0 320 (lit≤ tt) blank.0, small-blank blank.1)
 
-cast-fuels : tie.Need-overflow-cast-fuels invariant-loop decreases-loop
+cast-fuels : tie.Need-overflow_cast-fuels invariant-loop decreases-loop
 cast-fuels c =
-    let loop = c.before.before.before in
-    let line = c.before.take-line.ensures.0 in
-    let below = number-line-lt loop.before.before.args.s.now loop.loop.j
-    (λ i. (loop.before.shared-slice-known.given i).fits) line c.number.ensures in
+    let loop = c in
+    let line = c.take_line-f.ensures.0 in
+    let below = number-line-lt loop.args.s.now loop.loop-j.j
+    (λ i. (loop.shared_slice_known-1.given i).fits) line c.number-number.ensures in
     omega arith
 
-loop-again : tie.Need-loop-preserved invariant-loop decreases-loop
+loop-again : tie.Need-loop-j-preserved invariant-loop decreases-loop
 loop-again c =
-    let turn = c.before.before.before.before.before.before in
-    let inv = turn.before.loop.invariant in
-    let line = c.before.before.before.before.before.take-line.ensures.0 in (
+    let turn = c in
+    let inv = turn.loop-j.invariant in
+    let line = c.take_line-f.ensures.0 in (
       search rules,
-      fuel_columns_next (few turn) inv.1 line
-          c.before.before.before.before.number.ensures
-          c.before.before.before.find-large.ensures
-          c.before.before.find-allowed.ensures
-          c.before.find-carbon-limit.ensures
-          c.find-volume.ensures,
-      small-set _ inv.2 (few turn),
+      fuel_columns_next (few turn.before.before.before.before.before.before.before.before) inv.1 line
+          c.number-number.ensures
+          c.find_large.ensures
+          c.find_allowed.ensures
+          c.find_carbon_limit.ensures
+          c.find_volume.ensures,
+      small-set _ inv.2 (few turn.before.before.before.before.before.before.before.before),
     )
 
 returns : tie.Need-returns invariant-loop decreases-loop
 returns c =
-    let inv = c.before.loop.invariant in
+    let inv = c.loop-j.invariant in
     (fuels_noted_all (omega arith) inv.1, inv.2)
 
-pub note-fuel-lines-spec : {M : Type 1} → statement M
-note-fuel-lines-spec =
+pub note_fuel_lines_spec : {M : Type 1} → statement M
+note_fuel_lines_spec =
     tie.close
     (tie.spec invariant-loop decreases-loop loop-holds (λ c κs. search rules) (λ c κs. search rules) (λ c. search rules)
     (λ c. search rules) cast-fuels (λ c. search rules) (λ c. search rules) (λ c κs. search rules)

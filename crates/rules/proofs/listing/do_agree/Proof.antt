@@ -40,5 +40,5 @@ returns c =
     ∙ also_same _ (λ known.
     coming-to-four c.args.kind c.args.class (leb-true _ _ (also_l _ _ known)) (leb-true _ _ (also_r _ _ known)))
 
-pub do-agree-spec : {M : Type 1} → statement M
-do-agree-spec = tie.close (tie.spec (λ c. search rules) returns)
+pub do_agree_spec : {M : Type 1} → statement M
+do_agree_spec = tie.close (tie.spec (λ c. search rules) returns)

@@ -5,30 +5,30 @@ use Rattle.rules.proofs.ListingLaws.{place_mid}
 use Rattle.rules.proofs.listing.find.Statement.{statement}
 use Rattle.rules.proofs.listing.find.Tie as tie
 
-shared-slice-read-hint : tie.Need-shared-slice-read-hint
+shared-slice-read-hint : tie.Need-bounds-hints-last
 shared-slice-read-hint c = search rules
 
-cast-hint : tie.Need-overflow-cast-hint
-cast-hint c = omega (arith, c.shared-slice-known3.given (c.before.before.before.before.args.x % 1024))
+cast-hint : tie.Need-overflow_cast-hint
+cast-hint c = omega (arith, c.shared_slice_known-then-last-hints-1.given (c.args.x % 1024))
 
-take-line-requires : tie.Need-take-line-requires
+take-line-requires : tie.Need-take_line-requires
 take-line-requires c κs = search rules
 
 number-requires : tie.Need-number-requires
 number-requires c κs = search rules
 
-returns : tie.Need-returns
+returns : tie.Need-returns-then-number-x
 returns c =
-    let read = c.before in
-    let there = read.before.before in
-    let number_is = read.number.ensures ∙ ap number read.before.take-line.ensures.0 in
-    let rising = there.before.before.before.before.before.requires in
-    place_mid _ _ _ _ rising there.if2.true number_is c.if3.true
+    let read = c in
+    let there = read in
+    let number_is = read.number.ensures ∙ ap number read.take_line.ensures.0 in
+    let rising = there.requires in
+    place_mid _ _ _ _ rising there.if-hint-s.true number_is c.if-number-x.true
 
 halve-requires : tie.Need-halve-requires
 halve-requires c κs = search rules
 
-returns-2 : tie.Need-returns-2
+returns-2 : tie.Need-returns
 returns-2 c = search rules
 
 pub find_spec : {M : Type 1} → statement M

@@ -5,46 +5,46 @@ use Rattle.rules.specs.Book.{kind_class_ok, molar_volume_ok, fuel_head_ok}
 use Rattle.rules.proofs.listing.is_fuel_head_right.Statement.{statement}
 use Rattle.rules.proofs.listing.is_fuel_head_right.Tie as tie
 
-fuel-kind-requires : tie.Need-fuel-kind-requires
+fuel-kind-requires : tie.Need-fuel_kind-requires
 fuel-kind-requires c κs = search rules
 
-fuel-class-requires : tie.Need-fuel-class-requires
+fuel-class-requires : tie.Need-fuel_class-requires
 fuel-class-requires c κs = search rules
 
-do-agree-requires : tie.Need-do-agree-requires
+do-agree-requires : tie.Need-do_agree-fits-requires
 do-agree-requires c κs = search rules
 
-default-heat-requires : tie.Need-default-heat-requires
+default-heat-requires : tie.Need-default_heat-heat-requires
 default-heat-requires c κs = search rules
 
-co2-factor-requires : tie.Need-co2-factor-requires
+co2-factor-requires : tie.Need-co2_factor-co2-requires
 co2-factor-requires c κs = search rules
 
-ch4-factor-requires : tie.Need-ch4-factor-requires
+ch4-factor-requires : tie.Need-ch4_factor-ch4-requires
 ch4-factor-requires c κs = search rules
 
-n2o-factor-requires : tie.Need-n2o-factor-requires
+n2o-factor-requires : tie.Need-n2o_factor-n2o-requires
 n2o-factor-requires c κs = search rules
 
-molar-volume-requires : tie.Need-molar-volume-requires
+molar-volume-requires : tie.Need-molar_volume-requires
 molar-volume-requires c κs = search rules
 
-is-molar-volume-right-requires : tie.Need-is-molar-volume-right-requires
+is-molar-volume-right-requires : tie.Need-is_molar_volume_right-volume_right-requires
 is-molar-volume-right-requires c κs = search rules
 
 returns : tie.Need-returns
 unfolding fuel_head_ok
 returns c =
-    let factors = c.before.before in
-    let agreed = factors.before.before.before.before in
-    let kind = agreed.before.before.fuel-kind.ensures in
-    let class = agreed.before.fuel-class.ensures in
-    let agree = agreed.do-agree.ensures ∙ ap₂ kind_class_ok kind class in
-    let heat = factors.before.before.before.default-heat.ensures in
-    let co2 = factors.before.before.co2-factor.ensures in
-    let ch4 = factors.before.ch4-factor.ensures in
-    let n2o = factors.n2o-factor.ensures in
-    let volume = c.is-molar-volume-right.ensures ∙ ap molar_volume_ok c.before.molar-volume.ensures in
+    let factors = c in
+    let agreed = factors in
+    let kind = agreed.fuel_kind.ensures in
+    let class = agreed.fuel_class.ensures in
+    let agree = agreed.do_agree-fits.ensures ∙ ap₂ kind_class_ok kind class in
+    let heat = factors.default_heat-heat.ensures in
+    let co2 = factors.co2_factor-co2.ensures in
+    let ch4 = factors.ch4_factor-ch4.ensures in
+    let n2o = factors.n2o_factor-n2o.ensures in
+    let volume = c.is_molar_volume_right-volume_right.ensures ∙ ap molar_volume_ok c.molar_volume.ensures in
     both
     (both
     (both
@@ -57,8 +57,8 @@ returns c =
     (λ i. leb (n2o i) 200000))
     volume
 
-pub is-fuel-head-right-spec : {M : Type 1} → statement M
-is-fuel-head-right-spec =
+pub is_fuel_head_right_spec : {M : Type 1} → statement M
+is_fuel_head_right_spec =
     tie.close
     (tie.spec
     fuel-kind-requires

@@ -22,5 +22,5 @@ returns : tie.Need-returns
 unfolding molar_volume_ok
 returns c = both (any refl refl) refl ∙ limited c.args.volume
 
-pub is-molar-volume-right-spec : {M : Type 1} → statement M
-is-molar-volume-right-spec = tie.close (tie.spec returns)
+pub is_molar_volume_right_spec : {M : Type 1} → statement M
+is_molar_volume_right_spec = tie.close (tie.spec returns)

@@ -19,9 +19,9 @@ flagged (suc (suc (suc (suc f)))) few = absurd (omega arith)
 returns : tie.Need-returns
 unfolding unit_head_ok
 returns c =
-    let u = c.before.before.before.args.u.now in
-    let read = c.before.read_word.ensures.0 in
-    let rating = c.rating.ensures in
+    let u = c.args.u.now in
+    let read = c.read_word-flags.ensures.0 in
+    let rating = c.rating-rating.ensures in
     let wide =
     word_wide (λ (x : ℕ). leb x 3 also not (eqb x 2)) u 2 1 3 1 2 refl refl
     (λ x past. also_f (not (eqb x 2)) (lt-leb x 3 (omega arith))) in
@@ -33,5 +33,5 @@ returns c =
     (also_same (leb (unit_flags u) 3) (λ few. flagged (unit_flags u) (leb-true (unit_flags u) 3 few))) in
     both (both flags (λ i. leb 1 (rating i))) (λ i. leb (rating i) 100000)
 
-pub is-unit-head-right-spec : {M : Type 1} → statement M
-is-unit-head-right-spec = tie.close (tie.spec (λ c κs. search rules) (λ c κs. search rules) returns)
+pub is_unit_head_right_spec : {M : Type 1} → statement M
+is_unit_head_right_spec = tie.close (tie.spec (λ c κs. search rules) (λ c κs. search rules) returns)

@@ -10,31 +10,31 @@ use Rattle.rules.proofs.reader.count_from.Tie as tie
 open-requires : tie.Need-open-requires
 open-requires c κs = search rules
 
-enum_told : tie.Need-enum-told
+enum_told : tie.Need-enum_told-1
 enum_told c = search rules
 
-enum-known-h : tie.Need-enum-known-h
+enum-known-h : tie.Need-enum_known-h
 enum-known-h c = search rules
 
-count-between-requires : tie.Need-count-between-requires
+count-between-requires : tie.Need-count_between-requires
 count-between-requires c κs = search rules
 
-returns : tie.Need-returns
+returns : tie.Need-returns-in-Wrong
 unfolding left_from left_by answer
 returns c =
-    let a = c.before.before.before.before.args in
-    let answered = sym c.before.before.«open».ensures ∙ ap answer c.enum_told.given.1 in
+    let a = c.args in
+    let answered = sym c.«open».ensures ∙ ap answer c.in-Wrong.is in
     sym (ap (λ (x : Answer). left_by x a.i) answered)
 
-returns-2 : tie.Need-returns-2
+returns-2 : tie.Need-returns-in-Open
 unfolding left_from left_by
 returns-2 c =
-    let a = c.before.before.before.before.before.before.args in
-    let heard = c.before.before.before.before.«open».ensures in
-    let answered = opened_open _ heard c.before.before.h.given.1 in
-    c.count-between.ensures ∙ sym (ap (λ (x : Answer). left_by x a.i) answered)
+    let a = c.args in
+    let heard = c.«open».ensures in
+    let answered = opened_open _ heard c.in-Open.is in
+    c.count_between.ensures ∙ sym (ap (λ (x : Answer). left_by x a.i) answered)
 
-pub count-from-spec : {M : Type 1} → statement M
-count-from-spec =
+pub count_from_spec : {M : Type 1} → statement M
+count_from_spec =
     tie.close
     (tie.spec open-requires enum_told enum-known-h count-between-requires returns returns-2)

@@ -6,22 +6,22 @@ use Rattle.rules.specs.Reader.{kind_at}
 use Rattle.rules.proofs.reader.find_kind.Statement.{statement}
 use Rattle.rules.proofs.reader.find_kind.Tie as tie
 
-take-line-requires : tie.Need-take-line-requires
+take-line-requires : tie.Need-take_line-requires
 take-line-requires c κs = search rules
 
 kind-requires : tie.Need-kind-requires
 kind-requires c κs = search rules
 
-returns : tie.Need-returns
+returns : tie.Need-returns-then-i-book
 unfolding kind_at
 returns c =
     c.kind.ensures
-    ∙ ap kind c.before.take-line.ensures.0
-    ∙ sym (choose_t _ (lt-ltb _ _ c.before.before.if1.true) refl)
+    ∙ ap kind c.take_line.ensures.0
+    ∙ sym (choose_t _ (lt-ltb _ _ c.if-i-book.true) refl)
 
-returns-2 : tie.Need-returns-2
+returns-2 : tie.Need-returns
 unfolding kind_at
-returns-2 c = sym (choose_f _ (le-ltb _ _ c.if1.false) refl)
+returns-2 c = sym (choose_f _ (le-ltb _ _ c.if-i-book.false) refl)
 
-pub find-kind-spec : {M : Type 1} → statement M
-find-kind-spec = tie.close (tie.spec take-line-requires kind-requires returns returns-2)
+pub find_kind_spec : {M : Type 1} → statement M
+find_kind_spec = tie.close (tie.spec take-line-requires kind-requires returns returns-2)

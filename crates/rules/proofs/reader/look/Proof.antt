@@ -9,28 +9,28 @@ use Rattle.rules.proofs.reader.look.Tie as tie
 open-requires : tie.Need-open-requires
 open-requires c κs = search rules
 
-enum-known-fault : tie.Need-enum-known-fault
+enum-known-fault : tie.Need-enum_known-fault
 enum-known-fault c = search rules
 
-enum-known-h : tie.Need-enum-known-h
+enum-known-h : tie.Need-enum_known-h
 enum-known-h c = search rules
 
-look-in-requires : tie.Need-look-in-requires
-look-in-requires c κs = opened_open _ c.before.before.before.«open».ensures c.before.h.given.1
+look-in-requires : tie.Need-look_in-requires
+look-in-requires c κs = opened_open _ c.«open».ensures c.in-Open.is
 
-returns : tie.Need-returns
+returns : tie.Need-returns-in-Wrong
 unfolding sight_at sight_by sight answer
 returns c =
-    let a = c.before.before.before.before.before.args in
-    let answered = sym c.before.before.before.«open».ensures ∙ ap answer c.before.fault.given.1 in
+    let a = c.args in
+    let answered = sym c.«open».ensures ∙ ap answer c.in-Wrong.is in
     sym (ap (λ (x : Answer). sight_by x a.book.now a.i) answered)
 
-returns-2 : tie.Need-returns-2
+returns-2 : tie.Need-returns-in-Open
 unfolding sight_at
 returns-2 c =
-    let told = c.before.before in
-    let a = told.before.before.before.before.args in
-    let answered = opened_open _ told.before.before.«open».ensures told.h.given.1 in
+    let told = c in
+    let a = told.args in
+    let answered = opened_open _ told.«open».ensures told.in-Open.is in
     c.look_in.ensures ∙ sym (ap (λ (x : Answer). sight_by x a.book.now a.i) answered)
 
 pub look_spec : {M : Type 1} → statement M

@@ -8,13 +8,13 @@ use Rattle.rules.proofs.reader.look_in.Tie as tie
 judge-requires : tie.Need-judge-requires
 judge-requires c κs = search rules
 
-returns : tie.Need-returns
+returns : tie.Need-returns-then-i-n
 unfolding sight_by sight
-returns c = sym (choose_t _ (lt-ltb _ _ c.before.if1.true) (ap shown (sym c.judge.ensures)))
+returns c = sym (choose_t _ (lt-ltb _ _ c.if-i-n.true) (ap shown (sym c.judge.ensures)))
 
-returns-2 : tie.Need-returns-2
+returns-2 : tie.Need-returns
 unfolding sight_by sight
-returns-2 c = sym (choose_f _ (le-ltb _ _ c.if1.false) refl)
+returns-2 c = sym (choose_f _ (le-ltb _ _ c.if-i-n.false) refl)
 
-pub look-in-spec : {M : Type 1} → statement M
-look-in-spec = tie.close (tie.spec judge-requires returns returns-2)
+pub look_in_spec : {M : Type 1} → statement M
+look_in_spec = tie.close (tie.spec judge-requires returns returns-2)

@@ -10,45 +10,45 @@ use Rattle.rules.proofs.reader.look_noted.Tie as tie
 open-requires : tie.Need-open-requires
 open-requires c κs = search rules
 
-enum-known-fault : tie.Need-enum-known-fault
+enum-known-fault : tie.Need-enum_known-fault
 enum-known-fault c = search rules
 
-enum-known-h : tie.Need-enum-known-h
+enum-known-h : tie.Need-enum_known-h
 enum-known-h c = search rules
 
-look-noted-in-requires : tie.Need-look-noted-in-requires
+look-noted-in-requires : tie.Need-look_noted_in-requires
 look-noted-in-requires c κs =
-    let told = c.before.before in (
-      opened_open _ told.before.before.«open».ensures told.h.given.1,
-      told.before.before.before.before.before.requires,
+    let told = c in (
+      opened_open _ told.«open».ensures told.in-Open.is,
+      told.requires,
     )
 
-returns : tie.Need-returns
+returns : tie.Need-returns-in-Wrong
 unfolding sight_at sight_by sight noting_at noting_by answer
 returns c =
-    let a = c.before.before.before.before.before.before.args in
-    let answered = sym c.before.before.before.«open».ensures ∙ ap answer c.before.fault.given.1 in (
+    let a = c.args in
+    let answered = sym c.«open».ensures ∙ ap answer c.in-Wrong.is in (
       sym (ap (λ (x : Answer). sight_by x a.book.now a.i) answered),
       sym (ap (λ (x : Answer). noting_by x a.book.now a.i a.table.now) answered),
     )
 
-same_length : tie.Need-same-length
+same_length : tie.Need-shape_of-table
 same_length c = search rules
 
-returns-2 : tie.Need-returns-2
+returns-2 : tie.Need-returns-in-Open
 unfolding sight_at noting_at
 returns-2 c =
-    let looked = c.before.before in
-    let told = looked.before.before.before in
-    let a = told.before.before.before.before.before.args in
-    let answered = opened_open _ told.before.before.«open».ensures told.h.given.1 in (
-      looked.look-noted-in.ensures.0 ∙ sym (ap (λ (x : Answer). sight_by x a.book.now a.i) answered),
-      looked.look-noted-in.ensures.1
+    let looked = c in
+    let told = looked in
+    let a = told.args in
+    let answered = opened_open _ told.«open».ensures told.in-Open.is in (
+      looked.look_noted_in.ensures.0 ∙ sym (ap (λ (x : Answer). sight_by x a.book.now a.i) answered),
+      looked.look_noted_in.ensures.1
           ∙ sym (ap (λ (x : Answer). noting_by x a.book.now a.i a.table.now) answered),
     )
 
-pub look-noted-spec : {M : Type 1} → statement M
-look-noted-spec =
+pub look_noted_spec : {M : Type 1} → statement M
+look_noted_spec =
     tie.close
     (tie.spec
     open-requires

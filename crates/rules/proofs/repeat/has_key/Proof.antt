@@ -5,18 +5,18 @@ use Rattle.rules.proofs.KeyLaws.{stands_in_one}
 use Rattle.rules.proofs.repeat.has_key.Statement.{statement}
 use Rattle.rules.proofs.repeat.has_key.Tie as tie
 
-take-line-requires : tie.Need-take-line-requires
+take-line-requires : tie.Need-take_line-requires
 take-line-requires c κs = search rules
 
-read-key-requires : tie.Need-read-key-requires
+read-key-requires : tie.Need-read_key-requires
 read-key-requires c κs = search rules
 
 returns : tie.Need-returns
 returns c =
-    let a = c.before.before.before.args in
-    let read = c.read-key in
-    let key = subst (λ (l : List ℕ). Keyed l read.result) c.before.take-line.ensures.0 read.ensures in
+    let a = c.args in
+    let read = c.read_key in
+    let key = subst (λ (l : List ℕ). Keyed l read.result) c.take_line.ensures.0 read.ensures in
     λ l h. stands_in_one l a.j a.book.now h key
 
-pub has-key-spec : {M : Type 1} → statement M
-has-key-spec = tie.close (tie.spec take-line-requires read-key-requires returns)
+pub has_key_spec : {M : Type 1} → statement M
+has_key_spec = tie.close (tie.spec take-line-requires read-key-requires returns)

@@ -5,12 +5,12 @@ use Rattle.rules.specs.Repeat.{repeatable}
 use Rattle.rules.proofs.repeat.is_repeatable.Statement.{statement}
 use Rattle.rules.proofs.repeat.is_repeatable.Tie as tie
 
-kind-requires : tie.Need-kind-requires
+kind-requires : tie.Need-kind-kind-requires
 kind-requires c κs = search rules
 
 returns : tie.Need-returns
 unfolding repeatable
-returns c = let kind = c.kind.ensures in any (λ i. eqb (kind i) 2) (λ i. eqb (kind i) 4)
+returns c = let kind = c.kind-kind.ensures in any (λ i. eqb (kind i) 2) (λ i. eqb (kind i) 4)
 
-pub is-repeatable-spec : {M : Type 1} → statement M
-is-repeatable-spec = tie.close (tie.spec kind-requires returns)
+pub is_repeatable_spec : {M : Type 1} → statement M
+is_repeatable_spec = tie.close (tie.spec kind-requires returns)

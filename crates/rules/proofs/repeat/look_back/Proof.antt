@@ -5,28 +5,28 @@ use Rattle.rules.specs.Record.{unless_repeated}
 use Rattle.rules.proofs.repeat.look_back.Statement.{statement}
 use Rattle.rules.proofs.repeat.look_back.Tie as tie
 
-enum_told : tie.Need-enum-told
+enum_told : tie.Need-enum_told-1
 enum_told c = search rules
 
-enum-told-2 : tie.Need-enum-told-2
+enum-told-2 : tie.Need-enum_told-in-Counted
 enum-told-2 c = search rules
 
-is-repeated-requires : tie.Need-is-repeated-requires
+is-repeated-requires : tie.Need-is_repeated-requires
 is-repeated-requires c κs = search rules
 
 withhold-requires : tie.Need-withhold-requires
 withhold-requires c κs = search rules
 
-returns : tie.Need-returns
+returns : tie.Need-returns-in-SetAside
 unfolding unless_repeated
-returns c = rw c.enum_told.given.1 refl
+returns c = rw c.in-SetAside.is refl
 
-returns-2 : tie.Need-returns-2
+returns-2 : tie.Need-returns-in-Counted
 returns-2 c =
     c.withhold.ensures
-    ∙ ap (λ (b : Bool). unless_repeated b c.before.before.before.before.before.args.o) c.before.is-repeated.ensures
+    ∙ ap (λ (b : Bool). unless_repeated b c.args.o) c.is_repeated.ensures
 
-pub look-back-spec : {M : Type 1} → statement M
-look-back-spec =
+pub look_back_spec : {M : Type 1} → statement M
+look_back_spec =
     tie.close
     (tie.spec enum_told enum-told-2 is-repeated-requires withhold-requires returns returns-2)

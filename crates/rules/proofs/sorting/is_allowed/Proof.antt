@@ -8,7 +8,7 @@ returns : tie.Need-returns
 unfolding allowed_by
 returns c =
     let flags = c.flags.ensures in
-    λ i. eqb (c.before.before.args.allowed / 2 ^ (flags i % 32) % 2) 1
+    λ i. eqb (c.args.allowed / 2 ^ (flags i % 32) % 2) 1
 
-pub is-allowed-spec : {M : Type 1} → statement M
-is-allowed-spec = tie.close (tie.spec (λ c κs. search rules) (λ c. search rules) (λ c. search rules) returns)
+pub is_allowed_spec : {M : Type 1} → statement M
+is_allowed_spec = tie.close (tie.spec (λ c κs. search rules) (λ c. search rules) (λ c. search rules) returns)

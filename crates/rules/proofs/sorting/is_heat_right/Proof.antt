@@ -8,13 +8,13 @@ use Rattle.rules.proofs.sorting.is_heat_right.Tie as tie
 returns : tie.Need-returns
 unfolding heat_right
 returns c =
-    let flags = c.before.before.flags.ensures in
-    let heat = c.before.heat.ensures in
-    let limits = c.before.before.before.before.requires.1 in
+    let flags = c.flags-flags.ensures in
+    let heat = c.heat-heat.ensures in
+    let limits = c.requires.1 in
     both (λ i. leb (flags i % 2) (heat i)) (λ i. leb (heat i) (get_or (limits i) (flags i % 8) 0))
 
-pub is-heat-right-spec : {M : Type 1} → statement M
-is-heat-right-spec =
+pub is_heat_right_spec : {M : Type 1} → statement M
+is_heat_right_spec =
     tie.close
     (tie.spec (λ c κs. search rules) (λ c κs. search rules) (λ c. search rules) (λ c. search rules) (λ c. search rules)
     (λ c. search rules) returns)

@@ -1,7 +1,7 @@
 -- A record whose period has no bit, or whose unit isn't listed, leaves the table as it was; of any other its
 -- bit is asked, then set. Assumes nothing.
 use Rattle.std.proofs.Common.{◌≡◌, ℕ, ◌+◌, ◌*◌, ◌/◌, ◌<◌, true, length, sym, refl, ◌∙◌, subst, ap₂, rules}
-use Rattle.choice.proofs.TestsLaws.{is_not, is_so}
+use Rattle.choice.proofs.TestsLaws.{is}
 use Rattle.rules.specs.Fields.{kind, period}
 use Rattle.rules.specs.Table.{row_words, has_bit, bit_of}
 use Rattle.rules.proofs.ListingLaws.{place_lt}
@@ -11,93 +11,93 @@ use Rattle.rules.proofs.NotedLaws.{noted-out, noted_nothing, noted_at}
 use Rattle.rules.proofs.table.note.Statement.{statement}
 use Rattle.rules.proofs.table.note.Tie as tie
 
-abbrev entry : tie.After-has-bit → tie.Start
+abbrev entry : tie.After-has_bit → tie.Start
 entry c = c.before.before.before.before.before.before
 
-abbrev start : tie.Else1 → tie.Start
-start c = entry c.before
+abbrev start : tie.Else-not-has_bit → tie.Start
+start c = c.before.before.before.before.before.before.before
 
 -- The test that the code makes is of the record's kind and period.
-asked : (c : tie.After-has-bit) →
+asked : (c : tie.After-has_bit) →
     let l = (entry c).args.l.now in
-    c.has-bit.result ≡ has_bit (kind l) (period l)
-asked c = c.has-bit.ensures ∙ ap₂ has_bit c.before.before.kind.ensures c.before.period.ensures
+    c.has_bit.result ≡ has_bit (kind l) (period l)
+asked c = c.has_bit.ensures ∙ ap₂ has_bit c.kind-kind.ensures c.period-period.ensures
 
-has : (c : tie.Else1) →
+has : (c : tie.Else-not-has_bit) →
     let l = (start c).args.l.now in
     has_bit (kind l) (period l) ≡ true
-has c = is_so (asked c.before) c.if1.false
+has c = is (asked c.before) c.if-not-has_bit.false
 
 -- The bit that the code finds is the record's, and its word is in the table.
-bit_is : (c : tie.After-find-bit) →
-    let l = (start c.before.before.before.before).args.l.now in
-    c.find-bit.result ≡ bit_of (kind l) (period l)
+bit_is : (c : tie.After-find_bit-bit) →
+    let l = (start c.before.before).args.l.now in
+    c.find_bit-bit.result ≡ bit_of (kind l) (period l)
 bit_is c =
-    let read = c.before.before.before.before.before.before in
-    c.find-bit.ensures ∙ ap₂ bit_of read.before.kind.ensures read.period.ensures
+    let read = c in
+    c.find_bit-bit.ensures ∙ ap₂ bit_of read.kind-kind.ensures read.period-period.ensures
 
-there : (c : tie.After-find-bit) →
-    let passed = c.before.before.before.before in
-    row_words * c.before.before.unit.given.0.0 + c.find-bit.result / 64 < length (start passed).args.table.now
+there : (c : tie.After-find_bit-bit) →
+    let passed = c in
+    row_words * c.in-At.j + c.find_bit-bit.result / 64 < length (start passed.before.before).args.table.now
 there c =
-    let passed = c.before.before.before.before in
-    let begun = start passed in
-    row_there _ _ _ _ (roomy _ _ begun.pre.1.1).rows
-    (place_lt _ _ begun.pre.1.0 c.before.before.unit.given.1)
-    (subst (λ (b : ℕ). b < 8832) (sym (bit_is c)) (bit_of-lt _ _ (has passed)))
+    let passed = c in
+    let begun = start passed.before.before in
+    row_there _ _ _ _ (roomy _ _ begun.requires.1.1).rows
+    (place_lt _ _ begun.requires.1.0 c.in-At.is)
+    (subst (λ (b : ℕ). b < 8832) (sym (bit_is c)) (bit_of-lt _ _ (has passed.before.before)))
 
-kind-requires : tie.Need-kind-requires
+kind-requires : tie.Need-kind-kind-requires
 kind-requires c κs = search rules
 
-period-requires : tie.Need-period-requires
+period-requires : tie.Need-period-period-requires
 period-requires c κs = search rules
 
-has-bit-requires : tie.Need-has-bit-requires
+has-bit-requires : tie.Need-has_bit-requires
 has-bit-requires c κs = search rules
 
-returns : tie.Need-returns
+returns : tie.Need-returns-then-not-has_bit
 returns c =
-    let out = noted-out _ _ _ (is_not (asked c.before) c.if1.true) in
+    let out = noted-out _ _ _ (is (asked c.before) c.if-not-has_bit.true) in
     (out.was_noted_then, out.now_noted)
 
-enum-known-unit : tie.Need-enum-known-unit
+enum-known-unit : tie.Need-enum_known-unit
 enum-known-unit c = search rules
 
-enum_told : tie.Need-enum-told
+enum_told : tie.Need-enum_told-1
 enum_told c = search rules
 
-returns-2 : tie.Need-returns-2
+returns-2 : tie.Need-returns-in_default
 returns-2 c =
-    let passed = c.before.before in
-    let none = noted_nothing _ _ _ (has passed) (start passed).requires.1.0 refl c.enum_told.given.1 in
+    let passed = c in
+    let none = noted_nothing _ _ _ (has passed.before) (start passed.before).requires.1.0 refl c.in_default.is in
     (none.was_noted_then, none.now_noted)
 
-find-bit-requires : tie.Need-find-bit-requires
+find-bit-requires : tie.Need-find_bit-bit-requires
 find-bit-requires c κs =
-    let passed = c.before.before.before in
-    is_so passed.before.has-bit.ensures passed.if1.false
+    let passed = c in
+    is passed.has_bit.ensures passed.if-not-has_bit.false
 
-is-marked-requires : tie.Need-is-marked-requires
-is-marked-requires c κs = there c.before
+is-marked-requires : tie.Need-is_marked-was-requires
+is-marked-requires c κs = there c
 
 mark-requires : tie.Need-mark-requires
-mark-requires c κs = there c.before.before.before
+mark-requires c κs = there c.before.before
 
-same_length : tie.Need-same-length
+same_length : tie.Need-shape_of-table
 same_length c = search rules
 
-returns-3 : tie.Need-returns-3
+returns-3 : tie.Need-returns
 returns-3 c =
-    let set = c.before.before in
-    let asked_of = set.before.before in
-    let bit = asked_of.before.before in
-    let passed = bit.before.before.before.before in
-    let now-set = noted_at _ _ _ (has passed) (start passed).requires.1.0 refl
-    (bit_is bit) bit.before.before.unit.given.1 asked_of.is-marked.ensures set.mark.ensures in
+    let set = c in
+    let asked_of = set in
+    let bit = asked_of in
+    let passed = bit in
+    let now-set = noted_at _ _ _ (has passed.before.before.before.before.before.before.before) (start passed.before.before.before.before.before.before.before).requires.1.0 refl
+    (bit_is bit.before.before.before.before.before) bit.in-At.is asked_of.is_marked-was.ensures set.mark.ensures in
     (now-set.was_noted_then, now-set.now_noted)
 
-pub note-spec : {M : Type 1} → statement M
-note-spec =
+pub note_spec : {M : Type 1} → statement M
+note_spec =
     tie.close
     (tie.spec
     kind-requires

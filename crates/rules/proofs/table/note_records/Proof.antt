@@ -6,32 +6,32 @@ use Rattle.rules.proofs.LinesLaws.{rising_lines_sound}
 use Rattle.rules.proofs.table.note_records.Statement.{statement}
 use Rattle.rules.proofs.table.note_records.Tie as tie
 
-known : (c : tie.After-slice-known) → Accepted c.before.before.before.args.book.now c.before.before.before.args.h
-known c = accepted_facts _ _ c.before.before.before.requires.0
+known : (c : tie.After-slice_known-1) → Accepted c.args.book.now c.args.h
+known c = accepted_facts _ _ c.requires.0
 
-sub-note-lines : tie.Need-overflow-sub-note-lines
+sub-note-lines : tie.Need-slice_bounds-note_lines-count
 sub-note-lines c = let k = known c in omega arith
 
-part-note-lines-start : tie.Need-slice-bounds-note-lines-start
+part-note-lines-start : tie.Need-slice_bounds-note_lines-start
 part-note-lines-start c = let k = known c in omega arith
 
-part-note-lines-end : tie.Need-slice-bounds-note-lines-end
+part-note-lines-end : tie.Need-slice_bounds-note_lines-end
 part-note-lines-end c = let k = known c in omega arith
 
-note-lines-requires : tie.Need-note-lines-requires
+note-lines-requires : tie.Need-note_lines-requires
 note-lines-requires c κs =
-    let begun = c.before.before in
-    let k = known begun in
-    (omega arith, (rising_lines_sound unit_ok _ k.units_sound, begun.before.before.before.requires.1.1))
+    let begun = c in
+    let k = known begun.before.before in
+    (omega arith, (rising_lines_sound unit_ok _ k.units_sound, begun.requires.1.1))
 
-same_length : tie.Need-same-length
+same_length : tie.Need-shape_of-table
 same_length c = search rules
 
 returns : tie.Need-returns
 returns c = search rules
 
-pub note-records-spec : {M : Type 1} → statement M
-note-records-spec =
+pub note_records_spec : {M : Type 1} → statement M
+note_records_spec =
     tie.close
     (tie.spec
     sub-note-lines

@@ -10,13 +10,13 @@ use Rattle.rules.proofs.trailer.is_set_right.Tie as tie
 
 returns : tie.Need-returns
 returns c =
-    let l = c.before.before.before.args.l.now in
-    let read = c.before.read_word.ensures.0 in
+    let l = c.args.l.now in
+    let read = c.read_word-set.ensures.0 in
     let wide = word_wide (λ (x : ℕ). leb x 1) l 20 1 21 3 4 refl refl (λ x past. lt-leb x 1 (omega arith)) in
     let blank = sym (zeros-split l 21 3 24 8 11 refl refl) in
-    both ((λ i. leb (read i) 1) ∙ wide ∙ λ i. leb (word_one l 20 i) 1 also zeros l 21 3) c.are-zero.ensures
+    both ((λ i. leb (read i) 1) ∙ wide ∙ λ i. leb (word_one l 20 i) 1 also zeros l 21 3) c.are_zero.ensures
     ∙ sym (also_assoc _ _ _)
     ∙ λ i. leb (byte l 20) 1 also blank i
 
-pub is-set-right-spec : {M : Type 1} → statement M
-is-set-right-spec = tie.close (tie.spec (λ c κs. search rules) (λ c κs. search rules) returns)
+pub is_set_right_spec : {M : Type 1} → statement M
+is_set_right_spec = tie.close (tie.spec (λ c κs. search rules) (λ c κs. search rules) returns)

@@ -10,5 +10,5 @@ returns c =
     (λ i. eqb (read i) 1)
     ∙ word_wide (λ (x : ℕ). eqb x 1) _ 4 2 6 2 4 refl refl (λ x past. ne_eqb x 1 (λ e. omega arith))
 
-pub is-version-right-spec : {M : Type 1} → statement M
-is-version-right-spec = tie.close (tie.spec (λ c κs. search rules) returns)
+pub is_version_right_spec : {M : Type 1} → statement M
+is_version_right_spec = tie.close (tie.spec (λ c κs. search rules) returns)

@@ -9,10 +9,10 @@ use Rattle.rules.proofs.trailer.is_year_right.Tie as tie
 
 returns : tie.Need-returns
 returns c =
-    let read = c.read_word.ensures.0 in
+    let read = c.read_word-year.ensures.0 in
     both (λ i. leb 2000 (read i)) (λ i. leb (read i) 2099)
     ∙ word_wide (λ (x : ℕ). leb 2000 x also leb x 2099) _ 16 2 18 2 4 refl refl
     (λ x past. also_fail (leb 2000 x) (lt-leb x 2099 (omega arith)))
 
-pub is-year-right-spec : {M : Type 1} → statement M
-is-year-right-spec = tie.close (tie.spec (λ c κs. search rules) returns)
+pub is_year_right_spec : {M : Type 1} → statement M
+is_year_right_spec = tie.close (tie.spec (λ c κs. search rules) returns)
