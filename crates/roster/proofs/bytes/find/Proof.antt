@@ -9,43 +9,41 @@ use Rattle.roster.proofs.BytesLaws.{span_here, span_on, span_end}
 use Rattle.roster.proofs.bytes.find.Statement.{statement}
 use Rattle.roster.proofs.bytes.find.Tie as tie
 
-abbrev invariant-loop : tie.invariant-loop
+abbrev invariant-loop : tie.invariant-loop-i
 invariant-loop bytes b i₀ i = (i ≤ length bytes) × (span b bytes ≡ i + span b (drop i bytes))
 
-abbrev decreases-loop : tie.decreases-loop
+abbrev decreases-loop : tie.decreases-loop-i
 decreases-loop bytes b i₀ i = length bytes - i
 
-loop-holds : tie.Need-loop-init invariant-loop decreases-loop
+loop-holds : tie.Need-loop-i-init invariant-loop decreases-loop
 loop-holds c = (zero-le, omega arith)
 
-shared-slice-read-if1 : tie.Need-shared-slice-read-if1 invariant-loop decreases-loop
+shared-slice-read-if1 : tie.Need-bounds-bytes-i invariant-loop decreases-loop
 shared-slice-read-if1 c = search rules
 
-returns : tie.Need-returns invariant-loop decreases-loop
+returns : tie.Need-returns-then-bytes-i invariant-loop decreases-loop
 returns c =
-    let turn = c.before.before in
-    let a = turn.before.before.args in
-    let at = turn.before.loop in
-    (span_here a.b a.bytes.now at.i at.invariant.1 turn.loop-test.true c.if1.true, at.invariant.0)
+    let a = c.args in
+    let at = c.loop-i in
+    (span_here a.b a.bytes.now at.i at.invariant.1 c.loop-i-test.true c.if-bytes-i.true, at.invariant.0)
 
-add-i : tie.Need-overflow-add-i invariant-loop decreases-loop
+add-i : tie.Need-overflow_add-i invariant-loop decreases-loop
 add-i c = search rules
 
-loop-less : tie.Need-loop-smaller invariant-loop decreases-loop
+loop-less : tie.Need-loop-i-smaller invariant-loop decreases-loop
 loop-less c = search rules
 
-loop-again : tie.Need-loop-preserved invariant-loop decreases-loop
+loop-again : tie.Need-loop-i-preserved invariant-loop decreases-loop
 loop-again c =
-    let turn = c.before.before in
-    let a = turn.before.before.args in
-    let at = turn.before.loop in
-    (search rules, span_on a.b a.bytes.now at.i at.invariant.1 turn.loop-test.true c.if1.false)
+    let a = c.args in
+    let at = c.loop-i in
+    (search rules, span_on a.b a.bytes.now at.i at.invariant.1 c.loop-i-test.true c.if-bytes-i.false)
 
-returns-2 : tie.Need-returns-2 invariant-loop decreases-loop
+returns-2 : tie.Need-returns invariant-loop decreases-loop
 returns-2 c =
-    let a = c.before.before.args in
-    let at = c.before.loop in
-    (span_end a.b a.bytes.now at.i at.invariant.1 c.loop-test.false, at.invariant.0)
+    let a = c.args in
+    let at = c.loop-i in
+    (span_end a.b a.bytes.now at.i at.invariant.1 c.loop-i-test.false, at.invariant.0)
 
 pub find_spec : {M : Type 1} → statement M
 find_spec =

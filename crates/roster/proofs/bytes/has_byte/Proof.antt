@@ -14,8 +14,8 @@ find-requires c κs = search rules
 returns : tie.Need-returns
 unfolding has
 returns c =
-    let bytes = c.before.before.args.bytes.now in
+    let bytes = c.args.bytes.now in
     ap (λ (n : ℕ). ltb n (length bytes)) c.find.ensures.0
 
-pub has-byte-spec : {M : Type 1} → statement M
-has-byte-spec = tie.close (tie.spec find-requires returns)
+pub has_byte_spec : {M : Type 1} → statement M
+has_byte_spec = tie.close (tie.spec find-requires returns)

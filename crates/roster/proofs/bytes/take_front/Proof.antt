@@ -8,19 +8,19 @@ use Rattle.roster.specs.Bytes.{front}
 use Rattle.roster.proofs.bytes.take_front.Statement.{statement}
 use Rattle.roster.proofs.bytes.take_front.Tie as tie
 
-find-requires : tie.Need-find-requires
+find-requires : tie.Need-find-n-requires
 find-requires c κs = search rules
 
-slice-aggregate-result : tie.Need-slice-aggregate-result
+slice-aggregate-result : tie.Need-slice_bounds-result-end
 slice-aggregate-result c =
-    let n = c.before.find.result in
-    sym (length-take-le n c.before.before.before.args.bytes.now c.before.find.ensures.1)
+    let n = c.find-n.result in
+    sym (length-take-le n c.args.bytes.now c.find-n.ensures.1)
 
 returns : tie.Need-returns
 unfolding front
 returns c =
-    let bytes = c.before.before.before.args.bytes.now in
-    ap (λ (n : ℕ). take n bytes) c.before.find.ensures.0
+    let bytes = c.args.bytes.now in
+    ap (λ (n : ℕ). take n bytes) c.find-n.ensures.0
 
-pub take-front-spec : {M : Type 1} → statement M
-take-front-spec = tie.close (tie.spec find-requires slice-aggregate-result returns)
+pub take_front_spec : {M : Type 1} → statement M
+take_front_spec = tie.close (tie.spec find-requires slice-aggregate-result returns)

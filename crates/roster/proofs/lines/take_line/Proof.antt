@@ -6,37 +6,33 @@ use Rattle.roster.proofs.LinesLaws.{line_at_ended, line_at-none}
 use Rattle.roster.proofs.lines.take_line.Statement.{statement}
 use Rattle.roster.proofs.lines.take_line.Tie as tie
 
-take-after-requires : tie.Need-take-after-requires
+take-after-requires : tie.Need-take_after-left-requires
 take-after-requires c κs = search rules
 
-has-byte-requires : tie.Need-has-byte-requires
+has-byte-requires : tie.Need-has_byte-requires
 has-byte-requires c κs = search rules
 
-take-front-requires : tie.Need-take-front-requires
+take-front-requires : tie.Need-take_front-requires
 take-front-requires c κs = search rules
 
-returns : tie.Need-returns
+returns : tie.Need-returns-then-has_byte
 returns c =
-    let tested = c.before.before in
-    let left = tested.before in
-    let a = left.before.before.args in
-    c.take-front.ensures
-    ∙ line_at_ended a.i a.text.now left.take_after.ensures
-    (is tested.has-byte.ensures c.before.if1.true)
+    let a = c.args in
+    c.take_front.ensures
+    ∙ line_at_ended a.i a.text.now c.take_after-left.ensures
+    (is c.has_byte.ensures c.if-has_byte.true)
 
-slice-aggregate-result : tie.Need-slice-aggregate-result
+slice-aggregate-result : tie.Need-slice_bounds-result-end
 slice-aggregate-result c = search rules
 
-returns-2 : tie.Need-returns-2
+returns-2 : tie.Need-returns
 returns-2 c =
-    let tested = c.before.before in
-    let left = tested.before in
-    let a = left.before.before.args in
-    line_at-none a.i a.text.now left.take_after.ensures
-    (is tested.has-byte.ensures c.before.if1.false)
+    let a = c.args in
+    line_at-none a.i a.text.now c.take_after-left.ensures
+    (is c.has_byte.ensures c.if-has_byte.false)
 
-pub take-line-spec : {M : Type 1} → statement M
-take-line-spec =
+pub take_line_spec : {M : Type 1} → statement M
+take_line_spec =
     tie.close
     (tie.spec
     take-after-requires

@@ -5,59 +5,50 @@ use Rattle.roster.proofs.MistakeLaws.{mistake_in-nil, mistake_in_comment, mistak
 use Rattle.roster.proofs.mistake.find.Statement.{statement}
 use Rattle.roster.proofs.mistake.find.Tie as tie
 
-returns : tie.Need-returns
-returns c = mistake_in-nil _ c.if1.true
+returns : tie.Need-returns-then-n-eq0
+returns c = mistake_in-nil _ c.if-n-eq0.true
 
-is-comment-requires : tie.Need-is-comment-requires
+is-comment-requires : tie.Need-is_comment-requires
 is-comment-requires c κs = search rules
 
-returns-2 : tie.Need-returns-2
-returns-2 c = mistake_in_comment _ (is c.before.is-comment.ensures c.if2.true)
+returns-2 : tie.Need-returns-then-is_comment
+returns-2 c = mistake_in_comment _ (is c.is_comment.ensures c.if-is_comment.true)
 
-sub-if3 : tie.Need-overflow-sub-if3
+sub-if3 : tie.Need-overflow_sub-n
 sub-if3 c = search rules
 
-shared-slice-read-if3 : tie.Need-shared-slice-read-if3
+shared-slice-read-if3 : tie.Need-bounds-line-n
 shared-slice-read-if3 c = search rules
 
-returns-3 : tie.Need-returns-3
+returns-3 : tie.Need-returns-then-line-n-eq-RETURN
 returns-3 c =
-    let begun = c.before.before in
-    mistake_in-return _ (is begun.before.is-comment.ensures begun.if2.false) c.if3.true
+    mistake_in-return _ (is c.is_comment.ensures c.if-is_comment.false) c.if-line-n-eq-RETURN.true
 
-take-checkpoint-requires : tie.Need-take-checkpoint-requires
+take-checkpoint-requires : tie.Need-take_checkpoint-requires
 take-checkpoint-requires c κs = search rules
 
-has-byte-requires : tie.Need-has-byte-requires
+has-byte-requires : tie.Need-has_byte-requires
 has-byte-requires c κs = search rules
 
-returns-4 : tie.Need-returns-4
+returns-4 : tie.Need-returns-then-has_byte
 returns-4 c =
-    let named = c.before.before in
-    let begun = named.before.before.before in
-    mistake_in-space _ (is begun.before.is-comment.ensures begun.if2.false) named.before.if3.false
-    named.take-checkpoint.ensures (is c.before.has-byte.ensures c.if4.true)
+    mistake_in-space _ (is c.is_comment.ensures c.if-is_comment.false) c.if-line-n-eq-RETURN.false
+    c.take_checkpoint.ensures (is c.has_byte.ensures c.if-has_byte.true)
 
-is-long-requires : tie.Need-is-long-requires
+is-long-requires : tie.Need-is_long-requires
 is-long-requires c κs = search rules
 
-returns-5 : tie.Need-returns-5
+returns-5 : tie.Need-returns-then-is_long
 returns-5 c =
-    let spaced = c.before.before in
-    let named = spaced.before.before in
-    let begun = named.before.before.before in
-    mistake_in_long _ (is begun.before.is-comment.ensures begun.if2.false) named.before.if3.false
-    named.take-checkpoint.ensures (is spaced.before.has-byte.ensures spaced.if4.false)
-    (is c.before.is-long.ensures c.if5.true)
+    mistake_in_long _ (is c.is_comment.ensures c.if-is_comment.false) c.if-line-n-eq-RETURN.false
+    c.take_checkpoint.ensures (is c.has_byte.ensures c.if-has_byte.false)
+    (is c.is_long.ensures c.if-is_long.true)
 
-returns-6 : tie.Need-returns-6
+returns-6 : tie.Need-returns
 returns-6 c =
-    let spaced = c.before.before in
-    let named = spaced.before.before in
-    let begun = named.before.before.before in
-    mistake_in_form _ (is begun.before.is-comment.ensures begun.if2.false) named.before.if3.false
-    named.take-checkpoint.ensures (is spaced.before.has-byte.ensures spaced.if4.false)
-    (is c.before.is-long.ensures c.if5.false)
+    mistake_in_form _ (is c.is_comment.ensures c.if-is_comment.false) c.if-line-n-eq-RETURN.false
+    c.take_checkpoint.ensures (is c.has_byte.ensures c.if-has_byte.false)
+    (is c.is_long.ensures c.if-is_long.false)
 
 pub find_spec : {M : Type 1} → statement M
 find_spec =

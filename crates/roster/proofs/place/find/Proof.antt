@@ -10,50 +10,48 @@ use Rattle.roster.proofs.PlaceLaws.{place_next, place_end}
 use Rattle.roster.proofs.place.find.Statement.{statement}
 use Rattle.roster.proofs.place.find.Tie as tie
 
-abbrev invariant-loop : tie.invariant-loop
+abbrev invariant-loop : tie.invariant-loop-left
 invariant-loop list kept left₀ place₀ left place = place_from place (lines_of list) (lines_of left) ≡ placed list kept
 
-abbrev decreases-loop : tie.decreases-loop
+abbrev decreases-loop : tie.decreases-loop-left
 decreases-loop list kept left₀ place₀ left place = length left
 
-loop-holds : tie.Need-loop-init invariant-loop decreases-loop
+loop-holds : tie.Need-loop-left-init invariant-loop decreases-loop
 unfolding placed
 loop-holds c = refl
 
-has-byte-requires : tie.Need-has-byte-requires invariant-loop decreases-loop
+has-byte-requires : tie.Need-has_byte-requires invariant-loop decreases-loop
 has-byte-requires c κs = search rules
 
-take-front-requires : tie.Need-take-front-requires invariant-loop decreases-loop
+take-front-requires : tie.Need-take_front-line-requires invariant-loop decreases-loop
 take-front-requires c κs = search rules
 
-find-requires : tie.Need-find-requires invariant-loop decreases-loop
+find-requires : tie.Need-find-place-requires invariant-loop decreases-loop
 find-requires c κs = search rules
 
-take-rest-requires : tie.Need-take-rest-requires invariant-loop decreases-loop
+take-rest-requires : tie.Need-take_rest-next-requires invariant-loop decreases-loop
 take-rest-requires c κs = search rules
 
-loop-less : tie.Need-loop-smaller invariant-loop decreases-loop
+loop-less : tie.Need-loop-left-smaller invariant-loop decreases-loop
 loop-less c =
-    let turn = c.before.before.before in
-    let at = turn.before.before.loop in
-    rest_lt newline at.left.now c.take_rest.ensures (is turn.before.has-byte.ensures turn.if1.true)
+    let at = c.loop-left in
+    rest_lt newline at.left.now c.take_rest-next.ensures (is c.has_byte.ensures c.loop-left-test.true)
 
-loop-again : tie.Need-loop-preserved invariant-loop decreases-loop
+loop-again : tie.Need-loop-left-preserved invariant-loop decreases-loop
 loop-again c =
-    let turn = c.before.before.before in
-    let at = turn.before.before.loop in
-    let list = turn.before.before.before.before.before.args.list.now in
+    let at = c.loop-left in
+    let list = c.args.list.now in
     place_next at.place (lines_of list) at.left.now at.invariant
-    (is turn.before.has-byte.ensures turn.if1.true)
-    c.before.before.take-front.ensures
-    c.before.find.ensures
-    c.take_rest.ensures
+    (is c.has_byte.ensures c.loop-left-test.true)
+    c.take_front-line.ensures
+    c.find-place.ensures
+    c.take_rest-next.ensures
 
 returns : tie.Need-returns invariant-loop decreases-loop
 returns c =
-    let at = c.before.before.loop in
-    let list = c.before.before.before.before.before.args.list.now in
-    place_end at.place (lines_of list) at.left.now at.invariant (is c.before.has-byte.ensures c.if1.false)
+    let at = c.loop-left in
+    let list = c.args.list.now in
+    place_end at.place (lines_of list) at.left.now at.invariant (is c.has_byte.ensures c.loop-left-test.false)
 
 pub find_spec : {M : Type 1} → statement M
 find_spec =

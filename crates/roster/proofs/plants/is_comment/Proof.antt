@@ -5,15 +5,15 @@ use Rattle.roster.proofs.PlantsLaws.{is_comment-nil}
 use Rattle.roster.proofs.plants.is_comment.Statement.{statement}
 use Rattle.roster.proofs.plants.is_comment.Tie as tie
 
-returns : tie.Need-returns
-returns c = is_comment-nil _ c.if1.true
+returns : tie.Need-returns-then-line-eq0
+returns c = is_comment-nil _ c.if-line-eq0.true
 
-shared-slice-read-result : tie.Need-shared-slice-read-result
+shared-slice-read-result : tie.Need-bounds-line-0
 shared-slice-read-result c = search rules
 
-returns-2 : tie.Need-returns-2
+returns-2 : tie.Need-returns
 unfolding is_comment
 returns-2 c = search rules
 
-pub is-comment-spec : {M : Type 1} → statement M
-is-comment-spec = tie.close (tie.spec returns shared-slice-read-result returns-2)
+pub is_comment_spec : {M : Type 1} → statement M
+is_comment_spec = tie.close (tie.spec returns shared-slice-read-result returns-2)

@@ -6,7 +6,7 @@ use mathlib.Core.Path.{◌≡◌, refl}
 use native.Mathlib.Omega.{arith}
 use lib.ListN.{length}
 use borrow.Author.Rules.{rules}
-use Rattle.choice.proofs.TestsLaws.{is, is_not, is_so}
+use Rattle.choice.proofs.TestsLaws.{is}
 use Rattle.roster.specs.Search.{has}
 use Rattle.roster.specs.Lines.{newline, split, lines_of}
 use Rattle.roster.specs.Plants.{most_plants, checkpoint_of, is_plant, verdict_from, verdict_on}
@@ -15,113 +15,110 @@ use Rattle.roster.proofs.VerdictLaws.{verdict_on_end, verdict_on-unended, verdic
 use Rattle.roster.proofs.plants.judge.Statement.{statement}
 use Rattle.roster.proofs.plants.judge.Tie as tie
 
-abbrev invariant-loop : tie.invariant-loop
+abbrev invariant-loop : tie.invariant-loop-left
 invariant-loop list left₀ i₀ left i =
     (i ≤ most_plants)
     × (verdict_from (map checkpoint_of (lines_of list)) i (lines_of left) (split left).unended ≡ verdict_on list)
 
-abbrev decreases-loop : tie.decreases-loop
+abbrev decreases-loop : tie.decreases-loop-left
 decreases-loop list left₀ i₀ left i = length left
 
 -- A line stands at the head of what is left.
 abbrev Head : Type 0
-Head = tie.Else2 invariant-loop decreases-loop
+Head = tie.Else-not-has_byte invariant-loop decreases-loop
 
 abbrev left : Head → List ℕ
-left c = c.before.before.before.before.loop.left.now
+left c = c.loop-left.left.now
 
 ended : (c : Head) → has newline (left c) ≡ true
-ended c = is_so c.before.has-byte.ensures c.if2.false
+ended c = is c.has_byte.ensures c.if-not-has_byte.false
 
-few : (c : Head) → c.before.before.before.before.loop.i < most_plants
+few : (c : Head) → c.loop-left.i < most_plants
 few c =
-    let most = c.before.before.before.before.loop.invariant.0 in
+    let most = c.loop-left.invariant.0 in
     omega arith
 
 -- It is a plant's, and its CHECKPOINT has been looked for.
 abbrev Named : Type 0
-Named = tie.After-is-named-before invariant-loop decreases-loop
+Named = tie.After-is_named_before invariant-loop decreases-loop
 
 abbrev head : Named → Head
 head c = c.before.before.before.before
 
-plant : (c : Named) → is_plant c.before.before.before.take-front.result.now ≡ true
-plant c = is_so c.before.before.is-plant.ensures c.before.if3.false
+plant : (c : Named) → is_plant c.take_front-line.result.now ≡ true
+plant c = is c.is_plant.ensures c.if-not-is_plant.false
 
-loop-holds : tie.Need-loop-init invariant-loop decreases-loop
+loop-holds : tie.Need-loop-left-init invariant-loop decreases-loop
 unfolding verdict_on
 loop-holds c = (zero-le, refl)
 
-returns : tie.Need-returns invariant-loop decreases-loop
+returns : tie.Need-returns-then-i-eq-MOST_PLANTS invariant-loop decreases-loop
 returns c =
-    let at = c.before.before.loop in
-    verdict_on_many _ at.i at.left.now at.invariant.1 c.before.loop-test.true (omega arith)
+    let at = c.loop-left in
+    verdict_on_many _ at.i at.left.now at.invariant.1 c.loop-left-test.true (omega arith)
 
-has-byte-requires : tie.Need-has-byte-requires invariant-loop decreases-loop
+has-byte-requires : tie.Need-has_byte-requires invariant-loop decreases-loop
 has-byte-requires c κs = search rules
 
-returns-2 : tie.Need-returns-2 invariant-loop decreases-loop
+returns-2 : tie.Need-returns-then-not-has_byte invariant-loop decreases-loop
 returns-2 c =
-    let at = c.before.before.before.before.loop in
+    let at = c.loop-left in
     let most = at.invariant.0 in
     verdict_on-unended _ at.i at.left.now at.invariant.1
-    (is_not c.before.has-byte.ensures c.if2.true) (search rules) (omega arith)
+    (is c.has_byte.ensures c.if-not-has_byte.true) (search rules) (omega arith)
 
-take-front-requires : tie.Need-take-front-requires invariant-loop decreases-loop
+take-front-requires : tie.Need-take_front-line-requires invariant-loop decreases-loop
 take-front-requires c κs = search rules
 
-is-plant-requires : tie.Need-is-plant-requires invariant-loop decreases-loop
+is-plant-requires : tie.Need-is_plant-requires invariant-loop decreases-loop
 is-plant-requires c κs = search rules
 
-returns-3 : tie.Need-returns-3 invariant-loop decreases-loop
+returns-3 : tie.Need-returns-then-not-is_plant invariant-loop decreases-loop
 returns-3 c =
-    let line = c.before.before in
-    let at = line.before.before.before.before.before.loop in
-    verdict_on_wrong _ at.i at.left.now at.invariant.1 (ended line.before) line.take-front.ensures
-    (few line.before) (is_not c.before.is-plant.ensures c.if3.true)
+    let at = c.loop-left in
+    verdict_on_wrong _ at.i at.left.now at.invariant.1 (ended c.before.before.before) c.take_front-line.ensures
+    (few c.before.before.before) (is c.is_plant.ensures c.if-not-is_plant.true)
 
-is-named-before-requires : tie.Need-is-named-before-requires invariant-loop decreases-loop
+is-named-before-requires : tie.Need-is_named_before-requires invariant-loop decreases-loop
 is-named-before-requires c κs = search rules
 
-returns-4 : tie.Need-returns-4 invariant-loop decreases-loop
+returns-4 : tie.Need-returns-then-is_named_before invariant-loop decreases-loop
 returns-4 c =
     let here = c.before in
-    let line = here.before.before.before in
-    let at = (head here).before.before.before.before.loop in
-    verdict_on_again _ at.i at.left.now at.inv.1 (ended (head here)) line.take-front.ensures
-    (few (head here)) (plant here) (is here.is-named-before.ensures c.if4.true)
+    let at = (head here).loop-left in
+    verdict_on_again _ at.i at.left.now at.invariant.1 (ended (head here)) here.take_front-line.ensures
+    (few (head here)) (plant here) (is here.is_named_before.ensures c.if-is_named_before.true)
 
-take-rest-requires : tie.Need-take-rest-requires invariant-loop decreases-loop
+take-rest-requires : tie.Need-take_rest-next-requires invariant-loop decreases-loop
 take-rest-requires c κs = search rules
 
-add-i : tie.Need-overflow-add-i invariant-loop decreases-loop
+add-i : tie.Need-overflow_add-i invariant-loop decreases-loop
 add-i c =
     let low = few (head c.before.before) in
     search (rules, low)
 
-loop-less : tie.Need-loop-smaller invariant-loop decreases-loop
+loop-less : tie.Need-loop-left-smaller invariant-loop decreases-loop
 loop-less c =
     let line = head c.before.before in
-    rest_lt newline (left line) c.take_rest.ensures (ended line)
+    rest_lt newline (left line) c.take_rest-next.ensures (ended line)
 
-loop-again : tie.Need-loop-preserved invariant-loop decreases-loop
+loop-again : tie.Need-loop-left-preserved invariant-loop decreases-loop
 loop-again c =
     let here = c.before.before in
-    let line = here.before.before.before in
     let low = few (head here) in
-    let at = (head here).before.before.before.before.loop in (
+    let at = (head here).loop-left in (
       omega arith,
-      verdict_on_next _ at.i at.left.now at.inv.1 (ended (head here)) line.take-front.ensures low
-          (plant here) (is here.is-named-before.ensures c.before.if4.false) c.take_rest.ensures,
+      verdict_on_next _ at.i at.left.now at.invariant.1 (ended (head here)) here.take_front-line.ensures low
+          (plant here) (is here.is_named_before.ensures c.if-is_named_before.false) c.take_rest-next.ensures,
     )
 
-returns-5 : tie.Need-returns-5 invariant-loop decreases-loop
+returns-5 : tie.Need-returns invariant-loop decreases-loop
 returns-5 c =
-    let at = c.before.loop in
-    verdict_on_end _ at.i at.left.now at.invariant.1 c.loop-test.false
+    let at = c.loop-left in
+    verdict_on_end _ at.i at.left.now at.invariant.1 c.loop-left-test.false
 
-pub judge-spec : {M : Type 1} → statement M
-judge-spec =
+pub judge_spec : {M : Type 1} → statement M
+judge_spec =
     tie.close
     (tie.spec
     invariant-loop

@@ -4,12 +4,12 @@ use Rattle.roster.specs.Plants.{book_of}
 use Rattle.roster.proofs.plants.take_book.Statement.{statement}
 use Rattle.roster.proofs.plants.take_book.Tie as tie
 
-take-front-requires : tie.Need-take-front-requires
+take-front-requires : tie.Need-take_front-requires
 take-front-requires c κs = search rules
 
 returns : tie.Need-returns
 unfolding book_of
-returns c = c.take-front.ensures
+returns c = c.take_front.ensures
 
-pub take-book-spec : {M : Type 1} → statement M
-take-book-spec = tie.close (tie.spec take-front-requires returns)
+pub take_book_spec : {M : Type 1} → statement M
+take_book_spec = tie.close (tie.spec take-front-requires returns)
