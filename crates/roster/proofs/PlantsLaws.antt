@@ -25,8 +25,8 @@ module _ {r : Bool} (w : List ℕ) (i : ℕ) (whole : visible (drop i w) ≡ r) 
     unfolding visible
     next = sym (ap visible (drop_next w i there)) ∙ whole
 
-    pub visible-low : get_or w i 0 ≤ 32 → false ≡ r
-    visible-low l = sym (also_f (visible (drop (i + 1) w)) (le-ltb 32 (get_or w i 0) l)) ∙ next
+    pub visible_low : get_or w i 0 ≤ 32 → false ≡ r
+    visible_low l = sym (also_f (visible (drop (i + 1) w)) (le-ltb 32 (get_or w i 0) l)) ∙ next
 
     pub visible_next : 32 < get_or w i 0 → visible (drop (i + 1) w) ≡ r
     visible_next l = sym (also_t (lt-ltb 32 (get_or w i 0) l) refl) ∙ next
@@ -34,6 +34,8 @@ module _ {r : Bool} (w : List ℕ) (i : ℕ) (whole : visible (drop i w) ≡ r) 
   pub visible_end : length w ≤ i → true ≡ r
   unfolding visible
   visible_end l = sym (ap visible (drop_of_length-le w {i = i} l)) ∙ whole
+
+pub ruleset visible_steps = (visible_low, visible_next, visible_end)
 
 -- ---- a plant's line
 pub is_comment-nil : (l : List ℕ) → length l ≡ 0 → false ≡ is_comment l

@@ -140,6 +140,7 @@ fn is_word(w: &[u8], most: usize) -> bool
 }
 
 // Whether every byte is above the space and the control codes.
+#[tactic(auto, using(crate::proofs::PlantsLaws::visible_steps))]
 fn is_visible(w: &[u8]) -> bool
     ensures visible { result ≡ visible w.now }
 {
