@@ -4,8 +4,8 @@
 --     Split          a text's ended lines, each without its newline, and what stands after the last newline
 --     led x ls u     the lines ls and the unended u, with the byte x before them
 --     split t        t's lines and what is unended of it
---     lines_of t      t's lines
---     line_at i t     line i of t, counted from 0; nothing, if there is no such line
+--     lines_of t     t's lines
+--     line_at i t    line i of t, counted from 0; nothing, if there is no such line
 --     after i t      what stands after the first i lines of t; nothing, if there are fewer
 --     through i t    the first i lines of t with their newlines; all of t, if there are fewer
 --

@@ -1,8 +1,8 @@
 -- What is told of a line that isn't a plant's. RULES, "List of plants".
 --
---     return           the byte that some systems put before a newline
+--     return            the byte that some systems put before a newline
 --     last_byte l       the last byte of the line l; 0, if it has none
---     spaces l         how many spaces l has
+--     spaces l          how many spaces l has
 --     is_long l         its BOOK or its CHECKPOINT is longer than a plant's may be
 --     mistake_in l      the first mistake in l that has a name, or Form
 --

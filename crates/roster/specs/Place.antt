@@ -2,7 +2,7 @@
 --
 --     kept i t             the list t turned round, so that its line i stands last
 --     none                 the place if no line of the kept text is in the list: a round begins at slot 0
---     place_from p ls ks    the index in ls of the last of ks that is one of ls; p, if there is none
+--     place_from p ls ks   the index in ls of the last of ks that is one of ls; p, if there is none
 --     placed t k           the place in the list t that the text k keeps
 --
 -- Laws: proofs/PlaceLaws.antt. Definitions only.

@@ -1,11 +1,11 @@
 -- What makes a list of plants right, and which fault is told. RULES, "List of plants".
 --
 --     most_plants                 16
---     longest_book_path            4,095
---     longest_checkpoint_path      4,083
---     space                      the byte between BOOK and CHECKPOINT
---     hash                       the byte `#`
---     visible w                  every byte of w is above 32
+--     longest_book_path           4,095
+--     longest_checkpoint_path     4,083
+--     space                       the byte between BOOK and CHECKPOINT
+--     hash                        the byte `#`
+--     visible w                   every byte of w is above 32
 --     is_word m w                 w is a word of at most m bytes
 --     book_of l                   the BOOK that the line l names
 --     checkpoint_of l             the CHECKPOINT that the line l names
@@ -14,7 +14,7 @@
 --     index_from j n w ws         where w first stands in ws, whose first is number j; n, if it doesn't
 --     named_before cs i l         a line before line i names the CHECKPOINT of l, cs being those of the whole list
 --     verdict_from cs i ls u      what is told of the lines ls, the first of them line i of the list, and of the
---                                unended u after them, cs being the CHECKPOINTs of the whole list
+--                                 unended u after them, cs being the CHECKPOINTs of the whole list
 --     verdict_on t                what is told of the list t
 --
 -- Laws: proofs/PlantsLaws.antt, proofs/VerdictLaws.antt, proofs/ToldLaws.antt. Definitions only.

@@ -1,7 +1,7 @@
 -- What the code's searches ask and compare. These serve the code; the definitions of a list and of the
 -- place in the round don't need them.
 --
---     has b xs       there is a b in xs
+--     has b xs        there is a b in xs
 --     part_of p l     the whole line l, or its CHECKPOINT
 --
 -- Laws: proofs/BytesLaws.antt, proofs/PlaceLaws.antt. Definitions only.
