@@ -26,7 +26,7 @@ length-ledger p v =
 pub length-laid : (p ms : List ℕ) → length (laid p ms) ≡ length p + 16 * length ms
 unfolding laid
 length-laid p [] = omega arith
-length-laid p (v ∷ ms) = length-laid _ ms ∙ omega (arith, length-ledger p v)
+length-laid p (v ∷ ms) = length-laid (p ++ bytes_of 8 (v / tonne) ++ bytes_of 8 (v % tonne)) ms ∙ omega (arith, length-ledger p v)
 
 pub laid-append : (p ms : List ℕ) → laid p ms ≡ p ++ laid [] ms
 unfolding laid
@@ -44,7 +44,7 @@ pub laid_snoc : (p ms : List ℕ) (v : ℕ)
     → laid p (ms ++ (v ∷ [])) ≡ laid p ms ++ bytes_of 8 (v / tonne) ++ bytes_of 8 (v % tonne)
 unfolding laid
 laid_snoc p [] v = refl
-laid_snoc p (u ∷ ms) v = laid_snoc _ ms v
+laid_snoc p (u ∷ ms) v = laid_snoc (p ++ bytes_of 8 (u / tonne) ++ bytes_of 8 (u % tonne)) ms v
 
 -- The ledger at place i of those that start at byte `at`.
 pub word-laid : (p : List ℕ) (at : ℕ) (ms : List ℕ) (i : ℕ) → length p ≡ at → i < length ms →
@@ -72,7 +72,7 @@ word-laid p at (v ∷ ms) zero e h l =
 word-laid p at (v ∷ ms) (suc i) e h l =
     let behind : length (p ++ bytes_of 8 (v / tonne) ++ bytes_of 8 (v % tonne)) ≡ at + 16 = length-ledger p v ∙ omega arith in
     let place : at + 16 + 16 * i ≡ at + 16 * suc i = omega arith in
-    let rest = word-laid _ (at + 16) ms i behind (le_of_suc-le-suc h) l in (
+    let rest = word-laid (p ++ bytes_of 8 (v / tonne) ++ bytes_of 8 (v % tonne)) (at + 16) ms i behind (le_of_suc-le-suc h) l in (
       ap (λ (k : ℕ). word (laid p (v ∷ ms)) k 8) (sym place) ∙ rest.0,
       ap (λ (k : ℕ). word (laid p (v ∷ ms)) (k + 8) 8) (sym place) ∙ rest.1,
     )

@@ -15,34 +15,34 @@ use Rattle.job.specs.Checkpoint.{index_in, done_in, gap_in, first_sound}
 use Rattle.job.proofs.checkpoint.is_first_sound.Statement.{statement}
 use Rattle.job.proofs.checkpoint.is_first_sound.Tie as tie
 
-returns : tie.Need-returns
+returns : tie.Need-returns-then-read_word-eq0
 unfolding first_sound
 returns c =
-    let k = c.before.before.before.before.before.args.c.now in
-    let aside = c.before.read-word3.ensures.0 in
-    let reason = c.before.before.read-word2.ensures.0 in
-    let index = c.before.before.before.read_word.ensures.0 in
+    let k = c.args.c.now in
+    let aside = c.read_word.ensures.0 in
+    let reason = c.read_word-reason.ensures.0 in
+    let index = c.read_word-index.ensures.0 in
     let wide = word_wide (λ (x : ℕ). eqb x 0) k 12 1 13 3 4 refl refl (λ x past. ne_eqb x 0 (λ e. omega arith)) in
     both (λ i. eqb (index i) 0) ((λ i. eqb (reason i) 0) ∙ wide)
     ∙ also_assoc _ _ _
-    ∙ ap (λ (b : Bool). b also gap_in k) (sym (choose_t _ (eq_of aside c.if1.true) refl))
+    ∙ ap (λ (b : Bool). b also gap_in k) (sym (choose_t _ (eq_of aside c.if-read_word-eq0.true) refl))
 
-returns-2 : tie.Need-returns-2
+returns-2 : tie.Need-returns
 unfolding first_sound
 returns-2 c =
-    let k = c.before.before.before.before.before.before.args.c.now in
-    let done = c.read-word4.ensures.0 in
-    let aside = c.before.before.read-word3.ensures.0 in
-    let reason = c.before.before.before.read-word2.ensures.0 in
-    let index = c.before.before.before.before.read_word.ensures.0 in
+    let k = c.args.c.now in
+    let done = c.read_word-done.ensures.0 in
+    let aside = c.read_word.ensures.0 in
+    let reason = c.read_word-reason.ensures.0 in
+    let index = c.read_word-index.ensures.0 in
     let named : ℕ → Bool = λ x. ltb (index_in k) (done_in k) also leb 1 x also leb x last_reason in
     let wide = word_wide named k 12 1 13 3 4 refl refl (λ x past. also_fail _ (lt-leb x last_reason (omega arith))) in
     both (both (λ i. ltb (index i) (done i)) (λ i. leb 1 (reason i))) (λ i. leb (reason i) last_reason)
     ∙ wide
-    ∙ ap (λ (b : Bool). b also gap_in k) (sym (choose_f _ (ne_of aside c.before.if1.false) refl))
+    ∙ ap (λ (b : Bool). b also gap_in k) (sym (choose_f _ (ne_of aside c.if-read_word-eq0.false) refl))
 
-pub is-first-sound-spec : {M : Type 1} → statement M
-is-first-sound-spec =
+pub is_first_sound_spec : {M : Type 1} → statement M
+is_first_sound_spec =
     tie.close
     (tie.spec
     (λ c κs. search rules) (λ c κs. search rules) (λ c κs. search rules) returns (λ c κs. search rules)

@@ -11,10 +11,10 @@ use Rattle.job.proofs.checkpoint.is_ledger_sound.Tie as tie
 returns : tie.Need-returns
 unfolding ledger_sound
 returns c =
-    let done = c.before.read_word.ensures.0 in
-    let ledger = c.before.before.read-ledger.ensures in
+    let done = c.read_word-done.ensures.0 in
+    let ledger = c.read_ledger-g.ensures in
     both (λ i. ltb (ledger i).rest.0 tonne) (λ i. leb (ledger i).tonnes (tonnes_each * done i))
 
-pub is-ledger-sound-spec : {M : Type 1} → statement M
-is-ledger-sound-spec =
+pub is_ledger_sound_spec : {M : Type 1} → statement M
+is_ledger_sound_spec =
     tie.close (tie.spec (λ c κs. search rules) (λ c κs. search rules) (λ c. search rules) returns)

@@ -18,28 +18,28 @@ gap-last place first masses gap =
 returns : tie.Need-returns
 unfolding sound
 returns c =
-    let blank = c.before.before.before in
-    let masses = blank.before in
-    let first = masses.before in
-    let aside = first.before in
-    let done = aside.before in
-    let year = done.before in
-    let length = year.before in
-    let a = length.before.before.args in
+    let blank = c in
+    let masses = blank in
+    let first = masses in
+    let aside = first in
+    let done = aside in
+    let year = done in
+    let length = year in
+    let a = length.args in
     let h = a.h in
     let k = a.c.now in
-    let length-read = length.read_word.ensures.0 in
-    let year-read = year.read-word2.ensures.0 in
-    let done-read = done.read-word3.ensures.0 in
-    let aside-read = aside.read-word4.ensures.0 in
+    let length-read = length.read_word-length.ensures.0 in
+    let year-read = year.read_word-year.ensures.0 in
+    let done-read = done.read_word-done.ensures.0 in
+    let aside-read = aside.read_word-aside.ensures.0 in
     let head = both (λ i. eqb (length-read i) h.length) (λ i. eqb (year-read i) h.year) in
     let in-book = both head (λ i. leb (done-read i) h.n) in
     let place = both {b' = leb (aside_in k) (done_in k)} in-book (λ i. leb (aside-read i) (done-read i)) in
-    both (both (both place first.is-first-sound.ensures) masses.are-ledgers-sound.ensures) blank.are-zero.ensures
+    both (both (both place first.is_first_sound-first.ensures) masses.are_ledgers_sound-masses.ensures) blank.are_zero-blank.ensures
     ∙ ap (λ (b : Bool). b also blank_in k) (gap-last _ (first_sound k) (every (ledger_sound k) ledgers) (gap_in k))
 
-pub is-sound-spec : {M : Type 1} → statement M
-is-sound-spec =
+pub is_sound_spec : {M : Type 1} → statement M
+is_sound_spec =
     tie.close
     (tie.spec
     (λ c κs. search rules) (λ c κs. search rules) (λ c κs. search rules) (λ c κs. search rules)

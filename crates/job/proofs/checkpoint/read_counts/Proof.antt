@@ -5,18 +5,18 @@ use Rattle.job.proofs.checkpoint.read_counts.Tie as tie
 
 returns : tie.Need-returns
 returns c =
-    let index = c.before in
-    let aside = index.before in
-    let done = aside.before in
+    let index = c in
+    let aside = index in
+    let done = aside in
     λ i. record {
-      done = done.read_word.ensures.0 i;
-      aside = aside.read-word2.ensures.0 i;
-      index = index.read-word3.ensures.0 i;
-      reason = c.read-word4.ensures.0 i;
+      done = done.read_word-done.ensures.0 i;
+      aside = aside.read_word-aside.ensures.0 i;
+      index = index.read_word-index.ensures.0 i;
+      reason = c.read_word-reason.ensures.0 i;
     }
 
-pub read-counts-spec : {M : Type 1} → statement M
-read-counts-spec =
+pub read_counts_spec : {M : Type 1} → statement M
+read_counts_spec =
     tie.close
     (tie.spec
     (λ c κs. search rules) (λ c. search rules) (λ c κs. search rules) (λ c. search rules) (λ c κs. search rules)

@@ -8,14 +8,14 @@ use Rattle.job.proofs.checkpoint.read_ledger.Tie as tie
 
 returns : tie.Need-returns
 returns c =
-    let place = c.before.before.find-ledger.ensures in
-    let s = c.before.before.before.before.args.c.now in
-    let tonnes = c.before.read_word.ensures.0 ∙ ap (λ (p : ℕ). word s p 8) place in
-    let rest = c.read-word2.ensures.0 ∙ ap (λ (p : ℕ). word s (p + 8) 8) place in
+    let place = c.find_ledger-at.ensures in
+    let s = c.args.c.now in
+    let tonnes = c.read_word-tonnes.ensures.0 ∙ ap (λ (p : ℕ). word s p 8) place in
+    let rest = c.read_word-rest.ensures.0 ∙ ap (λ (p : ℕ). word s (p + 8) 8) place in
     λ i. record { tonnes = tonnes i; rest = record { 0 = rest i } }
 
-pub read-ledger-spec : {M : Type 1} → statement M
-read-ledger-spec =
+pub read_ledger_spec : {M : Type 1} → statement M
+read_ledger_spec =
     tie.close
     (tie.spec
     (λ c κs. search rules) (λ c κs. search rules) (λ c. search rules) (λ c κs. search rules) returns)

@@ -15,34 +15,34 @@ use Rattle.job.proofs.checkpoint.write.Statement.{statement}
 use Rattle.job.proofs.checkpoint.write.Tie as tie
 
 -- Where each number is put, and the start.
-abbrev index : tie.After-write-ledgers-arg → tie.After-put2
+abbrev index : tie.After-write_ledgers-arg-1 → tie.After-put-2
 index c = c.before.before.before
 
-abbrev done : tie.After-write-ledgers-arg → tie.After-put
-done c = (index c).before.before.before.before.before.before.before
+abbrev done : tie.After-write_ledgers-arg-1 → tie.After-put
+done c = c.before.before.before.before.before.before.before.before.before.before
 
-abbrev start : tie.After-write-ledgers-arg → tie.Start
-start c = (done c).before.before.before.before.before.before.before
+abbrev start : tie.After-write_ledgers-arg-1 → tie.Start
+start c = c.before.before.before.before.before.before.before.before.before.before.before.before.before.before.before.before.before.before
 
-abbrev behind : tie.After-join3 → tie.After-write-ledgers
+abbrev behind : tie.After-join-3 → tie.After-write_ledgers
 behind c = c.before.before.before.before.before.before
 
 -- The buffer keeps its length.
-full : (c : tie.After-write-ledgers-arg) → length (index c).put2.new.0 ≡ checkpoint_size
-full c = (index c).put2.auto.0 ∙ (done c).put.auto.0 ∙ (start c).requires.0.2
+full : (c : tie.After-write_ledgers-arg-1) → length (index c).put-2.new.out ≡ checkpoint_size
+full c = (index c).put-2.auto.out ∙ (done c).put.auto.out ∙ (start c).requires.0.2
 
-full-behind : (c : tie.After-write-ledgers) → length c.write-ledgers.new.1.1.0 ≡ checkpoint_size
-full-behind c = c.write-ledgers.auto.1.1.0 ∙ full c.before
+full-behind : (c : tie.After-write_ledgers) → length c.write_ledgers.new.out ≡ checkpoint_size
+full-behind c = c.write_ledgers.auto.out ∙ full c.before
 
-write-ledgers-requires : tie.Need-write-ledgers-requires
+write-ledgers-requires : tie.Need-write_ledgers-requires
 write-ledgers-requires c κs =
     let p = (start c).requires in
     ((p.0.0, p.0.1, full c), p.1.1)
 
-cast-join : tie.Need-overflow-cast-join
+cast-join : tie.Need-overflow_cast-h
 cast-join c = record { fits = (start c.before.before.before.before.before).requires.1.0.0 }
 
-cast-join-2 : tie.Need-overflow-cast-join-2
+cast-join-2 : tie.Need-overflow_cast-h-2
 cast-join-2 c = record { fits = lt_trans (start c.before.before.before.before.before.before).requires.1.0.1 (lit< tt) }
 
 put-requires-3 : tie.Need-put-requires-3
@@ -51,33 +51,33 @@ put-requires-3 c κs = let all = full-behind (behind c) in search rules
 put-requires-4 : tie.Need-put-requires-4
 put-requires-4 c κs = let all = full-behind (behind c.before.before.before.before) in search rules
 
-same_length : tie.Need-same-length
+same_length : tie.Need-shape_of-out
 same_length c =
-    let blank = c.before.before in
-    let year = blank.before.before.before.before in
-    let ledgers = behind year.before in
-    blank.put4.auto.0 ∙ year.put3.auto.0 ∙ full-behind ledgers ∙ sym (start ledgers.before).requires.0.2
+    let blank = c in
+    let year = blank in
+    let ledgers = behind year.before.before.before.before.before.before.before in
+    blank.put-4.auto.out ∙ year.put-3.auto.out ∙ full-behind ledgers ∙ sym (start ledgers.before).requires.0.2
 
 returns : tie.Need-returns
 unfolding encode state_on
 returns c =
-    let blank = c.before.before in
-    let year = blank.before.before.before.before in
-    let ledgers = behind year.before in
-    let first = ledgers.before in
-    let a = (start first).args in
-    let p = (start first).pre in
+    let blank = c in
+    let year = blank in
+    let ledgers = behind year.before.before.before.before.before.before.before in
+    let first = ledgers in
+    let a = (start first.before).args in
+    let p = (start first.before).requires in
     let h = a.h in
     let before = laid (front (counts_at a.place a.aside.now)) (masses_on a.from.now a.w.now) in
     let to-0 = wrote_none a.out.now in
-    let counts = (done first).before.join.ensures in
-    let to-8 = wrote_two to-0 4 4 _ _ counts.1 counts.0 (done first).put.ensures in
-    let aside = (index first).before.join2.ensures in
-    let to-16 = wrote_gap to-8 4 1 3 _ _ aside.1 p.1.0.2 aside.0 (index first).put2.ensures in
-    let to-80 = wrote_ledgers _ (length-masses_on a.from.now a.w.now) to-16 ledgers.write-ledgers.ensures in
-    let told = year.before.join3.ensures in
-    let to-88 = wrote_gap to-80 4 2 2 h.length h.year p.1.0.0 p.1.0.1 told.0 year.put3.ensures in
-    wrote_all (wrote_more to-88 8 refl blank.put4.ensures) p.0.2
+    let counts = (done first.before).join.ensures in
+    let to-8 = wrote_two to-0 4 4 _ _ counts.1 counts.0 (done first.before).put.ensures in
+    let aside = (index first.before).join-2.ensures in
+    let to-16 = wrote_gap to-8 4 1 3 _ _ aside.1 p.1.0.2 aside.0 (index first.before).put-2.ensures in
+    let to-80 = wrote_ledgers _ (length-masses_on a.from.now a.w.now) to-16 ledgers.write_ledgers.ensures in
+    let told = year.join-3.ensures in
+    let to-88 = wrote_gap to-80 4 2 2 h.length h.year p.1.0.0 p.1.0.1 told.0 year.put-3.ensures in
+    wrote_all (wrote_more to-88 8 refl blank.put-4.ensures) p.0.2
     ∙ sym (append-blank (before ++ bytes_of 4 h.length ++ bytes_of 2 h.year) 2 8 0 (lit< tt))
 
 pub write_spec : {M : Type 1} → statement M

@@ -17,31 +17,31 @@ use Rattle.job.proofs.ledgers.add.Tie as tie
 high : (w : List ℕ) (k v : ℕ) → k < ledgers → get_or (set w k v) (ledgers + k) 0 ≡ high_at w k
 high w k v l = get_or-set_other w k (ledgers + k) v 0 (λ e. omega arith)
 
-returns : tie.Need-returns
+returns : tie.Need-returns-then-sum-lt-HALF
 unfolding added
-returns c = sym (choose_t _ (lt-ltb _ _ c.if1.true) refl)
+returns c = sym (choose_t _ (lt-ltb _ _ c.if-sum-lt-HALF.true) refl)
 
-slice-read-w : tie.Need-slice-read-w
+slice-read-w : tie.Need-bounds-w-k-3
 slice-read-w c = rw length-set (omega arith)
 
-add-w-2 : tie.Need-overflow-add-w-2
+add-w-2 : tie.Need-overflow_add-w-2
 add-w-2 c =
-    let s = c.before.before.before in
+    let s = c in
     let a = s.args in
     omega (arith, high a.w.now a.k (low_at a.w.now a.k + a.x - full) s.requires.0.1)
 
-slice-write-w-3 : tie.Need-slice-write-w-3
+slice-write-w-3 : tie.Need-bounds-w-k-4
 slice-write-w-3 c = rw length-set (omega arith)
 
-returns-2 : tie.Need-returns-2
+returns-2 : tie.Need-returns
 unfolding added
 returns-2 c =
-    let test = c.before in
-    let s = test.before.before in
+    let test = c in
+    let s = test in
     let a = s.args in
     let low = low_at a.w.now a.k + a.x - full in
     ap (λ (v : ℕ). set (set a.w.now a.k low) (ledgers + a.k) (v + 1)) (high a.w.now a.k low s.requires.0.1)
-    ∙ sym (choose_f _ (le-ltb _ _ test.if1.false) refl)
+    ∙ sym (choose_f _ (le-ltb _ _ test.if-sum-lt-HALF.false) refl)
 
 pub add_spec : {M : Type 1} → statement M
 add_spec =

@@ -30,44 +30,44 @@ trace w k l = ap (λ (u : ℕ). u * (full * high_at w k + low_at w k)) (unit_at_
 gathered : {r : Ledger} (g q : Ledger) (v m : ℕ) → r ≡ added q v → total q + v ≡ total g + m → r ≡ ledger_of (total g + m)
 gathered g q v m a s = a ∙ added-ledger_of q v ∙ ap ledger_of s
 
-returns : tie.Need-returns
+returns : tie.Need-returns-then-high-eq0
 returns c =
-    let low = c.before in
-    let s = low.before.before.before.before in
+    let low = c in
+    let s = low in
     let g = s.args.g in
-    let nothing = none s.args.w.now s.args.k low.if1.true c.if2.true in
+    let nothing = none s.args.w.now s.args.k low.if-low-eq0.true c.if-high-eq0.true in
     sym (ap (λ (m : ℕ). ledger_of (total g + m)) nothing ∙ ap ledger_of (add-zero (total g)) ∙ ledger_of-total g s.requires.1.0)
 
 raise-requires : tie.Need-raise-requires
 raise-requires c κs =
-    let s = c.before.before.before.before.before in
+    let s = c in
     let a = s.args in
-    (s.requires.1.0, omega (arith, co2 a.w.now a.k c.if3.true, total_parts a.g))
+    (s.requires.1.0, omega (arith, co2 a.w.now a.k c.if-k-lt-CH4.true, total_parts a.g))
 
-returns-2 : tie.Need-returns-2
+returns-2 : tie.Need-returns-then-k-lt-CH4
 returns-2 c =
-    let raised = c.before in
-    let test = raised.before in
-    let a = test.before.before.before.before.before.args in
-    gathered a.g raised.raise.result (1000 * low_at a.w.now a.k) (mass_at a.w.now a.k) c.add-ug.ensures
-    (omega (arith, co2 a.w.now a.k test.if3.true, raised.raise.ensures.0))
+    let raised = c in
+    let test = raised in
+    let a = test.args in
+    gathered a.g raised.raise.result (1000 * low_at a.w.now a.k) (mass_at a.w.now a.k) c.add_ug.ensures
+    (omega (arith, co2 a.w.now a.k test.if-k-lt-CH4.true, raised.raise.ensures.0))
 
 raise-requires-2 : tie.Need-raise-requires-2
 raise-requires-2 c κs =
-    let s = c.before.before.before.before.before in
+    let s = c in
     let a = s.args in
-    (s.requires.1.0, omega (arith, trace a.w.now a.k c.if3.false, total_parts a.g))
+    (s.requires.1.0, omega (arith, trace a.w.now a.k c.if-k-lt-CH4.false, total_parts a.g))
 
-returns-3 : tie.Need-returns-3
+returns-3 : tie.Need-returns
 returns-3 c =
-    let raised = c.before in
-    let test = raised.before in
-    let a = test.before.before.before.before.before.args in
-    gathered a.g raised.raise2.result (low_at a.w.now a.k) (mass_at a.w.now a.k) c.add-ng.ensures
-    (omega (arith, trace a.w.now a.k test.if3.false, raised.raise2.ensures.0))
+    let raised = c in
+    let test = raised in
+    let a = test.args in
+    gathered a.g raised.raise-2.result (low_at a.w.now a.k) (mass_at a.w.now a.k) c.add_ng.ensures
+    (omega (arith, trace a.w.now a.k test.if-k-lt-CH4.false, raised.raise-2.ensures.0))
 
-pub gather-spec : {M : Type 1} → statement M
-gather-spec =
+pub gather_spec : {M : Type 1} → statement M
+gather_spec =
     tie.close
     (tie.spec
     (λ c. search rules) (λ c. search rules) (λ c. search rules) (λ c. search rules) (λ c. search rules) returns

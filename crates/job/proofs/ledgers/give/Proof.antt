@@ -16,44 +16,44 @@ start c = c.before.before.before.before.before
 add-requires : tie.Need-add-requires
 add-requires c κs =
     let s = start c in
-    rw (c.before.find-place.ensures, c.keep.ensures)
-    (room_co2 s.args.w.now s.pre.0 s.args.e s.pre.1 (le_refl carries))
+    rw (c.find_place.ensures, c.keep.ensures)
+    (room_co2 s.args.w.now s.requires.0 s.args.e s.requires.1 (le_refl carries))
 
 -- What the words are after one addition, and after two.
 once : (c : tie.After-add) →
     let e = (start c.before).args.e in
-    c.add.new.0 ≡ added (start c.before).args.w.now (co2_place e.destination) (co2_kept e.destination e.co2.0)
+    c.add.new.w ≡ added (start c.before).args.w.now (co2_place e.destination) (co2_kept e.destination e.co2.0)
 once c =
-    let keep = c.before in
+    let keep = c in
     c.add.ensures
-    ∙ (λ i. added (start keep).args.w.now (keep.before.find-place.ensures i) (keep.keep.ensures i))
+    ∙ (λ i. added (start keep.before).args.w.now (keep.find_place.ensures i) (keep.keep.ensures i))
 
 add-requires-2 : tie.Need-add-requires-2
 add-requires-2 c κs =
-    let add = c.before.before.before in
-    let s = start add.before in
-    rw (once add) (room_ch4 s.args.w.now s.pre.0 s.args.e s.pre.1 (le_refl carries))
+    let add = c in
+    let s = start add.before.before.before.before in
+    rw (once add.before.before.before) (room_ch4 s.args.w.now s.requires.0 s.args.e s.requires.1 (le_refl carries))
 
-abbrev first : tie.After-add2 → tie.After-add
+abbrev first : tie.After-add-2 → tie.After-add
 first c = c.before.before.before.before
 
-twice : (c : tie.After-add2) →
+twice : (c : tie.After-add-2) →
     let e = (start (first c).before).args.e in
     let w = (start (first c).before).args.w.now in
-    c.add2.new.0 ≡ added (added w (co2_place e.destination) (co2_kept e.destination e.co2.0)) ch4 e.ch4.0
-twice c = c.add2.ensures ∙ ap (λ (w : List ℕ). added w ch4 (start (first c).before).args.e.ch4.0) (once (first c))
+    c.add-2.new.w ≡ added (added w (co2_place e.destination) (co2_kept e.destination e.co2.0)) ch4 e.ch4.0
+twice c = c.add-2.ensures ∙ ap (λ (w : List ℕ). added w ch4 (start (first c).before).args.e.ch4.0) (once (first c))
 
 add-requires-3 : tie.Need-add-requires-3
 add-requires-3 c κs =
-    let add2 = c.before.before.before in
-    let s = start (first add2).before in
-    rw (twice add2) (room_n2o s.args.w.now s.pre.0 s.args.e s.pre.1 (le_refl carries))
+    let add2 = c in
+    let s = start (first add2.before.before.before).before in
+    rw (twice add2.before.before.before) (room_n2o s.args.w.now s.requires.0 s.args.e s.requires.1 (le_refl carries))
 
 returns : tie.Need-returns
 returns c =
-    let add3 = c.before.before in
-    let add2 = add3.before.before.before.before in
-    add3.add3.ensures ∙ ap (λ (w : List ℕ). added w n2o (start (first add2).before).args.e.n2o.0) (twice add2)
+    let add3 = c in
+    let add2 = add3 in
+    add3.add-3.ensures ∙ ap (λ (w : List ℕ). added w n2o (start (first add2.before.before.before.before.before.before).before).args.e.n2o.0) (twice add2.before.before.before.before.before.before)
 
 pub give_spec : {M : Type 1} → statement M
 give_spec =

@@ -9,12 +9,12 @@ use Rattle.job.proofs.ledgers.raise.Tie as tie
 
 returns : tie.Need-returns
 returns c =
-    let s = c.before.before in
+    let s = c in
     let a = s.args in
     let more = a.tonnes * a.times in
     let g : Ledger = record { tonnes = a.g.tonnes + more; rest = a.g.rest } in
     (omega (arith, total_parts g, total_parts a.g), record { canonical = s.requires.0; tonnes_le = s.requires.1 })
 
-pub raise-spec : {M : Type 1} → statement M
-raise-spec =
+pub raise_spec : {M : Type 1} → statement M
+raise_spec =
     tie.close (tie.spec (λ c. search rules) (λ c. search rules) returns)

@@ -8,14 +8,14 @@ use Rattle.job.proofs.leg.take_fuel.Tie as tie
 
 add-requires : tie.Need-add-requires
 add-requires c κs =
-    let at = c.before.before in
-    let start = at.before.before in
-    subst (λ (s : Sorted). RoomFor s start.args.shares.now) at.sorted.given.1 start.requires
+    let at = c in
+    let start = at in
+    subst (λ (s : Sorted). RoomFor s start.args.shares.now) at.in-Sure.is start.requires
 
-returns-2 : tie.Need-returns-2
-returns-2 c = rw c.before.before.before.sorted.given.1 (refl, c.add.ensures)
+returns-2 : tie.Need-returns-in-Sure
+returns-2 c = rw c.in-Sure.is (refl, c.add.ensures)
 
-pub take-fuel-spec : {M : Type 1} → statement M
-take-fuel-spec =
+pub take_fuel_spec : {M : Type 1} → statement M
+take_fuel_spec =
     tie.close
     (tie.spec (λ c. search rules) (λ c. search rules) add-requires (λ c. search rules) returns-2)

@@ -11,24 +11,24 @@ use Rattle.job.proofs.leg.take_gas.Tie as tie
 
 add-requires : tie.Need-add-requires
 add-requires c κs =
-    let at = c.before.before.before in
-    let start = at.before.before.before in
-    subst (λ (s : Sorted). RoomFor s start.args.shares.now) at.sorted.given.1 start.requires.0
+    let at = c in
+    let start = at in
+    subst (λ (s : Sorted). RoomFor s start.args.shares.now) at.in-Sure.is start.requires.0
 
-add-requires-2 : tie.Need-add-requires-2
+add-requires-2 : tie.Need-add-requires-in-Sure
 add-requires-2 c κs =
-    let at = c.before.before.before.before.before in
-    let start = at.before.before.before in
-    room start.args.w.now fossil _ (lit< tt) start.requires.1 (lit≤ tt) (subst Co2For at.sorted.given.1 start.requires.2)
+    let at = c in
+    let start = at in
+    room start.args.w.now fossil _ (lit< tt) start.requires.1 (lit≤ tt) (subst Co2For at.in-Sure.is start.requires.2)
 
-returns-2 : tie.Need-returns-2
+returns-2 : tie.Need-returns-in-Sure
 returns-2 c =
-    let add = c.before.before.before.before in
-    let at = add.before.before.before.before in
-    rw at.sorted.given.1 (refl, (add.add.ensures, c.before.before.add2.ensures))
+    let add = c in
+    let at = add in
+    rw at.in-Sure.is (refl, (add.add.ensures, c.add-in-Sure.ensures))
 
-pub take-gas-spec : {M : Type 1} → statement M
-take-gas-spec =
+pub take_gas_spec : {M : Type 1} → statement M
+take_gas_spec =
     tie.close
     (tie.spec
     (λ c. search rules) (λ c. search rules) add-requires add-requires-2 (λ c. search rules) (λ c. search rules) returns-2)

@@ -1,146 +1,145 @@
 -- What a look at a record finds is what the record gives. Assumes nothing.
 use mathlib.Core.Path.{sym, ◌∙◌}
 use borrow.Author.Rules.{rules}
-use borrow.Author.Tests.{not-false}
 use Rattle.job.proofs.WakeLaws.{records_le}
 use Rattle.job.proofs.LegLaws.{aside_lt}
 use Rattle.job.proofs.TakingLaws.{room_sorted, co2_sorted, taking_fuel, taking_gas, light_weighed, taking_weighed}
 use Rattle.job.proofs.leg.take_quickly.Statement.{statement}
 use Rattle.job.proofs.leg.take_quickly.Tie as tie
 
-abbrev start : tie.After-find-kind → tie.Start
+abbrev start : tie.After-find_kind-kind → tie.Start
 start c = c.before.before.before.before
 
 -- ---- fuel
-sort-fuel-requires : tie.Need-sort-fuel-requires
+sort-fuel-requires : tie.Need-sort_fuel-sorted-requires
 sort-fuel-requires c κs =
     let p = (start c.before).requires in
-    (p.0, ((p.1.0.0, sym c.before.find-kind.ensures ∙ c.if1.true), (p.1.1.0, p.1.1.1.0)))
+    (p.0, ((p.1.0.0, sym c.find_kind-kind.ensures ∙ c.if-kind-eq1.true), (p.1.1.0, p.1.1.1.0)))
 
-take-fuel-requires : tie.Need-take-fuel-requires
+take-fuel-requires : tie.Need-take_fuel-requires
 take-fuel-requires c κs =
-    let sort = c.before in
-    let s = start sort.before.before in
-    let a = s.args in
-    room_sorted a.h a.book.now a.place s.pre.0 sort.sort-fuel.result sort.sort-fuel.ensures.0 s.pre.1.1.1.1.1.0
-
-returns : tie.Need-returns
-returns c =
-    let sort = c.before.before in
-    let kinds = sort.before.before in
-    let s = start kinds in
-    let a = s.args in
-    let kind = sym kinds.find-kind.ensures ∙ sort.before.if1.true in
-    let room = s.pre.1.1.1.1.1 in
-    let sorted = sort.sort-fuel in
-    taking_fuel a.h a.book.now a.place s.pre.0 a.stop a.aside.now a.w.now a.shares.now a.table.now
-    room.1 room.0 kind sorted.result sorted.ensures.0 sorted.ensures.1
-    c.take-fuel.ensures.0 c.take-fuel.ensures.1
-
--- ---- analysed gas
-sort-gas-requires : tie.Need-sort-gas-requires
-sort-gas-requires c κs =
-    let kinds = c.before.before in
-    let p = (start kinds).requires in
-    (p.0, ((p.1.0.0, sym kinds.find-kind.ensures ∙ c.if2.true), (p.1.1.0, p.1.1.1.0)))
-
-take-gas-requires : tie.Need-take-gas-requires
-take-gas-requires c κs =
-    let sort = c.before.before in
+    let sort = c in
     let s = start sort.before.before.before in
     let a = s.args in
-    let room = s.pre.1.1.1.1.1 in
-    let settled = sort.sort-gas.ensures in (
-      room_sorted a.h a.book.now a.place s.pre.0 sort.sort-gas.result settled room.0,
+    room_sorted a.h a.book.now a.place s.requires.0 sort.sort_fuel-sorted.result sort.sort_fuel-sorted.ensures.0 s.requires.1.1.1.1.1.0
+
+returns : tie.Need-returns-then-kind-eq1
+returns c =
+    let sort = c in
+    let kinds = sort in
+    let s = start kinds.before.before.before.before in
+    let a = s.args in
+    let kind = sym kinds.find_kind-kind.ensures ∙ sort.if-kind-eq1.true in
+    let room = s.requires.1.1.1.1.1 in
+    let sorted = sort.sort_fuel-sorted in
+    taking_fuel a.h a.book.now a.place s.requires.0 a.stop a.aside.now a.w.now a.shares.now a.table.now
+    room.1 room.0 kind sorted.result sorted.ensures.0 sorted.ensures.1
+    c.take_fuel.ensures.0 c.take_fuel.ensures.1
+
+-- ---- analysed gas
+sort-gas-requires : tie.Need-sort_gas-sorted-requires
+sort-gas-requires c κs =
+    let kinds = c in
+    let p = (start kinds.before.before).requires in
+    (p.0, ((p.1.0.0, sym kinds.find_kind-kind.ensures ∙ c.if-kind-eq3.true), (p.1.1.0, p.1.1.1.0)))
+
+take-gas-requires : tie.Need-take_gas-requires
+take-gas-requires c κs =
+    let sort = c in
+    let s = start sort.before.before.before.before.before in
+    let a = s.args in
+    let room = s.requires.1.1.1.1.1 in
+    let settled = sort.sort_gas-sorted.ensures in (
+      room_sorted a.h a.book.now a.place s.requires.0 sort.sort_gas-sorted.result settled room.0,
       room.1,
-      co2_sorted a.h a.book.now a.place s.pre.0 sort.sort-gas.result settled,
+      co2_sorted a.h a.book.now a.place s.requires.0 sort.sort_gas-sorted.result settled,
     )
 
-returns-2 : tie.Need-returns-2
+returns-2 : tie.Need-returns-then-kind-eq3
 returns-2 c =
-    let take = c.before.before in
-    let sort = take.before.before.before in
-    let kinds = sort.before.before.before in
-    let s = start kinds in
+    let take = c in
+    let sort = take in
+    let kinds = sort in
+    let s = start kinds.before.before.before.before.before.before.before.before in
     let a = s.args in
-    let kind = sym kinds.find-kind.ensures ∙ sort.before.if2.true in
-    let room = s.pre.1.1.1.1.1 in
-    taking_gas a.h a.book.now a.place s.pre.0 a.stop a.aside.now a.w.now a.shares.now a.table.now
-    room.1 room.0 kind sort.sort-gas.result sort.sort-gas.ensures
-    take.take-gas.ensures.0 take.take-gas.ensures.1
+    let kind = sym kinds.find_kind-kind.ensures ∙ sort.if-kind-eq3.true in
+    let room = s.requires.1.1.1.1.1 in
+    taking_gas a.h a.book.now a.place s.requires.0 a.stop a.aside.now a.w.now a.shares.now a.table.now
+    room.1 room.0 kind sort.sort_gas-sorted.result sort.sort_gas-sorted.ensures
+    take.take_gas.ensures.0 take.take_gas.ensures.1
 
 -- ---- hours
-abbrev before-hour : tie.Then5 → tie.After-find-kind
-before-hour c = c.before.before.before.before.before.before.before
+abbrev before-hour : tie.Then-kind-eq2 → tie.After-find_kind-kind
+before-hour c = c.before.before.before.before.before.before
 
-weigh-hour-requires : tie.Need-weigh-hour-requires
+weigh-hour-requires : tie.Need-weigh_hour-weighed-requires
 weigh-hour-requires c κs =
-    let test = c.before in
-    let kinds = before-hour test in
-    let serve = test.before.before in
-    let served = not-false _ test.before.if4.false in
-    let p = (start kinds).pre in
-    let table = sym serve.does-serve.ensures ∙ served in
+    let test = c in
+    let kinds = before-hour test.before in
+    let serve = test in
+    let served = test.if-not-does_serve.false in
+    let p = (start kinds).requires in
+    let table = sym serve.does_serve.ensures ∙ served in
     (p.0, (p.1.0.0, (p.1.1.0, (p.1.1.1.1.0, table))))
 
-take-weighed-requires : tie.Need-take-weighed-requires
+take-weighed-requires : tie.Need-take_weighed-requires
 take-weighed-requires c κs =
-    let weigh = c.before.before.before.before in
-    let s = start (before-hour weigh.before.before) in
+    let weigh = c in
+    let s = start (before-hour weigh.before.before.before.before.before.before) in
     let a = s.args in
-    let there = s.pre.1.0 in (
-      aside_lt there.1.aside_le there.0 (records_le a.book.now a.h s.pre.0),
-      s.pre.1.1.1.1.1.1,
-      light_weighed a.h a.book.now a.place s.pre.0 518 weigh.weigh-hour.result a.table.now _ weigh.weigh-hour.ensures.0,
+    let there = s.requires.1.0 in (
+      aside_lt there.1.aside_le there.0 (records_le a.book.now a.h s.requires.0),
+      s.requires.1.1.1.1.1.1,
+      light_weighed a.h a.book.now a.place s.requires.0 518 weigh.weigh_hour-weighed.result a.table.now _ weigh.weigh_hour-weighed.ensures.0,
     )
 
-returns-5 : tie.Need-returns-5
+returns-5 : tie.Need-returns-then-kind-eq2
 returns-5 c =
-    let take = c.before.before in
-    let weigh = take.before.before.before.before.before in
-    let s = start (before-hour weigh.before.before) in
+    let take = c in
+    let weigh = take in
+    let s = start (before-hour weigh.before.before.before.before.before.before.before.before.before) in
     let a = s.args in
-    let taken = take.take-weighed.ensures in
-    taking_weighed a.h a.book.now a.place s.pre.0 a.stop a.aside.now a.w.now a.shares.now
-    s.pre.1.1.1.1.1.1 518 weigh.weigh-hour.result a.table.now _ _ weigh.weigh-hour.ensures.0 taken.0 taken.1
+    let taken = take.take_weighed.ensures in
+    taking_weighed a.h a.book.now a.place s.requires.0 a.stop a.aside.now a.w.now a.shares.now
+    s.requires.1.1.1.1.1.1 518 weigh.weigh_hour-weighed.result a.table.now _ _ weigh.weigh_hour-weighed.ensures.0 taken.0 taken.1
 
 -- ---- anodes
-abbrev before-anodes : tie.Then6 → tie.After-find-kind
-before-anodes c = c.before.before.before.before.before.before.before.before
+abbrev before-anodes : tie.Then-kind-eq4 → tie.After-find_kind-kind
+before-anodes c = c.before.before.before.before.before.before.before
 
-weigh-anodes-requires : tie.Need-weigh-anodes-requires
+weigh-anodes-requires : tie.Need-weigh_anodes-weighed-requires
 weigh-anodes-requires c κs =
-    let test = c.before in
-    let kinds = before-anodes test in
-    let serve = test.before.before.before in
-    let served = not-false _ test.before.before.if4.false in
-    let p = (start kinds).pre in
-    let table = sym serve.does-serve.ensures ∙ served in
+    let test = c in
+    let kinds = before-anodes test.before in
+    let serve = test in
+    let served = test.if-not-does_serve.false in
+    let p = (start kinds).requires in
+    let table = sym serve.does_serve.ensures ∙ served in
     (p.0, (p.1.0.0, (p.1.1.0, (p.1.1.1.1.0, table))))
 
-take-weighed-requires-2 : tie.Need-take-weighed-requires-2
+take-weighed-requires-2 : tie.Need-take_weighed-requires-then-kind-eq4
 take-weighed-requires-2 c κs =
-    let weigh = c.before.before.before.before in
-    let s = start (before-anodes weigh.before.before) in
+    let weigh = c in
+    let s = start (before-anodes weigh.before.before.before.before.before.before) in
     let a = s.args in
-    let there = s.pre.1.0 in (
-      aside_lt there.1.aside_le there.0 (records_le a.book.now a.h s.pre.0),
-      s.pre.1.1.1.1.1.1,
-      light_weighed a.h a.book.now a.place s.pre.0 1 weigh.weigh-anodes.result a.table.now _ weigh.weigh-anodes.ensures,
+    let there = s.requires.1.0 in (
+      aside_lt there.1.aside_le there.0 (records_le a.book.now a.h s.requires.0),
+      s.requires.1.1.1.1.1.1,
+      light_weighed a.h a.book.now a.place s.requires.0 1 weigh.weigh_anodes-weighed.result a.table.now _ weigh.weigh_anodes-weighed.ensures,
     )
 
-returns-6 : tie.Need-returns-6
+returns-6 : tie.Need-returns-then-kind-eq4
 returns-6 c =
-    let take = c.before.before in
-    let weigh = take.before.before.before.before.before in
-    let s = start (before-anodes weigh.before.before) in
+    let take = c in
+    let weigh = take in
+    let s = start (before-anodes weigh.before.before.before.before.before.before.before.before.before) in
     let a = s.args in
-    let taken = take.take-weighed2.ensures in
-    taking_weighed a.h a.book.now a.place s.pre.0 a.stop a.aside.now a.w.now a.shares.now
-    s.pre.1.1.1.1.1.1 1 weigh.weigh-anodes.result a.table.now _ _ weigh.weigh-anodes.ensures taken.0 taken.1
+    let taken = take.take_weighed-then-kind-eq4.ensures in
+    taking_weighed a.h a.book.now a.place s.requires.0 a.stop a.aside.now a.w.now a.shares.now
+    s.requires.1.1.1.1.1.1 1 weigh.weigh_anodes-weighed.result a.table.now _ _ weigh.weigh_anodes-weighed.ensures taken.0 taken.1
 
-pub take-quickly-spec : {M : Type 1} → statement M
-take-quickly-spec =
+pub take_quickly_spec : {M : Type 1} → statement M
+take_quickly_spec =
     tie.close
     (tie.spec
     (λ c κs. search rules)

@@ -12,22 +12,22 @@ use Rattle.job.proofs.PutLaws.{div_bytes, put_next, put_all}
 use Rattle.job.proofs.put.put.Statement.{statement}
 use Rattle.job.proofs.put.put.Tie as tie
 
-abbrev invariant-loop : tie.invariant-loop
+abbrev invariant-loop : tie.invariant-loop-i
 invariant-loop out₀ at n v rest₀ i₀ out rest i =
     (i ≤ n) × (rest ≡ v / 256 ^ i) × (out ≡ paste out₀ at (bytes_of n v) i) × (length out ≡ length out₀)
 
-abbrev decreases-loop : tie.decreases-loop
+abbrev decreases-loop : tie.decreases-loop-i
 decreases-loop out₀ at n v rest₀ i₀ out rest i = n - i
 
-loop-holds : tie.Need-loop-init invariant-loop decreases-loop
+loop-holds : tie.Need-loop-i-init invariant-loop decreases-loop
 loop-holds c =
     let a = c.args in
     (search rules, sym (div-one _), paste-zero a.out.now a.at (bytes_of a.n a.v), refl)
 
-loop-again : tie.Need-loop-preserved invariant-loop decreases-loop
+loop-again : tie.Need-loop-i-preserved invariant-loop decreases-loop
 loop-again c =
-    let a = c.before.before.args in
-    let loop = c.before.loop in
+    let a = c.args in
+    let loop = c.loop-i in
     let left = loop.invariant.1 in
     let next = put_next a.out.now a.at a.n a.v loop.out loop.rest loop.i in (
       search rules,
@@ -36,14 +36,14 @@ loop-again c =
       rw length-set loop.invariant.3,
     )
 
-same_length : tie.Need-same-length invariant-loop decreases-loop
-same_length c = c.before.loop.invariant.3
+same_length : tie.Need-shape_of-out invariant-loop decreases-loop
+same_length c = c.loop-i.invariant.3
 
 returns : tie.Need-returns invariant-loop decreases-loop
 returns c =
-    let a = c.before.before.args in
-    let all_in : c.before.loop.i ≡ a.n = omega arith in
-    rw (c.before.loop.invariant.2, all_in) (put_all a.out.now a.at a.n a.v)
+    let a = c.args in
+    let all_in : c.loop-i.i ≡ a.n = omega arith in
+    rw (c.loop-i.invariant.2, all_in) (put_all a.out.now a.at a.n a.v)
 
 pub put_spec : {M : Type 1} → statement M
 put_spec =

@@ -8,24 +8,24 @@ use Rattle.job.proofs.ReportLaws.{left_reply_book, left_reply_open}
 use Rattle.job.proofs.report.count_left.Statement.{statement}
 use Rattle.job.proofs.report.count_left.Tie as tie
 
-count-left-open-requires : tie.Need-count-left-open-requires
+count-left-open-requires : tie.Need-count_left_open-requires
 count-left-open-requires c κs =
-    let told = c.before in
-    records_le _ _ (opened_open _ told.before.before.«open».ensures told.h.given.1)
+    let told = c in
+    records_le _ _ (opened_open _ told.«open».ensures told.in-Open.is)
 
-returns : tie.Need-returns
+returns : tie.Need-returns-in-Wrong
 unfolding remaining
 returns c =
-    sym (left_reply_book _ _ (opened_wrong _ c.before.before.before.«open».ensures c.before.fault.given.1))
+    sym (left_reply_book _ _ (opened_wrong _ c.«open».ensures c.in-Wrong.is))
 
-returns-2 : tie.Need-returns-2
+returns-2 : tie.Need-returns-in-Open
 returns-2 c =
-    let told = c.before.before in
-    let is_open = opened_open _ told.before.before.«open».ensures told.h.given.1 in
-    c.count-left-open.ensures ∙ sym (left_reply_open _ _ is_open)
+    let told = c in
+    let is_open = opened_open _ told.«open».ensures told.in-Open.is in
+    c.count_left_open.ensures ∙ sym (left_reply_open _ _ is_open)
 
-pub count-left-spec : {M : Type 1} → statement M
-count-left-spec =
+pub count_left_spec : {M : Type 1} → statement M
+count_left_spec =
     tie.close
     (tie.spec
     (λ c κs. search rules) (λ c. search rules) (λ c. search rules) count-left-open-requires returns returns-2)

@@ -16,39 +16,39 @@ use Rattle.job.proofs.ReportLaws.{left_for-refused, left_for-sound}
 use Rattle.job.proofs.report.count_left_open.Statement.{statement}
 use Rattle.job.proofs.report.count_left_open.Tie as tie
 
-abbrev entry : tie.After-enum-told → tie.Start
-entry c = c.before.before.before.before
+abbrev entry : tie.In-Sound → tie.Start
+entry c = c.before.before.before
 
-let-in : (c : tie.After-enum-told)
+let-in : (c : tie.In-Sound)
     → admitted_for (entry c).args.h (entry c).args.from.now ≡ accepted (entry c).args.h
-let-in c = admitted_for-accepted _ _ c.before.before.admit.ensures c.enum_told.given.1
+let-in c = admitted_for-accepted _ _ c.admit.ensures c.in-Sound.is
 
-read-counts-requires : tie.Need-read-counts-requires
+read-counts-requires : tie.Need-read_counts-t-requires
 read-counts-requires c κs = admitted_for-whole _ _ (let-in c)
 
-sub-left : tie.Need-overflow-sub-left
+sub-left : tie.Need-overflow_sub-left
 unfolding decode
 sub-left c =
-    let read = c.before.before in
-    let place = (fit_for_sound _ _ (admitted_for_so _ _ (let-in read.before))).counts_fit.done_le in
-    omega (arith, ap (λ (t : Counts). t.done) read.read-counts.ensures)
+    let read = c in
+    let place = (fit_for_sound _ _ (admitted_for_so _ _ (let-in read.before.before.before))).counts_fit.done_le in
+    omega (arith, ap (λ (t : Counts). t.done) read.read_counts-t.ensures)
 
-returns : tie.Need-returns
+returns : tie.Need-returns-in-Refused
 unfolding remaining
 returns c =
-    let admit = c.before.before.before.admit in
-    sym (left_for-refused _ _ (admitted_for-refused _ _ admit.ensures c.before.x.given.1))
+    let admit = c.admit in
+    sym (left_for-refused _ _ (admitted_for-refused _ _ admit.ensures c.in-Refused.is))
 
-returns-2 : tie.Need-returns-2
+returns-2 : tie.Need-returns-in-Sound
 unfolding remaining
 returns-2 c =
-    let read = c.before.before in
-    let n = (entry read.before).args.h.n in
-    ap (λ (t : Counts). reply 0 ((n - t.done) ∷ [])) read.read-counts.ensures
-    ∙ sym (left_for-sound _ _ (let-in read.before))
+    let read = c in
+    let n = (entry read.before.before.before).args.h.n in
+    ap (λ (t : Counts). reply 0 ((n - t.done) ∷ [])) read.read_counts-t.ensures
+    ∙ sym (left_for-sound _ _ (let-in read.before.before.before))
 
-pub count-left-open-spec : {M : Type 1} → statement M
-count-left-open-spec =
+pub count_left_open_spec : {M : Type 1} → statement M
+count_left_open_spec =
     tie.close
     (tie.spec
     (λ c κs. search rules) (λ c. search rules) (λ c. search rules) read-counts-requires (λ c. search rules)

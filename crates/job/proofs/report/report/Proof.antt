@@ -8,24 +8,24 @@ use Rattle.job.proofs.ReportLaws.{report_reply_book, report_reply_open}
 use Rattle.job.proofs.report.report.Statement.{statement}
 use Rattle.job.proofs.report.report.Tie as tie
 
-report-open-requires : tie.Need-report-open-requires
+report-open-requires : tie.Need-report_open-requires
 report-open-requires c κs =
-    let told = c.before in
-    records_le _ _ (opened_open _ told.before.before.«open».ensures told.h.given.1)
+    let told = c in
+    records_le _ _ (opened_open _ told.«open».ensures told.in-Open.is)
 
-returns : tie.Need-returns
+returns : tie.Need-returns-in-Wrong
 unfolding reported
 returns c =
-    sym (report_reply_book _ _ (opened_wrong _ c.before.before.before.«open».ensures c.before.fault.given.1))
+    sym (report_reply_book _ _ (opened_wrong _ c.«open».ensures c.in-Wrong.is))
 
-returns-2 : tie.Need-returns-2
+returns-2 : tie.Need-returns-in-Open
 returns-2 c =
-    let told = c.before.before in
-    let is_open = opened_open _ told.before.before.«open».ensures told.h.given.1 in
-    c.report-open.ensures ∙ sym (report_reply_open _ _ is_open)
+    let told = c in
+    let is_open = opened_open _ told.«open».ensures told.in-Open.is in
+    c.report_open.ensures ∙ sym (report_reply_open _ _ is_open)
 
-pub report-spec : {M : Type 1} → statement M
-report-spec =
+pub report_spec : {M : Type 1} → statement M
+report_spec =
     tie.close
     (tie.spec
     (λ c κs. search rules) (λ c. search rules) (λ c. search rules) report-open-requires returns returns-2)

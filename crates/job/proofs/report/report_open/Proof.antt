@@ -9,27 +9,27 @@ use Rattle.job.proofs.ReportLaws.{report_for-refused, report_for-sound}
 use Rattle.job.proofs.report.report_open.Statement.{statement}
 use Rattle.job.proofs.report.report_open.Tie as tie
 
-abbrev entry : tie.After-enum-told → tie.Start
-entry c = c.before.before.before.before
+abbrev entry : tie.In-Sound → tie.Start
+entry c = c.before.before.before
 
-let-in : (c : tie.After-enum-told)
+let-in : (c : tie.In-Sound)
     → admitted_for (entry c).args.h (entry c).args.from.now ≡ accepted (entry c).args.h
-let-in c = admitted_for-accepted _ _ c.before.before.admit.ensures c.enum_told.given.1
+let-in c = admitted_for-accepted _ _ c.admit.ensures c.in-Sound.is
 
-report-sound-requires : tie.Need-report-sound-requires
+report-sound-requires : tie.Need-report_sound-requires
 report-sound-requires c κs = ((entry c).requires, let-in c)
 
-returns : tie.Need-returns
+returns : tie.Need-returns-in-Refused
 unfolding reported
 returns c =
-    let admit = c.before.before.before.admit in
-    sym (report_for-refused _ _ (admitted_for-refused _ _ admit.ensures c.before.x.given.1))
+    let admit = c.admit in
+    sym (report_for-refused _ _ (admitted_for-refused _ _ admit.ensures c.in-Refused.is))
 
-returns-2 : tie.Need-returns-2
-returns-2 c = c.report-sound.ensures ∙ sym (report_for-sound _ _ (let-in c.before))
+returns-2 : tie.Need-returns-in-Sound
+returns-2 c = c.report_sound.ensures ∙ sym (report_for-sound _ _ (let-in c.before))
 
-pub report-open-spec : {M : Type 1} → statement M
-report-open-spec =
+pub report_open_spec : {M : Type 1} → statement M
+report_open_spec =
     tie.close
     (tie.spec
     (λ c κs. search rules) (λ c. search rules) (λ c. search rules) report-sound-requires returns returns-2)

@@ -5,11 +5,11 @@ use Rattle.rules.proofs.BookLaws.{accepted_facts}
 use Rattle.job.proofs.run.go_known.Statement.{statement}
 use Rattle.job.proofs.run.go_known.Tie as tie
 
-has-no-fuel-requires : tie.Need-has-no-fuel-requires
-has-no-fuel-requires c κs = let k = accepted_facts _ _ c.before.before.before.requires.0 in omega arith
+has-no-fuel-requires : tie.Need-has_no_fuel-requires
+has-no-fuel-requires c κs = let k = accepted_facts _ _ c.requires.0 in omega arith
 
-pub go-known-spec : {M : Type 1} → statement M
-go-known-spec =
+pub go_known_spec : {M : Type 1} → statement M
+go_known_spec =
     tie.close
     (tie.spec
     has-no-fuel-requires (λ c κs. search rules) (λ c. search rules) (λ c. search rules) (λ c. search rules)

@@ -15,58 +15,58 @@ use Rattle.job.proofs.WentLaws.{before_gone, gone_went}
 use Rattle.job.proofs.run.go_noting.Statement.{statement}
 use Rattle.job.proofs.run.go_noting.Tie as tie
 
-abbrev start : tie.After-note-records → tie.Start
+abbrev start : tie.After-note_records → tie.Start
 start c = c.before.before.before.before.before.before.before.before.before.before.before
 
-note-records-requires : tie.Need-note-records-requires
+note-records-requires : tie.Need-note_records-requires
 note-records-requires c κs =
-    let p = c.before.before.before.before.before.before.before.before.before.before.requires in
+    let p = c.requires in
     let on = p.1.1.0 in
     (p.0, (le_trans on.0 on.1, p.1.1.1.1.0))
 
-go-known-requires : tie.Need-go-known-requires
+go-known-requires : tie.Need-go_known-end-requires
 go-known-requires c κs =
-    let noted = c.before.before.before.before.before in
-    let a = (start noted).args in
-    let p = (start noted).requires in
+    let noted = c in
+    let a = (start noted.before.before.before.before.before).args in
+    let p = (start noted.before.before.before.before.before).requires in
     let on = p.1.1.0 in
     let before = lines a.place a.book.now in
     let units = unit_lines a.h a.book.now in
-    let known = known-noted_all before units (length a.table.now) (noted.note-records.ensures ∙ ap (noted_all before units) p.1.1.1.1.1) in
-    let table = is_table-length units _ _ noted.note-records.auto.1.1.1.1.0 ∙ p.1.1.1.1.0 in
+    let known = known-noted_all before units (length a.table.now) (noted.note_records.ensures ∙ ap (noted_all before units) p.1.1.1.1.1) in
+    let table = is_table-length units _ _ noted.note_records.auto.table ∙ p.1.1.1.1.0 in
     (p.0, (before_gone p.1.0 p.0 p.1.1.1.0.0 on.0 on.1 known, table))
 
 -- From where the records end, the function's entry.
-abbrev entry : tie.After-go-known → tie.Start
-entry c = start c.before.before.before.before.before.before
+abbrev entry : tie.After-go_known-end → tie.Start
+entry c = c.before.before.before.before.before.before.before.before.before.before.before.before.before.before.before.before.before
 
 -- All records up to the place are gone through.
-gone : (c : tie.After-go-known) →
+gone : (c : tie.After-go_known-end) →
     let a = (entry c).args in
-    Gone a.h a.book.now a.from.now (counts_at c.go-known.result c.go-known.new.1.1.1.1.1.0) c.go-known.new.1.1.1.1.1.1.0
-gone c = gone_went (entry c).requires.1.0 c.go-known.ensures
+    Gone a.h a.book.now a.from.now (counts_at c.go_known-end.result c.go_known-end.new.aside) c.go_known-end.new.w
+gone c = gone_went (entry c).requires.1.0 c.go_known-end.ensures
 
 write-requires : tie.Need-write-requires
 write-requires c κs =
-    let on = c.before.before.before.before.before.before.before in
-    let p = (entry on).requires in
+    let on = c in
+    let p = (entry on.before.before.before.before.before).requires in
     let a = p.1.1.1.0.0 in
-    let all = gone on in
-    let end = le_trans on.go-known.ensures.end_le p.1.1.0.1 in (
+    let all = gone on.before.before.before.before.before in
+    let end = le_trans on.go_known-end.ensures.end_le p.1.1.0.1 in (
       (admitted_for-whole _ _ a, all.kept.whole, p.1.1.1.0.1),
       (fits_gone _ _ _ p.0 a _ _ all end, light_gone _ _ _ p.0 a _ _ all end),
     )
 
 returns : tie.Need-returns
 returns c =
-    let write = c.before.before in
-    let on = write.before.before.before.before.before.before.before.before in
-    let p = (entry on).requires in
-    encode_gone _ _ _ p.0 p.1.1.1.0.0 _ _ (gone on)
-    write.write.ensures (on.go-known.ensures.whole refl)
+    let write = c in
+    let on = write in
+    let p = (entry on.before.before.before.before.before.before.before.before).requires in
+    encode_gone _ _ _ p.0 p.1.1.1.0.0 _ _ (gone on.before.before.before.before.before.before.before.before)
+    write.write.ensures (on.go_known-end.ensures.whole refl)
 
-pub go-noting-spec : {M : Type 1} → statement M
-go-noting-spec =
+pub go_noting_spec : {M : Type 1} → statement M
+go_noting_spec =
     tie.close
     (tie.spec
     (λ c. search rules) (λ c κs. search rules) (λ c. search rules) note-records-requires go-known-requires

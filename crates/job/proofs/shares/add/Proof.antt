@@ -13,9 +13,9 @@ use Rattle.job.proofs.shares.add.Tie as tie
 apart : (d : List ℕ) (at way v : ℕ) → way < 4 → get_or (set d (at + way) v) (at + 8) 0 ≡ get_or d (at + 8) 0
 apart d at way v l = get_or-set_other d (at + way) (at + 8) v 0 (λ e. omega arith)
 
-add-d-2 : tie.Need-overflow-add-d-2
+add-d-2 : tie.Need-overflow_add-d-2
 add-d-2 c =
-    let s = c.before.before.before.before.before.before in
+    let s = c in
     let d = s.args.d.now in
     let x = s.args.x in
     omega (arith, apart d x.at x.way (get_or d (x.at + x.way) 0 + x.burned) s.requires.0.1)

@@ -4,11 +4,11 @@ use Rattle.choice.proofs.TestsLaws.{choose_t, choose_f}
 use Rattle.job.proofs.shares.find_co2.Statement.{statement}
 use Rattle.job.proofs.shares.find_co2.Tie as tie
 
-returns : tie.Need-returns
-returns c = sym (choose_t _ c.if1.true refl)
+returns : tie.Need-returns-then-biomass
+returns c = sym (choose_t _ c.if-biomass.true refl)
 
-returns-2 : tie.Need-returns-2
-returns-2 c = sym (choose_f _ c.if1.false refl)
+returns-2 : tie.Need-returns
+returns-2 c = sym (choose_f _ c.if-biomass.false refl)
 
-pub find-co2-spec : {M : Type 1} → statement M
-find-co2-spec = tie.close (tie.spec returns returns-2)
+pub find_co2_spec : {M : Type 1} → statement M
+find_co2_spec = tie.close (tie.spec returns returns-2)

@@ -14,9 +14,9 @@ use Rattle.job.proofs.shares.weigh.Tie as tie
 apart : (s : List ℕ) (i v : ℕ) → get_or (set s i v) (ledgers + i) 0 ≡ get_or s (ledgers + i) 0
 apart s i v = get_or-set_other s i (ledgers + i) v 0 (λ e. omega arith)
 
-add-sums-2 : tie.Need-overflow-add-sums-2
+add-sums-2 : tie.Need-overflow_add-sums-2
 add-sums-2 c =
-    let s = c.before.before in
+    let s = c in
     let a = s.args in
     omega (arith, apart a.sums.now a.i (get_or a.sums.now a.i 0 + a.x / coarse * a.factor))
 
@@ -24,8 +24,8 @@ returns : tie.Need-returns
 unfolding weighed
 returns c = refl
 
-pub weigh-spec : {M : Type 1} → statement M
-weigh-spec =
+pub weigh_spec : {M : Type 1} → statement M
+weigh_spec =
     tie.close
     (tie.spec
     (λ c. search rules) (λ c. search rules) (λ c. search rules) (λ c. search rules) (λ c. search rules)

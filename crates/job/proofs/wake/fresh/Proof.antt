@@ -8,19 +8,19 @@ use Rattle.job.proofs.WakeLaws.{fresh_admitted_book}
 use Rattle.job.proofs.wake.fresh.Statement.{statement}
 use Rattle.job.proofs.wake.fresh.Tie as tie
 
-fresh-open-requires : tie.Need-fresh-open-requires
+fresh-open-requires : tie.Need-fresh_open-requires
 fresh-open-requires c κs =
-    let told = c.before.before in
-    opened_open _ told.before.before.«open».ensures told.h.given.1
+    let told = c in
+    opened_open _ told.«open».ensures told.in-Open.is
 
-returns : tie.Need-returns
+returns : tie.Need-returns-in-Wrong
 unfolding started fresh_reply fresh_bytes
 returns c =
-    let e = opened_wrong _ c.before.before.before.«open».ensures c.before.fault.given.1 in
+    let e = opened_wrong _ c.«open».ensures c.in-Wrong.is in
     (sym (fresh_admitted_book _ _ _ _ e), sym (fresh_admitted_book _ _ _ _ e))
 
-pub fresh-spec : {M : Type 1} → statement M
-fresh-spec =
+pub fresh_spec : {M : Type 1} → statement M
+fresh_spec =
     tie.close
     (tie.spec
     (λ c κs. search rules) (λ c. search rules) (λ c. search rules) fresh-open-requires returns

@@ -10,31 +10,31 @@ use Rattle.job.proofs.RunLaws.{state_on-fresh, light_fresh}
 use Rattle.job.proofs.wake.fresh_open.Statement.{statement}
 use Rattle.job.proofs.wake.fresh_open.Tie as tie
 
-returns : tie.Need-returns
+returns : tie.Need-returns-then-out-ne-SIZE
 unfolding started fresh_reply fresh_bytes
 returns c =
-    let e = c.before.before.before.requires in
-    (sym (fresh_admitted_32 _ _ _ _ e c.if1.true), sym (fresh_admitted_32 _ _ _ _ e c.if1.true))
+    let e = c.requires in
+    (sym (fresh_admitted_32 _ _ _ _ e c.if-out-ne-SIZE.true), sym (fresh_admitted_32 _ _ _ _ e c.if-out-ne-SIZE.true))
 
 write-requires : tie.Need-write-requires
 write-requires c κs =
-    let test = c.before.before.before.before in
-    let fit = head_fits _ _ test.before.before.before.requires in
-    ((refl, refl, test.if1.false), ((fit.0, fit.1, lit< tt), light_fresh))
+    let test = c in
+    let fit = head_fits _ _ test.requires in
+    ((refl, refl, test.if-out-ne-SIZE.false), ((fit.0, fit.1, lit< tt), light_fresh))
 
-returns-2 : tie.Need-returns-2
+returns-2 : tie.Need-returns
 unfolding started fresh_reply fresh_bytes
 returns-2 c =
-    let write = c.before.before in
-    let test = write.before.before.before.before.before in
-    let start = test.before.before.before in
+    let write = c in
+    let test = write in
+    let start = test in
     let e = start.requires in
-    let o = test.if1.false in
+    let o = test.if-out-ne-SIZE.false in
     let written = write.write.ensures ∙ ap (encode start.args.h) state_on-fresh in
     (sym (fresh_admitted_go _ _ _ _ e o), written ∙ sym (fresh_admitted_go _ _ _ _ e o))
 
-pub fresh-open-spec : {M : Type 1} → statement M
-fresh-open-spec =
+pub fresh_open_spec : {M : Type 1} → statement M
+fresh_open_spec =
     tie.close
     (tie.spec
     returns (λ c. search rules) (λ c. search rules) write-requires (λ c. search rules) returns-2)

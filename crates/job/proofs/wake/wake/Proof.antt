@@ -8,19 +8,19 @@ use Rattle.job.proofs.WakeLaws.{wake_admitted_book}
 use Rattle.job.proofs.wake.wake.Statement.{statement}
 use Rattle.job.proofs.wake.wake.Tie as tie
 
-wake-open-requires : tie.Need-wake-open-requires
+wake-open-requires : tie.Need-wake_open-requires
 wake-open-requires c κs =
-    let told = c.before.before in
-    opened_open _ told.before.before.«open».ensures told.h.given.1
+    let told = c in
+    opened_open _ told.«open».ensures told.in-Open.is
 
-returns : tie.Need-returns
+returns : tie.Need-returns-in-Wrong
 unfolding woken wake_reply wake_bytes
 returns c =
-    let e = opened_wrong _ c.before.before.before.«open».ensures c.before.fault.given.1 in
+    let e = opened_wrong _ c.«open».ensures c.in-Wrong.is in
     (sym (wake_admitted_book _ _ _ _ _ e), sym (wake_admitted_book _ _ _ _ _ e))
 
-pub wake-spec : {M : Type 1} → statement M
-wake-spec =
+pub wake_spec : {M : Type 1} → statement M
+wake_spec =
     tie.close
     (tie.spec
     (λ c κs. search rules) (λ c. search rules) (λ c. search rules) wake-open-requires returns

@@ -8,23 +8,23 @@ use Rattle.job.proofs.AdmissionLaws.{admitted_for-refused, admitted_for-accepted
 use Rattle.job.proofs.wake.wake_open.Statement.{statement}
 use Rattle.job.proofs.wake.wake_open.Tie as tie
 
-wake-sound-requires : tie.Need-wake-sound-requires
+wake-sound-requires : tie.Need-wake_sound-requires
 wake-sound-requires c κs =
-    let told = c.before in
-    let let-in = told.before.before in
-    (let-in.before.before.before.before.requires, admitted_for-accepted _ _ let-in.admit.ensures told.enum_told.given.1)
+    let told = c in
+    let let-in = told in
+    (let-in.requires, admitted_for-accepted _ _ let-in.admit.ensures told.in-Sound.is)
 
-returns : tie.Need-returns
+returns : tie.Need-returns-in-Refused
 unfolding woken wake_reply wake_bytes
 returns c =
-    let told = c.before in
-    let let-in = told.before.before in
-    let e = let-in.before.before.before.before.requires in
-    let away = admitted_for-refused _ _ let-in.admit.ensures told.x.given.1 in
+    let told = c in
+    let let-in = told in
+    let e = let-in.requires in
+    let away = admitted_for-refused _ _ let-in.admit.ensures told.in-Refused.is in
     (sym (wake_admitted-refused _ _ _ _ _ e away), sym (wake_admitted-refused _ _ _ _ _ e away))
 
-pub wake-open-spec : {M : Type 1} → statement M
-wake-open-spec =
+pub wake_open_spec : {M : Type 1} → statement M
+wake_open_spec =
     tie.close
     (tie.spec
     (λ c κs. search rules) (λ c. search rules) (λ c. search rules) wake-sound-requires returns
