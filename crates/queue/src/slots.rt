@@ -21,7 +21,7 @@ pub struct Held {
     pub slot: Slot,
 }
 
-#[derive(Drop)]
+#[derive(Clone, Copy)]
 pub struct Queue {
     pub slots: [Held; SLOT_COUNT],
     // The slot that was served last.

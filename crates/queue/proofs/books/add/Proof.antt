@@ -20,17 +20,17 @@ refused : (q : Queue) (n i : ℕ) → i ≡ lowest_free q → slot_count ≤ i
     → record { answer = NotAdded Full; queue = q } ≡ added q n
 refused q n i found l = sym (added_full q n (rw found at l))
 
-find-free-requires : tie.Need-find-free-requires
+find-free-requires : tie.Need-find_free-i-requires
 find-free-requires c κs = search rules
 
-store-requires : tie.Need-store-requires
+store-requires : tie.Need-store-r-requires
 store-requires c κs = search rules
 
-returns : tie.Need-returns
-returns c = placed _ _ _ _ c.before.before.find-free.ensures c.before.if1.true c.store.ensures
+returns : tie.Need-returns-then-i-lt-SLOT_COUNT
+returns c = placed _ _ _ _ c.find_free-i.ensures c.if-i-lt-SLOT_COUNT.true c.store-r.ensures
 
-returns-2 : tie.Need-returns-2
-returns-2 c = refused _ _ _ c.before.find-free.ensures c.if1.false
+returns-2 : tie.Need-returns
+returns-2 c = refused _ _ _ c.find_free-i.ensures c.if-i-lt-SLOT_COUNT.false
 
 pub add_spec : {M : Type 1} → statement M
 add_spec = tie.close (tie.spec find-free-requires store-requires returns returns-2)

@@ -17,17 +17,17 @@ gone : (q : Queue) (i : ℕ) (r : Queue) → free_at q i ≡ false → r ≡ sto
     → record { answer = Gone; queue = r } ≡ removed q i
 gone q i r taken put = rw put (sym (removed_gone q i taken))
 
-is-free-requires : tie.Need-is-free-requires
+is-free-requires : tie.Need-is_free-requires
 is-free-requires c κs = search rules
 
-returns : tie.Need-returns
-returns c = sym (removed_empty _ _ (sym c.before.is_free.ensures ∙ c.if1.true))
+returns : tie.Need-returns-then-is_free
+returns c = sym (removed_empty _ _ (sym c.is_free.ensures ∙ c.if-is_free.true))
 
-store-requires : tie.Need-store-requires
-store-requires c κs = free_at-lt _ _ (sym c.before.is_free.ensures ∙ c.if1.false)
+store-requires : tie.Need-store-r-requires
+store-requires c κs = free_at-lt _ _ (sym c.is_free.ensures ∙ c.if-is_free.false)
 
-returns-2 : tie.Need-returns-2
-returns-2 c = gone _ _ _ (sym c.before.before.is_free.ensures ∙ c.before.if1.false) c.store.ensures
+returns-2 : tie.Need-returns
+returns-2 c = gone _ _ _ (sym c.is_free.ensures ∙ c.if-is_free.false) c.store-r.ensures
 
-pub remove-spec : {M : Type 1} → statement M
-remove-spec = tie.close (tie.spec is-free-requires returns store-requires returns-2)
+pub remove_spec : {M : Type 1} → statement M
+remove_spec = tie.close (tie.spec is-free-requires returns store-requires returns-2)

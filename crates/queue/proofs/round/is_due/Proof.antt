@@ -15,17 +15,17 @@ due : (q : Queue) (k i : ℕ) (s : Slot) (n : ℕ) → i ≡ onward q k → s �
 unfolding due_at
 due q k i s n at slot left = rw (left, slot, at)
 
-go-on-requires : tie.Need-go-on-requires
+go-on-requires : tie.Need-go_on-requires
 go-on-requires c κs = search rules
 
 look-requires : tie.Need-look-requires
 look-requires c κs = search rules
 
-count-left-requires : tie.Need-count-left-requires
+count-left-requires : tie.Need-count_left-requires
 count-left-requires c κs = search rules
 
 returns : tie.Need-returns
-returns c = due _ _ _ _ _ c.before.before.go_on.ensures c.before.look.ensures c.count_left.ensures
+returns c = due _ _ _ _ _ c.go_on.ensures c.look.ensures c.count_left.ensures
 
-pub is-due-spec : {M : Type 1} → statement M
-is-due-spec = tie.close (tie.spec go-on-requires look-requires count-left-requires returns)
+pub is_due_spec : {M : Type 1} → statement M
+is_due_spec = tie.close (tie.spec go-on-requires look-requires count-left-requires returns)

@@ -20,30 +20,30 @@ serving q i b s n m r slot left moved put = rw (put, moved, left, slot)
 look-requires : tie.Need-look-requires
 look-requires c κs = search rules
 
-count-left-requires : tie.Need-count-left-requires
+count-left-requires : tie.Need-count_left-left-requires
 count-left-requires c κs = search rules
 
-take-lesser-requires : tie.Need-take-lesser-requires
+take-lesser-requires : tie.Need-take_lesser-moved-requires
 take-lesser-requires c κs = search rules
 
-sub-t8 : tie.Need-overflow-sub-t8
+sub-t8 : tie.Need-overflow_sub-left
 sub-t8 c = search rules
 
-store-requires : tie.Need-store-requires
+store-requires : tie.Need-store-r-requires
 store-requires c κs = search rules
 
-cast-r : tie.Need-overflow-cast-r
+cast-r : tie.Need-overflow_cast-r
 cast-r c = search rules
 
 returns : tie.Need-returns
 returns c =
     serving _ _ _ _ _ _ _
-    c.before.before.before.look.ensures
-    c.before.before.count_left.ensures
-    c.before.take-lesser.ensures
-    c.store.ensures
+    c.look.ensures
+    c.count_left-left.ensures
+    c.take_lesser-moved.ensures
+    c.store-r.ensures
 
-pub serve-spec : {M : Type 1} → statement M
-serve-spec =
+pub serve_spec : {M : Type 1} → statement M
+serve_spec =
     tie.close
     (tie.spec look-requires count-left-requires take-lesser-requires sub-t8 store-requires cast-r returns)

@@ -21,30 +21,30 @@ refused : (q : Queue) (b k : ℕ) → (b ≡ 0 → ⊥) → k ≡ passed_over q 
     → record { answer = NotTurned NothingLeft; queue = q } ≡ turned q b
 refused q b k some found l = sym (turned_nothing_left q b some (rw found at l))
 
-returns : tie.Need-returns
-returns c = sym (turned_no_budget _ _ c.if1.true)
+returns : tie.Need-returns-then-budget-eq0
+returns c = sym (turned_no_budget _ _ c.if-budget-eq0.true)
 
-pass-over-requires : tie.Need-pass-over-requires
+pass-over-requires : tie.Need-pass_over-k-requires
 pass-over-requires c κs = search rules
 
-go-on-requires : tie.Need-go-on-requires
+go-on-requires : tie.Need-go_on-requires
 go-on-requires c κs = search rules
 
 serve-requires : tie.Need-serve-requires
 serve-requires c κs = rw c.go_on.ensures (onward-lt _ _)
 
-returns-2 : tie.Need-returns-2
+returns-2 : tie.Need-returns-then-k-lt-SLOT_COUNT
 returns-2 c =
-    let found = c.before.before in
+    let found = c in
     goes _ _ _ _ _
-    found.before.before.if1.false
-    found.before.pass-over.ensures
-    found.if2.true
-    c.before.go_on.ensures
+    found.if-budget-eq0.false
+    found.pass_over-k.ensures
+    found.if-k-lt-SLOT_COUNT.true
+    c.go_on.ensures
     c.serve.ensures
 
-returns-3 : tie.Need-returns-3
-returns-3 c = refused _ _ _ c.before.before.if1.false c.before.pass-over.ensures c.if2.false
+returns-3 : tie.Need-returns
+returns-3 c = refused _ _ _ c.if-budget-eq0.false c.pass_over-k.ensures c.if-k-lt-SLOT_COUNT.false
 
 pub turn_spec : {M : Type 1} → statement M
 turn_spec = tie.close (tie.spec returns pass-over-requires go-on-requires serve-requires returns-2 returns-3)

@@ -8,12 +8,12 @@ use Rattle.queue.proofs.slots.is_free.Tie as tie
 look-requires : tie.Need-look-requires
 look-requires c κs = search rules
 
-judge-free-requires : tie.Need-judge-free-requires
+judge-free-requires : tie.Need-judge_free-requires
 judge-free-requires c κs = search rules
 
 returns : tie.Need-returns
 unfolding free_at
-returns c = c.judge-free.ensures ∙ ap is_free c.before.look.ensures
+returns c = c.judge_free.ensures ∙ ap is_free c.look.ensures
 
-pub is-free-spec : {M : Type 1} → statement M
-is-free-spec = tie.close (tie.spec look-requires judge-free-requires returns)
+pub is_free_spec : {M : Type 1} → statement M
+is_free_spec = tie.close (tie.spec look-requires judge-free-requires returns)

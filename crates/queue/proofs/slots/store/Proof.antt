@@ -5,10 +5,10 @@ use Rattle.queue.specs.Slots.{stored}
 use Rattle.queue.proofs.slots.store.Statement.{statement}
 use Rattle.queue.proofs.slots.store.Tie as tie
 
-mul-p : tie.Need-overflow-mul-p
+mul-p : tie.Need-offset_bounds-r-i
 mul-p c = search rules
 
-element-set-from-p : tie.Need-element-set-from-p
+element-set-from-p : tie.Need-bounds-r-i
 element-set-from-p c = search rules
 
 returns : tie.Need-returns
