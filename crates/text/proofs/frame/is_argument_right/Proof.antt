@@ -9,5 +9,5 @@ returns : tie.Need-returns
 unfolding argument_ok
 returns c = any (any refl refl) refl
 
-pub is-argument-right-spec : {M : Type 1} → statement M
-is-argument-right-spec = tie.close (tie.spec returns)
+pub is_argument_right_spec : {M : Type 1} → statement M
+is_argument_right_spec = tie.close (tie.spec returns)

@@ -8,19 +8,19 @@ use Rattle.text.specs.Frame.{report_part}
 use Rattle.text.proofs.frame.say_part.Statement.{statement}
 use Rattle.text.proofs.frame.say_part.Tie as tie
 
-say-figures-requires : tie.Need-say-figures-requires
+say-figures-requires : tie.Need-say_figures-requires
 say-figures-requires c κs = search rules
 
-returns : tie.Need-returns
+returns : tie.Need-returns-then-n-eq0
 unfolding report_part
-returns c = c.say-figures.ensures ∙ ap (extended _) (sym (choose_t _ (eq-eqb _ 0 c.before.if1.true) refl))
+returns c = c.say_figures.ensures ∙ ap (extended _) (sym (choose_t _ (eq-eqb _ 0 c.if-n-eq0.true) refl))
 
-say-change-requires : tie.Need-say-change-requires
+say-change-requires : tie.Need-say_change-requires
 say-change-requires c κs = search rules
 
-returns-2 : tie.Need-returns-2
+returns-2 : tie.Need-returns
 unfolding report_part
-returns-2 c = c.say-change.ensures ∙ ap (extended _) (sym (choose_f _ (ne_eqb _ 0 c.before.if1.false) refl))
+returns-2 c = c.say_change.ensures ∙ ap (extended _) (sym (choose_f _ (ne_eqb _ 0 c.if-n-eq0.false) refl))
 
-pub say-part-spec : {M : Type 1} → statement M
-say-part-spec = tie.close (tie.spec say-figures-requires returns say-change-requires returns-2)
+pub say_part_spec : {M : Type 1} → statement M
+say_part_spec = tie.close (tie.spec say-figures-requires returns say-change-requires returns-2)

@@ -8,32 +8,28 @@ use Rattle.text.proofs.FrameLaws.{broken_text-le}
 use Rattle.text.proofs.frame.tell_broken.Statement.{statement}
 use Rattle.text.proofs.frame.tell_broken.Tie as tie
 
-take-blank-requires : tie.Need-take-blank-requires
+take-blank-requires : tie.Need-take_blank-requires
 take-blank-requires c κs = search rules
 
-slice-aggregate-say-field : tie.Need-slice-aggregate-say-field
-slice-aggregate-say-field c = search rules
-
-say-field-requires : tie.Need-say-field-requires
+say-field-requires : tie.Need-say_field-p-requires
 say-field-requires c κs = search rules
 
-say-breach-requires : tie.Need-say-breach-requires
+say-breach-requires : tie.Need-say_breach-requires
 say-breach-requires c κs = search rules
 
 returns : tie.Need-returns
 unfolding broken_text
 returns c =
-    let a = c.before.before.before.before.args in
-    extended-blank _ c.before.before.before.take-blank.ensures
-    (extended_more _ _ _ c.before.say-field.ensures c.say-breach.ensures)
+    let a = c.args in
+    extended-blank _ c.take_blank.ensures
+    (extended_more _ _ _ c.say_field-p.ensures c.say_breach.ensures)
     (wider (broken_text-le a.i a.x) (omega arith)).le
 
-pub tell-broken-spec : {M : Type 1} → statement M
-tell-broken-spec =
+pub tell_broken_spec : {M : Type 1} → statement M
+tell_broken_spec =
     tie.close
     (tie.spec
     take-blank-requires
-    slice-aggregate-say-field
     say-field-requires
     say-breach-requires
     returns)

@@ -7,30 +7,30 @@ use Rattle.text.specs.Frame.{told_of}
 use Rattle.text.proofs.frame.tell_outcome.Statement.{statement}
 use Rattle.text.proofs.frame.tell_outcome.Tie as tie
 
-enum-known-o : tie.Need-enum-known-o
+enum-known-o : tie.Need-enum_known-o
 enum-known-o c = search rules
 
-cast-tell-uncounted : tie.Need-overflow-cast-tell-uncounted
+cast-tell-uncounted : tie.Need-overflow_cast-reason
 cast-tell-uncounted c = search rules
 
-tell-uncounted-requires : tie.Need-tell-uncounted-requires
+tell-uncounted-requires : tie.Need-tell_uncounted-requires
 tell-uncounted-requires c κs = search rules
 
-enum-known-o-2 : tie.Need-enum-known-o-2
+enum-known-o-2 : tie.Need-enum_known-o-in-Counted-1
 enum-known-o-2 c = search rules
 
-tell-counted-requires : tie.Need-tell-counted-requires
+tell-counted-requires : tie.Need-tell_counted-requires
 tell-counted-requires c κs = search rules
 
-returns : tie.Need-returns
+returns : tie.Need-returns-in-SetAside
 unfolding told_of
-returns c = c.tell-uncounted.ensures ∙ sym (ap (λ (o : Outcome). told_of (shown o)) c.before.before.o.given.1)
+returns c = c.tell_uncounted.ensures ∙ sym (ap (λ (o : Outcome). told_of (shown o)) c.in-SetAside.is)
 
-returns-2 : tie.Need-returns-2
-returns-2 c = c.tell-counted.ensures ∙ sym (ap (λ (o : Outcome). told_of (shown o)) c.before.before.o2.given.1)
+returns-2 : tie.Need-returns-in-Counted
+returns-2 c = c.tell_counted.ensures ∙ sym (ap (λ (o : Outcome). told_of (shown o)) c.in-Counted.is)
 
-pub tell-outcome-spec : {M : Type 1} → statement M
-tell-outcome-spec =
+pub tell_outcome_spec : {M : Type 1} → statement M
+tell_outcome_spec =
     tie.close
     (tie.spec
     enum-known-o

@@ -8,5 +8,5 @@ returns : tie.Need-returns
 unfolding uncounted
 returns c = refl
 
-pub tell-uncounted-spec : {M : Type 1} → statement M
-tell-uncounted-spec = tie.close (tie.spec returns)
+pub tell_uncounted_spec : {M : Type 1} → statement M
+tell_uncounted_spec = tie.close (tie.spec returns)

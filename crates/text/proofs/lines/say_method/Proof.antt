@@ -6,47 +6,35 @@ use Rattle.text.proofs.LinesLaws.{method_text-fuel, method_text_anodes, method_t
 use Rattle.text.proofs.lines.say_method.Statement.{statement}
 use Rattle.text.proofs.lines.say_method.Tie as tie
 
-slice-aggregate-say-field : tie.Need-slice-aggregate-say-field
-slice-aggregate-say-field c = search rules
-
-say-field-requires : tie.Need-say-field-requires
+say-field-requires : tie.Need-say_field-requires
 say-field-requires c κs = search rules
 
-returns : tie.Need-returns
-returns c = c.say-field.ensures ∙ ap (extended _) (sym (method_text-fuel _ _ c.before.before.if1.true))
-
-slice-aggregate-say : tie.Need-slice-aggregate-say
-slice-aggregate-say c = search rules
+returns : tie.Need-returns-then-method-ne0
+returns c = c.say_field.ensures ∙ ap (extended _) (sym (method_text-fuel _ _ c.if-method-ne0.true))
 
 say-requires : tie.Need-say-requires
 say-requires c κs = search rules
 
-returns-2 : tie.Need-returns-2
+returns-2 : tie.Need-returns-then-kind-eq4
 returns-2 c =
-    let test = c.before.before in
-    c.say.ensures ∙ ap (extended _) (sym (method_text_anodes _ _ test.before.if1.false test.if2.true))
-
-slice-aggregate-say-2 : tie.Need-slice-aggregate-say-2
-slice-aggregate-say-2 c = search rules
+    let test = c in
+    c.say.ensures ∙ ap (extended _) (sym (method_text_anodes _ _ test.if-method-ne0.false test.if-kind-eq4.true))
 
 say-requires-2 : tie.Need-say-requires-2
 say-requires-2 c κs = search rules
 
-returns-3 : tie.Need-returns-3
+returns-3 : tie.Need-returns
 returns-3 c =
-    let test = c.before.before in
-    c.say2.ensures ∙ ap (extended _) (sym (method_text-hour _ _ test.before.if1.false test.if2.false))
+    let test = c in
+    c.say-2.ensures ∙ ap (extended _) (sym (method_text-hour _ _ test.if-method-ne0.false test.if-kind-eq4.false))
 
-pub say-method-spec : {M : Type 1} → statement M
-say-method-spec =
+pub say_method_spec : {M : Type 1} → statement M
+say_method_spec =
     tie.close
     (tie.spec
-    slice-aggregate-say-field
     say-field-requires
     returns
-    slice-aggregate-say
     say-requires
     returns-2
-    slice-aggregate-say-2
     say-requires-2
     returns-3)

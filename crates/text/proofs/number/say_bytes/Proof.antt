@@ -12,47 +12,47 @@ use Rattle.text.proofs.number.say_bytes.Statement.{statement}
 use Rattle.text.proofs.number.say_bytes.Tie as tie
 
 -- What is still to be said, behind what is said, is the whole.
-abbrev invariant-loop : tie.invariant-loop
+abbrev invariant-loop : tie.invariant-loop-i
 invariant-loop n v next₀ rest₀ i₀ next rest i =
     (i ≤ n) × (extended next (bytes_of (n - i) rest) ≡ extended next₀ (bytes_of n v))
 
-abbrev decreases-loop : tie.decreases-loop
+abbrev decreases-loop : tie.decreases-loop-i
 decreases-loop n v next₀ rest₀ i₀ next rest i = n - i
 
-loop-holds : tie.Need-loop-init invariant-loop decreases-loop
+loop-holds : tie.Need-loop-i-init invariant-loop decreases-loop
 loop-holds c = (zero-le, ap (λ (m : ℕ). extended c.args.p (bytes_of m c.args.v)) (sub-zero _))
 
-cast-say-byte : tie.Need-overflow-cast-say-byte invariant-loop decreases-loop
+cast-say-byte : tie.Need-overflow_cast-rest invariant-loop decreases-loop
 cast-say-byte c = search rules
 
-say-byte-requires : tie.Need-say-byte-requires invariant-loop decreases-loop
+say-byte-requires : tie.Need-say_byte-next-requires invariant-loop decreases-loop
 say-byte-requires c κs = search rules
 
-add-i : tie.Need-overflow-add-i invariant-loop decreases-loop
+add-i : tie.Need-overflow_add-i invariant-loop decreases-loop
 add-i c = search rules
 
-loop-less : tie.Need-loop-smaller invariant-loop decreases-loop
+loop-less : tie.Need-loop-i-smaller invariant-loop decreases-loop
 loop-less c = search rules
 
-loop-again : tie.Need-loop-preserved invariant-loop decreases-loop
+loop-again : tie.Need-loop-i-preserved invariant-loop decreases-loop
 loop-again c =
-    let a = c.before.before.before.args in
-    let at = c.before.before.loop in
+    let a = c.args in
+    let at = c.loop-i in
     let one : a.n - at.i ≡ suc (a.n - (at.i + 1)) = omega arith in (
       search rules,
       extended_bytes_next at.next (a.n - at.i) (a.n - (at.i + 1)) at.rest one
-          c.say-byte.ensures at.invariant.1,
+          c.say_byte-next.ensures at.invariant.1,
     )
 
 returns : tie.Need-returns invariant-loop decreases-loop
 returns c =
-    let a = c.before.before.args in
-    let at = c.before.loop in
+    let a = c.args in
+    let at = c.loop-i in
     let none : a.n - at.i ≡ 0 = omega arith in
     extended_bytes_last at.next (a.n - at.i) at.rest none at.invariant.1
 
-pub say-bytes-spec : {M : Type 1} → statement M
-say-bytes-spec =
+pub say_bytes_spec : {M : Type 1} → statement M
+say_bytes_spec =
     tie.close
     (tie.spec
     invariant-loop

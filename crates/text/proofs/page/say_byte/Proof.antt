@@ -7,19 +7,19 @@ use Rattle.text.specs.Extended.{with_byte}
 use Rattle.text.proofs.page.say_byte.Statement.{statement}
 use Rattle.text.proofs.page.say_byte.Tie as tie
 
-element-write-next : tie.Need-element-write-next
+element-write-next : tie.Need-bounds-next-at
 element-write-next c = search rules
 
-add-next : tie.Need-overflow-add-next
+add-next : tie.Need-overflow_add-next
 add-next c = search rules
 
-returns : tie.Need-returns
+returns : tie.Need-returns-then-at-lt-SIZE
 unfolding with_byte
-returns c = sym (choose_t _ (lt-ltb _ _ c.if1.true) refl)
+returns c = sym (choose_t _ (lt-ltb _ _ c.if-at-lt-SIZE.true) refl)
 
-returns-2 : tie.Need-returns-2
+returns-2 : tie.Need-returns
 unfolding with_byte
-returns-2 c = sym (choose_f _ (le-ltb _ _ c.if1.false) refl)
+returns-2 c = sym (choose_f _ (le-ltb _ _ c.if-at-lt-SIZE.false) refl)
 
-pub say-byte-spec : {M : Type 1} → statement M
-say-byte-spec = tie.close (tie.spec element-write-next add-next returns returns-2)
+pub say_byte_spec : {M : Type 1} → statement M
+say_byte_spec = tie.close (tie.spec element-write-next add-next returns returns-2)

@@ -8,5 +8,5 @@ returns : tie.Need-returns
 unfolding page_of
 returns c = refl
 
-pub take-blank-spec : {M : Type 1} → statement M
-take-blank-spec = tie.close (tie.spec returns)
+pub take_blank_spec : {M : Type 1} → statement M
+take_blank_spec = tie.close (tie.spec returns)

@@ -6,44 +6,44 @@ use Rattle.text.proofs.ProgressLaws.{hint_text_book, hint_text_30, hint_text_31,
 use Rattle.text.proofs.progress.hint.Statement.{statement}
 use Rattle.text.proofs.progress.hint.Tie as tie
 
-enum_told : tie.Need-enum-told
+enum_told : tie.Need-enum_told-1
 enum_told c = search rules
 
-take-blank-requires : tie.Need-take-blank-requires
+take-blank-requires : tie.Need-take_blank-requires
 take-blank-requires c κs = search rules
 
-enum-told-2 : tie.Need-enum-told-2
+enum-told-2 : tie.Need-enum_told-in-CheckpointLength
 enum-told-2 c = search rules
 
-hint-fresh-requires : tie.Need-hint-fresh-requires
+hint-fresh-requires : tie.Need-hint_fresh-requires
 hint-fresh-requires c κs = search rules
 
-enum-told-3 : tie.Need-enum-told-3
+enum-told-3 : tie.Need-enum_told-in-CheckpointUnsound
 enum-told-3 c = search rules
 
-hint-fresh-requires-2 : tie.Need-hint-fresh-requires-2
+hint-fresh-requires-2 : tie.Need-hint_fresh-requires-in-CheckpointUnsound
 hint-fresh-requires-2 c κs = search rules
 
-enum-told-4 : tie.Need-enum-told-4
+enum-told-4 : tie.Need-enum_told-in-BufferLength
 enum-told-4 c = search rules
 
-take-blank-requires-2 : tie.Need-take-blank-requires-2
+take-blank-requires-2 : tie.Need-take_blank-requires-in-BufferLength
 take-blank-requires-2 c κs = search rules
 
-returns : tie.Need-returns
-returns c = c.take-blank.ensures ∙ ap page_of (sym (hint_text_book c.before.enum_told.given.1))
+returns : tie.Need-returns-in-Book
+returns c = c.take_blank.ensures ∙ ap page_of (sym (hint_text_book c.in-Book.is))
 
-returns-2 : tie.Need-returns-2
-returns-2 c = c.hint-fresh.ensures ∙ ap page_of (sym (hint_text_30 c.before.enum-told2.given.1))
+returns-2 : tie.Need-returns-in-CheckpointLength
+returns-2 c = c.hint_fresh.ensures ∙ ap page_of (sym (hint_text_30 c.in-CheckpointLength.is))
 
-returns-3 : tie.Need-returns-3
-returns-3 c = c.hint-fresh2.ensures ∙ ap page_of (sym (hint_text_31 c.before.enum-told3.given.1))
+returns-3 : tie.Need-returns-in-CheckpointUnsound
+returns-3 c = c.hint_fresh-in-CheckpointUnsound.ensures ∙ ap page_of (sym (hint_text_31 c.in-CheckpointUnsound.is))
 
-returns-4 : tie.Need-returns-4
-returns-4 c = c.take-blank2.ensures ∙ ap page_of (sym (hint_text_32 c.before.enum-told4.given.1))
+returns-4 : tie.Need-returns-in-BufferLength
+returns-4 c = c.take_blank-in-BufferLength.ensures ∙ ap page_of (sym (hint_text_32 c.in-BufferLength.is))
 
-pub hint-spec : {M : Type 1} → statement M
-hint-spec =
+pub hint_spec : {M : Type 1} → statement M
+hint_spec =
     tie.close
     (tie.spec
     enum_told

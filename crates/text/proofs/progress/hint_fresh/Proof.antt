@@ -8,19 +8,16 @@ use Rattle.text.proofs.ProgressLaws.{hint_text-fresh}
 use Rattle.text.proofs.progress.hint_fresh.Statement.{statement}
 use Rattle.text.proofs.progress.hint_fresh.Tie as tie
 
-take-blank-requires : tie.Need-take-blank-requires
+take-blank-requires : tie.Need-take_blank-requires
 take-blank-requires c κs = search rules
-
-slice-aggregate-say : tie.Need-slice-aggregate-say
-slice-aggregate-say c = search rules
 
 say-requires : tie.Need-say-requires
 say-requires c κs = search rules
 
 returns : tie.Need-returns
 returns c =
-    extended-blank _ c.before.before.take-blank.ensures c.say.ensures (omega arith)
+    extended-blank _ c.take_blank.ensures c.say.ensures (omega arith)
     ∙ ap page_of (sym hint_text-fresh)
 
-pub hint-fresh-spec : {M : Type 1} → statement M
-hint-fresh-spec = tie.close (tie.spec take-blank-requires slice-aggregate-say say-requires returns)
+pub hint_fresh_spec : {M : Type 1} → statement M
+hint_fresh_spec = tie.close (tie.spec take-blank-requires say-requires returns)

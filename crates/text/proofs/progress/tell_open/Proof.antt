@@ -13,25 +13,25 @@ use Rattle.text.proofs.ProgressLaws.{progress_by-le}
 use Rattle.text.proofs.progress.tell_open.Statement.{statement}
 use Rattle.text.proofs.progress.tell_open.Tie as tie
 
-report-requires : tie.Need-report-requires
+report-requires : tie.Need-report-r-requires
 report-requires c κs = search rules
 
-take-blank-requires : tie.Need-take-blank-requires
+take-blank-requires : tie.Need-take_blank-requires
 take-blank-requires c κs = search rules
 
-say-progress-requires : tie.Need-say-progress-requires
+say-progress-requires : tie.Need-say_progress-requires
 say-progress-requires c κs = search rules
 
 returns : tie.Need-returns
 unfolding progress_with
 returns c =
-    let start = c.before.before.before.before.before.before in
+    let start = c in
     let a = start.args in
-    extended-blank _ c.before.take-blank.ensures c.say-progress.ensures
+    extended-blank _ c.take_blank.ensures c.say_progress.ensures
     (wider (progress_by-le _ a.h a.moved start.requires.0 _) (omega arith)).le
-    ∙ ap (λ (x : Reply). page_of (progress_by a.gap.now a.h a.moved x)) c.before.before.report.ensures
+    ∙ ap (λ (x : Reply). page_of (progress_by a.gap.now a.h a.moved x)) c.report-r.ensures
     ∙ ap page_of (sym (if_open-accepted _ _ _ start.requires.1))
 
-pub tell-open-spec : {M : Type 1} → statement M
-tell-open-spec =
+pub tell_open_spec : {M : Type 1} → statement M
+tell_open_spec =
     tie.close (tie.spec report-requires take-blank-requires say-progress-requires returns)

@@ -7,23 +7,23 @@ use Rattle.text.proofs.RefusalLaws.{begins_short, begins-same}
 use Rattle.text.proofs.refusal.has_front.Statement.{statement}
 use Rattle.text.proofs.refusal.has_front.Tie as tie
 
-returns : tie.Need-returns
+returns : tie.Need-returns-then-text-n
 returns c =
-    let a = c.before.before.before.args in
-    begins_short a.word.now a.text.now c.if1.true
+    let a = c.args in
+    begins_short a.word.now a.text.now c.if-text-n.true
 
-slice-aggregate-are-same : tie.Need-slice-aggregate-are-same
+slice-aggregate-are-same : tie.Need-slice_bounds-are_same-end
 slice-aggregate-are-same c =
-    let a = c.before.before.before.before.args in
-    sym (length-take-le (length a.word.now) a.text.now c.before.if1.false)
+    let a = c.args in
+    sym (length-take-le (length a.word.now) a.text.now c.if-text-n.false)
 
-are-same-requires : tie.Need-are-same-requires
+are-same-requires : tie.Need-are_same-requires
 are-same-requires c κs = search rules
 
-returns-2 : tie.Need-returns-2
+returns-2 : tie.Need-returns
 returns-2 c =
-    let a = c.before.before.before.before.before.args in
-    c.are-same.ensures ∙ begins-same a.word.now a.text.now c.before.before.if1.false
+    let a = c.args in
+    c.are_same.ensures ∙ begins-same a.word.now a.text.now c.if-text-n.false
 
-pub has-front-spec : {M : Type 1} → statement M
-has-front-spec = tie.close (tie.spec returns slice-aggregate-are-same are-same-requires returns-2)
+pub has_front_spec : {M : Type 1} → statement M
+has_front_spec = tie.close (tie.spec returns slice-aggregate-are-same are-same-requires returns-2)

@@ -7,16 +7,16 @@ use Rattle.text.proofs.ReportLaws.{refused_text-le}
 use Rattle.text.proofs.report.refuse.Statement.{statement}
 use Rattle.text.proofs.report.refuse.Tie as tie
 
-take-blank-requires : tie.Need-take-blank-requires
+take-blank-requires : tie.Need-take_blank-requires
 take-blank-requires c κs = search rules
 
-say-refusal-requires : tie.Need-say-refusal-requires
+say-refusal-requires : tie.Need-say_refusal-requires
 say-refusal-requires c κs = search rules
 
 returns : tie.Need-returns
 returns c =
-    extended-blank _ c.before.take-blank.ensures c.say-refusal.ensures
+    extended-blank _ c.take_blank.ensures c.say_refusal.ensures
     (wider (refused_text-le _ _) (omega arith)).le
 
-pub refuse-spec : {M : Type 1} → statement M
-refuse-spec = tie.close (tie.spec take-blank-requires say-refusal-requires returns)
+pub refuse_spec : {M : Type 1} → statement M
+refuse_spec = tie.close (tie.spec take-blank-requires say-refusal-requires returns)

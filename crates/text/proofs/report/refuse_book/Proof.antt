@@ -7,16 +7,16 @@ use Rattle.text.proofs.ReportLaws.{refused_text-le}
 use Rattle.text.proofs.report.refuse_book.Statement.{statement}
 use Rattle.text.proofs.report.refuse_book.Tie as tie
 
-take-blank-requires : tie.Need-take-blank-requires
+take-blank-requires : tie.Need-take_blank-requires
 take-blank-requires c κs = search rules
 
-say-fault-requires : tie.Need-say-fault-requires
+say-fault-requires : tie.Need-say_fault-requires
 say-fault-requires c κs = search rules
 
 returns : tie.Need-returns
 returns c =
-    extended-blank _ c.before.take-blank.ensures c.say-fault.ensures
+    extended-blank _ c.take_blank.ensures c.say_fault.ensures
     (wider (refused_text-le _ _) (omega arith)).le
 
-pub refuse-book-spec : {M : Type 1} → statement M
-refuse-book-spec = tie.close (tie.spec take-blank-requires say-fault-requires returns)
+pub refuse_book_spec : {M : Type 1} → statement M
+refuse_book_spec = tie.close (tie.spec take-blank-requires say-fault-requires returns)

@@ -6,31 +6,23 @@ use Rattle.text.proofs.ReportLaws.{decision_text_must, decision_text_need_not}
 use Rattle.text.proofs.report.say_decision.Statement.{statement}
 use Rattle.text.proofs.report.say_decision.Tie as tie
 
-slice-aggregate-say : tie.Need-slice-aggregate-say
-slice-aggregate-say c = search rules
-
 say-requires : tie.Need-say-requires
 say-requires c κs = search rules
 
-returns : tie.Need-returns
-returns c = c.say.ensures ∙ ap (extended _) (sym (decision_text_must c.before.before.if1.true))
-
-slice-aggregate-say-2 : tie.Need-slice-aggregate-say-2
-slice-aggregate-say-2 c = search rules
+returns : tie.Need-returns-then-must
+returns c = c.say.ensures ∙ ap (extended _) (sym (decision_text_must c.if-must.true))
 
 say-requires-2 : tie.Need-say-requires-2
 say-requires-2 c κs = search rules
 
-returns-2 : tie.Need-returns-2
-returns-2 c = c.say2.ensures ∙ ap (extended _) (sym (decision_text_need_not c.before.before.if1.false))
+returns-2 : tie.Need-returns
+returns-2 c = c.say-2.ensures ∙ ap (extended _) (sym (decision_text_need_not c.if-must.false))
 
-pub say-decision-spec : {M : Type 1} → statement M
-say-decision-spec =
+pub say_decision_spec : {M : Type 1} → statement M
+say_decision_spec =
     tie.close
     (tie.spec
-    slice-aggregate-say
     say-requires
     returns
-    slice-aggregate-say-2
     say-requires-2
     returns-2)

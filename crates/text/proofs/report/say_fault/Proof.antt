@@ -10,19 +10,19 @@ use Rattle.text.proofs.ReportLaws.{fault_number-lt}
 use Rattle.text.proofs.report.say_fault.Statement.{statement}
 use Rattle.text.proofs.report.say_fault.Tie as tie
 
-number-fault-requires : tie.Need-number-fault-requires
+number-fault-requires : tie.Need-number_fault-requires
 number-fault-requires c κs = search rules
 
-say-number-requires : tie.Need-say-number-requires
+say-number-requires : tie.Need-say_number-requires
 say-number-requires c κs =
-    subst (λ (n : ℕ). n ≤ 40) (sym c.number-fault.ensures)
-    (omega (arith, fault_number-lt c.before.args.x))
+    subst (λ (n : ℕ). n ≤ 40) (sym c.number_fault.ensures)
+    (omega (arith, fault_number-lt c.args.x))
 
 returns : tie.Need-returns
 returns c =
-    c.say-number.ensures
-    ∙ ap (λ (n : ℕ). extended c.before.before.args.p (refused_text n []))
-    c.before.number-fault.ensures
+    c.say_number.ensures
+    ∙ ap (λ (n : ℕ). extended c.args.p (refused_text n []))
+    c.number_fault.ensures
 
-pub say-fault-spec : {M : Type 1} → statement M
-say-fault-spec = tie.close (tie.spec number-fault-requires say-number-requires returns)
+pub say_fault_spec : {M : Type 1} → statement M
+say_fault_spec = tie.close (tie.spec number-fault-requires say-number-requires returns)

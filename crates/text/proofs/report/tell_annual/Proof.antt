@@ -6,30 +6,30 @@ use Rattle.text.proofs.ReportLaws.{annual_held_more, annual_held_long, annual_he
 use Rattle.text.proofs.report.tell_annual.Statement.{statement}
 use Rattle.text.proofs.report.tell_annual.Tie as tie
 
-refuse-book-requires : tie.Need-refuse-book-requires
+refuse-book-requires : tie.Need-refuse_book-requires
 refuse-book-requires c κs = search rules
 
-returns : tie.Need-returns
-returns c = c.refuse-book.ensures ∙ ap page_of (sym (annual_held_more _ c.before.if1.true))
+returns : tie.Need-returns-then-more
+returns c = c.refuse_book.ensures ∙ ap page_of (sym (annual_held_more _ c.if-more.true))
 
-refuse-book-requires-2 : tie.Need-refuse-book-requires-2
+refuse-book-requires-2 : tie.Need-refuse_book-requires-then-book-gt-ANNUAL_MOST
 refuse-book-requires-2 c κs = search rules
 
-returns-2 : tie.Need-returns-2
+returns-2 : tie.Need-returns-then-book-gt-ANNUAL_MOST
 returns-2 c =
-    c.refuse-book2.ensures
-    ∙ ap page_of (sym (annual_held_long _ c.before.before.if1.false c.before.if2.true))
+    c.refuse_book-then-book-gt-ANNUAL_MOST.ensures
+    ∙ ap page_of (sym (annual_held_long _ c.if-more.false c.if-book-gt-ANNUAL_MOST.true))
 
-tell-year-requires : tie.Need-tell-year-requires
+tell-year-requires : tie.Need-tell_year-requires
 tell-year-requires c κs = search rules
 
-returns-3 : tie.Need-returns-3
+returns-3 : tie.Need-returns
 returns-3 c =
-    c.tell-year.ensures
-    ∙ ap page_of (sym (annual_held-year _ c.before.before.if1.false c.before.if2.false))
+    c.tell_year.ensures
+    ∙ ap page_of (sym (annual_held-year _ c.if-more.false c.if-book-gt-ANNUAL_MOST.false))
 
-pub tell-annual-spec : {M : Type 1} → statement M
-tell-annual-spec =
+pub tell_annual_spec : {M : Type 1} → statement M
+tell_annual_spec =
     tie.close
     (tie.spec
     refuse-book-requires

@@ -10,45 +10,45 @@ use Rattle.text.proofs.ReportLaws.{reply_text-le, year_text-whole}
 use Rattle.text.proofs.report.tell_open.Statement.{statement}
 use Rattle.text.proofs.report.tell_open.Tie as tie
 
-slice-aggregate-fresh : tie.Need-slice-aggregate-fresh
+slice-aggregate-fresh : tie.Need-slice_bounds-fresh-end
 slice-aggregate-fresh c = search rules
 
 fresh-requires : tie.Need-fresh-requires
 fresh-requires c κs = search rules
 
-slice-aggregate-wake : tie.Need-slice-aggregate-wake
+slice-aggregate-wake : tie.Need-slice_bounds-wake-end
 slice-aggregate-wake c = search rules
 
-slice-aggregate-wake-2 : tie.Need-slice-aggregate-wake-2
+slice-aggregate-wake-2 : tie.Need-slice_bounds-wake-end-2
 slice-aggregate-wake-2 c = search rules
 
 wake-requires : tie.Need-wake-requires
 wake-requires c κs = search rules
 
-slice-aggregate-report : tie.Need-slice-aggregate-report
+slice-aggregate-report : tie.Need-slice_bounds-report-end
 slice-aggregate-report c = search rules
 
-report-requires : tie.Need-report-requires
+report-requires : tie.Need-report-r-requires
 report-requires c κs = search rules
 
-take-blank-requires : tie.Need-take-blank-requires
+take-blank-requires : tie.Need-take_blank-requires
 take-blank-requires c κs = search rules
 
-say-reported-requires : tie.Need-say-reported-requires
+say-reported-requires : tie.Need-say_reported-requires
 say-reported-requires c κs = search rules
 
 returns : tie.Need-returns
 returns c =
-    let woke = c.before.before.before.before.before in
-    let begun = woke.before.before.before.before in
-    let start = begun.before.before.before in
-    extended-blank _ c.before.take-blank.ensures c.say-reported.ensures
+    let woke = c in
+    let begun = woke in
+    let start = begun in
+    extended-blank _ c.take_blank.ensures c.say_reported.ensures
     (wider (reply_text-le start.args.h _) (omega arith)).le
     ∙ ap page_of (year_text-whole _ start.requires _ _ refl refl
-    begun.fresh.ensures.1 woke.wake.ensures.1 c.before.before.report.ensures)
+    begun.fresh.ensures.1 woke.wake.ensures.1 c.report-r.ensures)
 
-pub tell-open-spec : {M : Type 1} → statement M
-tell-open-spec =
+pub tell_open_spec : {M : Type 1} → statement M
+tell_open_spec =
     tie.close
     (tie.spec
     slice-aggregate-fresh

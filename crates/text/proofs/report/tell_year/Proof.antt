@@ -11,30 +11,30 @@ use Rattle.text.proofs.report.tell_year.Tie as tie
 open-requires : tie.Need-open-requires
 open-requires c κs = search rules
 
-enum-known-fault : tie.Need-enum-known-fault
+enum-known-fault : tie.Need-enum_known-fault
 enum-known-fault c = search rules
 
-refuse-book-requires : tie.Need-refuse-book-requires
+refuse-book-requires : tie.Need-refuse_book-requires
 refuse-book-requires c κs = search rules
 
-enum-known-h : tie.Need-enum-known-h
+enum-known-h : tie.Need-enum_known-h
 enum-known-h c = search rules
 
-tell-open-requires : tie.Need-tell-open-requires
-tell-open-requires c κs = opened_open _ c.before.before.before.«open».ensures c.before.h.given.1
+tell-open-requires : tie.Need-tell_open-requires
+tell-open-requires c κs = opened_open _ c.«open».ensures c.in-Open.is
 
-returns : tie.Need-returns
+returns : tie.Need-returns-in-Wrong
 unfolding year_text
 returns c =
-    c.refuse-book.ensures
+    c.refuse_book.ensures
     ∙ ap page_of (sym (if_open-refused _ _ _
-    (opened_wrong _ c.before.before.before.before.«open».ensures c.before.before.fault.given.1)))
+    (opened_wrong _ c.«open».ensures c.in-Wrong.is)))
 
-returns-2 : tie.Need-returns-2
+returns-2 : tie.Need-returns-in-Open
 returns-2 c = search rules
 
-pub tell-year-spec : {M : Type 1} → statement M
-tell-year-spec =
+pub tell_year_spec : {M : Type 1} → statement M
+tell_year_spec =
     tie.close
     (tie.spec
     open-requires
