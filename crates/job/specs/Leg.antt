@@ -18,9 +18,9 @@
 --
 --     taken_sorted s, taken_weighed x    how the look at a record ends that was sorted as s, or weighed as x
 --     RoomFor s d, Co2For s    there is room for s in the shares d, and its CO2 is that of a record
---     LightFor g x             so is that of x, whose grains are g µg
+--     LightFor x               so is that of x
 --     shared_by s d, added_by s w    the shares and the words once s is taken
---     weighed_by g x w, AsideBy p x a b    the words once x is taken, and what is then said of records set aside
+--     weighed_by x w, AsideBy p x a b    the words once x is taken, and what is then said of records set aside
 --
 -- Laws: proofs/LegLaws.antt, proofs/WentLaws.antt. Definitions only.
 use Rattle.std.specs.Prelude.{ℕ, ◌+◌, ◌-◌, ◌*◌, ◌<◌, ◌≤◌, Bool, true, false, List, ◌≡◌, get_or}
@@ -113,15 +113,15 @@ taken_weighed weighed.Unsure = Unsure
 taken_weighed weighed.Repeated = Done
 taken_weighed (weighed.Fossil x) = Done
 
-abbrev pub LightFor : ℕ → Weighed → Type 0
-LightFor g weighed.Unsure = Unit {0}
-LightFor g weighed.Repeated = Unit {0}
-LightFor g (weighed.Fossil x) = g * x.0 < full
+abbrev pub LightFor : Weighed → Type 0
+LightFor weighed.Unsure = Unit {0}
+LightFor weighed.Repeated = Unit {0}
+LightFor (weighed.Fossil x) = x.0 < full
 
-abbrev pub weighed_by : ℕ → Weighed → List ℕ → List ℕ
-weighed_by g weighed.Unsure w = w
-weighed_by g weighed.Repeated w = w
-weighed_by g (weighed.Fossil x) w = added w fossil (g * x.0)
+abbrev pub weighed_by : Weighed → List ℕ → List ℕ
+weighed_by weighed.Unsure w = w
+weighed_by weighed.Repeated w = w
+weighed_by (weighed.Fossil x) w = added w fossil x.0
 
 abbrev pub AsideBy : ℕ → Weighed → List ℕ → List ℕ → Type 0
 AsideBy p weighed.Unsure a b = b ≡ a

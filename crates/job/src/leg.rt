@@ -15,7 +15,6 @@ ghost use Rattle.job.specs.Shares.{leg_records, shares_at, Held};
 ghost use Rattle.job.specs.Leg.{Before, Went, taken_sorted, RoomFor, Co2For, shared_by, added_by, taken_weighed, LightFor, weighed_by, AsideBy, Took, Taking};
 
 use crate::{ledgers, shares};
-use mass::hour;
 use rules::book::Head;
 use rules::record::Outcome;
 use rules::sorting::Sorted;
@@ -158,11 +157,11 @@ fn take_quickly(
     }
     if kind == 2 {
         let weighed = weighing::weigh_hour(book, h, i, units, by_unit, table);
-        return take_weighed(place, weighed, hour::UG_PER_THOUSANDTH, aside, w);
+        return take_weighed(place, weighed, aside, w);
     }
     if kind == 4 {
         let weighed = weighing::weigh_anodes(book, h, i, units, by_unit, table);
-        return take_weighed(place, weighed, 1, aside, w);
+        return take_weighed(place, weighed, aside, w);
     }
     Taken::Unsure
 }
@@ -199,17 +198,10 @@ fn take_gas(sorted: Sorted, shares: &mut [u64; 1024], w: &mut [u64]) -> Taken
     }
 }
 
-// What was weighed, a grain of it being so many µg, goes to the fossil ledger.
-fn take_weighed(
-    place: u32,
-    weighed: Weighed,
-    grain: u64,
-    aside: &mut [u32; 3],
-    w: &mut [u64],
-) -> Taken
-    requires room { (get_or aside.old 0 0 < 4294967295) × Kept carries w.old × LightFor grain weighed }
+fn take_weighed(place: u32, weighed: Weighed, aside: &mut [u32; 3], w: &mut [u64]) -> Taken
+    requires room { (get_or aside.old 0 0 < 4294967295) × Kept carries w.old × LightFor weighed }
     ensures taken { result ≡ taken_weighed weighed }
-    ensures words { (w.new ≡ weighed_by grain weighed w.old) × AsideBy place weighed aside.old aside.new }
+    ensures words { (w.new ≡ weighed_by weighed w.old) × AsideBy place weighed aside.old aside.new }
 {
     match weighed {
         Weighed::Unsure => Taken::Unsure,
@@ -218,7 +210,7 @@ fn take_weighed(
             Taken::Done
         }
         Weighed::Fossil(x) => {
-            ledgers::add(w, ledgers::FOSSIL, grain * x.0);
+            ledgers::add(w, ledgers::FOSSIL, x.0);
             Taken::Done
         }
     }

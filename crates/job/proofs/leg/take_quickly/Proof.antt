@@ -79,8 +79,9 @@ weigh-hour-requires c κs =
     let serve = test in
     let served = test.if-not-does_serve.false in
     let p = (start kinds).requires in
+    let kind = sym kinds.find_kind-kind.ensures ∙ test.if-kind-eq2.true in
     let table = sym serve.does_serve.ensures ∙ served in
-    (p.0, (p.1.0.0, (p.1.1.0, (p.1.1.1.1.0, table))))
+    (p.0, ((p.1.0.0, kind), (p.1.1.0, (p.1.1.1.1.0, table))))
 
 take-weighed-requires : tie.Need-take_weighed-requires
 take-weighed-requires c κs =
@@ -90,7 +91,7 @@ take-weighed-requires c κs =
     let there = s.requires.1.0 in (
       aside_lt there.1.aside_le there.0 (records_le a.book.now a.h s.requires.0),
       s.requires.1.1.1.1.1.1,
-      light_weighed a.h a.book.now a.place s.requires.0 518 weigh.weigh_hour-weighed.result a.table.now _ weigh.weigh_hour-weighed.ensures.0,
+      light_weighed a.h a.book.now a.place s.requires.0 weigh.weigh_hour-weighed.result a.table.now _ weigh.weigh_hour-weighed.ensures,
     )
 
 returns-5 : tie.Need-returns-then-kind-eq2
@@ -101,7 +102,7 @@ returns-5 c =
     let a = s.args in
     let taken = take.take_weighed.ensures in
     taking_weighed a.h a.book.now a.place s.requires.0 a.stop a.aside.now a.w.now a.shares.now
-    s.requires.1.1.1.1.1.1 518 weigh.weigh_hour-weighed.result a.table.now _ _ weigh.weigh_hour-weighed.ensures.0 taken.0 taken.1
+    s.requires.1.1.1.1.1.1 weigh.weigh_hour-weighed.result a.table.now _ _ weigh.weigh_hour-weighed.ensures taken.0 taken.1
 
 -- ---- anodes
 abbrev before-anodes : tie.Then-kind-eq4 → tie.After-find_kind-kind
@@ -114,8 +115,9 @@ weigh-anodes-requires c κs =
     let serve = test in
     let served = test.if-not-does_serve.false in
     let p = (start kinds).requires in
+    let kind = sym kinds.find_kind-kind.ensures ∙ test.if-kind-eq4.true in
     let table = sym serve.does_serve.ensures ∙ served in
-    (p.0, (p.1.0.0, (p.1.1.0, (p.1.1.1.1.0, table))))
+    (p.0, ((p.1.0.0, kind), (p.1.1.0, (p.1.1.1.1.0, table))))
 
 take-weighed-requires-2 : tie.Need-take_weighed-requires-then-kind-eq4
 take-weighed-requires-2 c κs =
@@ -125,7 +127,7 @@ take-weighed-requires-2 c κs =
     let there = s.requires.1.0 in (
       aside_lt there.1.aside_le there.0 (records_le a.book.now a.h s.requires.0),
       s.requires.1.1.1.1.1.1,
-      light_weighed a.h a.book.now a.place s.requires.0 1 weigh.weigh_anodes-weighed.result a.table.now _ weigh.weigh_anodes-weighed.ensures,
+      light_weighed a.h a.book.now a.place s.requires.0 weigh.weigh_anodes-weighed.result a.table.now _ weigh.weigh_anodes-weighed.ensures,
     )
 
 returns-6 : tie.Need-returns-then-kind-eq4
@@ -136,7 +138,7 @@ returns-6 c =
     let a = s.args in
     let taken = take.take_weighed-then-kind-eq4.ensures in
     taking_weighed a.h a.book.now a.place s.requires.0 a.stop a.aside.now a.w.now a.shares.now
-    s.requires.1.1.1.1.1.1 1 weigh.weigh_anodes-weighed.result a.table.now _ _ weigh.weigh_anodes-weighed.ensures taken.0 taken.1
+    s.requires.1.1.1.1.1.1 weigh.weigh_anodes-weighed.result a.table.now _ _ weigh.weigh_anodes-weighed.ensures taken.0 taken.1
 
 pub take_quickly_spec : {M : Type 1} → statement M
 take_quickly_spec =
