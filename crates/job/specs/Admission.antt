@@ -1,7 +1,7 @@
 -- How the code admits a checkpoint of a book that was opened. This serves the code; the definitions of
 -- the calls don't need it.
 --
---     admission h r    the number, or the head h, that the code's admission r stands for
+--     admission h r     the number, or the head h, that the code's admission r stands for
 --     report_for h c    the reply to a report of an opened book with the head h
 --     left_for h c      the reply to a count of the records left of such a book
 --

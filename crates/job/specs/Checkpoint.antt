@@ -1,13 +1,13 @@
 -- The 96 bytes of a checkpoint. RULES, "Checkpoint"; docs/FORMAT.md has the same by offset.
 --
---     checkpoint_size                 96
---     done_in c .. year_in c           the fields of a checkpoint c
---     ledger_place i                  where the ledger at place i stands
---     tonnes_in c i, rest_in c i       this ledger: whole tonnes, and ng
---     counts_in c, mass_in c i         the counts, and the mass of a ledger in ng
---     gap_in c, blank_in c             the bytes that no field names are 0
---     first_sound c                   index and reason of the first record set aside are right
---     ledger_sound c i                the ledger at place i is right
+--     checkpoint_size                96
+--     done_in c .. year_in c         the fields of a checkpoint c
+--     ledger_place i                 where the ledger at place i stands
+--     tonnes_in c i, rest_in c i     this ledger: whole tonnes, and ng
+--     counts_in c, mass_in c i       the counts, and the mass of a ledger in ng
+--     gap_in c, blank_in c           the bytes that no field names are 0
+--     first_sound c                  index and reason of the first record set aside are right
+--     ledger_sound c i               the ledger at place i is right
 --     every t n                      the test t passes for 0 .. n - 1
 --     sound h c                      c is sound for a book with the head h (else 31)
 --     decode c                       the state that c says

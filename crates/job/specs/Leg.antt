@@ -9,17 +9,17 @@
 --
 --     Ready h k p u a w t v x  the same where t is a table, v the index of the unit lines, and x its hints
 --
---     Aside h k p a b          a is what was said of records set aside before record p, and b what is said with it
---     Took h k p a w b v       so it is with the counts, and the words are then v where they were w
---     TookShare h k p a w d b v e    the same, where the shares are then e where they were d
+--     Aside h k p a b              a is what was said of records set aside before record p, and b what is said with it
+--     Took h k p a w b v           so it is with the counts, and the words are then v where they were w
+--     TookShare h k p a w d b v e  the same, where the shares are then e where they were d
 --     Taking h k p s a w d t r b v e u
---                              what r says of the look at record p is so: done with it, a table is u where it was t; and
---                              else nothing has changed, and one that stops was to stop (s)
+--                                  what r says of the look at record p is so: done with it, a table is u where it was t; and
+--                                  else nothing has changed, and one that stops was to stop (s)
 --
 --     taken_sorted s, taken_weighed x    how the look at a record ends that was sorted as s, or weighed as x
---     RoomFor s d, Co2For s    there is room for s in the shares d, and its CO2 is that of a record
---     LightFor x               so is that of x
---     shared_by s d, added_by s w    the shares and the words once s is taken
+--     RoomFor s d, Co2For s              there is room for s in the shares d, and its CO2 is that of a record
+--     LightFor x                         so is that of x
+--     shared_by s d, added_by s w        the shares and the words once s is taken
 --     weighed_by x w, AsideBy p x a b    the words once x is taken, and what is then said of records set aside
 --
 -- Laws: proofs/LegLaws.antt, proofs/WentLaws.antt. Definitions only.

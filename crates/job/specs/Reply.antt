@@ -1,7 +1,7 @@
 -- Replies in the numbers of RULES, "Numbers": a number, 0 if the call was accepted, and its values.
 --
 --     Reply                  a number and the values that it gives back
---     refusal_number x        the number of a refusal
+--     refusal_number x       the number of a refusal
 --     started r              the reply that a fresh start's answer stands for
 --     woken r                the reply that a wake's answer stands for: records gone through
 --     reported r             the reply that a report's answer stands for: 40 with the records done; 41 with

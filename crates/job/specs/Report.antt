@@ -3,7 +3,7 @@
 --     warming_of w         the warming values of CH4 and N2O in the set w: 0 the first, 1 the second
 --     figures_at h s       the five figures and the decision of a state, under the set that the trailer names
 --     reply_at h s         the reply to a report at a state: 40 unless the book is finished, 41 if a record
---                         was set aside, else the figures
+--                          was set aside, else the figures
 --     report_reply k c     the reply to a report
 --     left_reply k c       the reply to a count: the records of the book, less those done
 --

@@ -2,28 +2,28 @@
 -- definitions of the calls don't need it.
 --
 --     leg_records               the most records of a leg
---     coarse                   a sum is held by what it has of this and by the rest
---     units_each, rest_each      the most that a fuel gives of either to a ledger
+--     coarse                    a sum is held by what it has of this and by the rest
+--     units_each, rest_each     the most that a fuel gives of either to a ledger
 --     full_units                how many coarse units a high digit of the ledgers' words counts
---     pour_each, pour_most       the most by which a high digit grows by one sum, and where a leg is settled
---     raised d p x             d with x more at place p
---     shared d x               d with the share x more
---     co2_place_of b             where CO2 goes, which is biomass or not
+--     pour_each, pour_most      the most by which a high digit grows by one sum, and where a leg is settled
+--     raised d p x              d with x more at place p
+--     shared d x                d with the share x more
+--     co2_place_of b            where CO2 goes, which is biomass or not
 --     co2_ledger f              where that of the fuel f goes
 --     worth_of f v i            what one unit of word v of the fuel f is worth at the ledger i, in ng
 --     fuel_shares f d k i       what the words of fuel line k, which is f, come to at the ledger i
 --     shares_at fs d i          what the words of all fuel lines fs come to there
 --     counted_in x d k          of fuel line k, with the default heat x, the heat from which CO2 comes
 --     other_in x d k            and the heat whose CO2 comes from the carbon or is a monitor's
---     weighed s i x y          the sums s with x × y more at place i
---     gathered f k d s         with all that fuel line k gives, whose factors are f
+--     weighed s i x y           the sums s with x × y more at place i
+--     gathered f k d s          with all that fuel line k gives, whose factors are f
 --     sum_at s i                what the sums s come to at the ledger i, in ng
---     poured w i u r           the ledgers' words w with u coarse units and r more at place i
+--     poured w i u r            the ledgers' words w with u coarse units and r more at place i
 --     most_in v                 the most that a record adds to the word v of a fuel
---     Held n d                 d is what n records add at most
---     Modest f                 the heat and the factors are those of a right fuel line
---     Summed m s               s is what m fuel lines give at most
---     Gathered fs d s          s is what the words d of the fuel lines fs come to
+--     Held n d                  d is what n records add at most
+--     Modest f                  the heat and the factors are those of a right fuel line
+--     Summed m s                s is what m fuel lines give at most
+--     Gathered fs d s           s is what the words d of the fuel lines fs come to
 --
 -- Laws: proofs/SharesLaws.antt, proofs/GatheredLaws.antt, proofs/PouredLaws.antt. Definitions only.
 use Rattle.std.specs.Prelude.{ℕ, ◌+◌, ◌*◌, ◌/◌, ◌%◌, ◌<◌, ◌≤◌, Bool, List, ◌≡◌, eqb, ltb, length, get_or, set}

@@ -1,19 +1,19 @@
 -- The state of a job, in numbers, and how a record changes it. RULES, "Ledgers" and "Calls".
 --
---     v to i, a plus b     masses in a list, by their places: v at place i alone, and two lists added. Past
---                          the end of a list all is 0
---     mass m i             the mass at place i of the list m
---     each f n             f 0 .. f (n - 1), as a list
---     State                how many records are done and how many of them were set aside, index and reason
---                          of the first of these (0 if none), and the mass of each ledger in ng
---     ledgers, fossil ..   how many ledgers there are, and their places, in the order of a checkpoint
---     gives o              what an outcome gives to the ledgers, in ng
---     aside_of o            1 if the record was set aside, else 0
---     fresh                the state with nothing done
---     counted c o, after s o    the counts and the state after one record more, whose outcome is o
---     run h k s n          the state after the next n records of the book k, from the place of s
---     first h k n          what the first n records of the book k give
---     sum_to f n            f 0 + .. + f (n - 1)
+--     v to i, a plus b        masses in a list, by their places: v at place i alone, and two lists added. Past
+--                             the end of a list all is 0
+--     mass m i                the mass at place i of the list m
+--     each f n                f 0 .. f (n - 1), as a list
+--     State                   how many records are done and how many of them were set aside, index and reason
+--                             of the first of these (0 if none), and the mass of each ledger in ng
+--     ledgers, fossil ..      how many ledgers there are, and their places, in the order of a checkpoint
+--     gives o                 what an outcome gives to the ledgers, in ng
+--     aside_of o              1 if the record was set aside, else 0
+--     fresh                   the state with nothing done
+--     counted c o, after s o  the counts and the state after one record more, whose outcome is o
+--     run h k s n             the state after the next n records of the book k, from the place of s
+--     first h k n             what the first n records of the book k give
+--     sum_to f n              f 0 + .. + f (n - 1)
 --
 -- Laws: proofs/StateLaws.antt. Definitions only.
 use Rattle.std.specs.Prelude.{ℕ, zero, suc, ◌+◌, ◌*◌, List, [], ◌∷◌, ◌++◌, eqb, get_or, replicate}

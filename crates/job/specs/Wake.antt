@@ -5,9 +5,9 @@
 --     fresh_reply k out                  the reply to a fresh start
 --     fresh_bytes k out                  the output buffer after it
 --     admitted_for h c                   the head h of a book, or the number that refuses c as its checkpoint
---     admitted k c                      the head of the book k, or the first number that refuses k or c
+--     admitted k c                       the head of the book k, or the first number that refuses k or c
 --     wake_admitted k c out refuse go    the first number that refuses a wake, or what it does otherwise
---     moves h c b                       how many records a wake with budget b goes through
+--     moves h c b                        how many records a wake with budget b goes through
 --     wake_reply k c b out               the reply to a wake
 --     wake_bytes k c b out               the output buffer after it
 --

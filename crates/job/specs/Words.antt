@@ -1,23 +1,23 @@
 -- How the code holds what the records of a wake give to the ledgers, in words. This serves the code; the definitions
 -- of the calls don't need it.
 --
---     words, carries              how many words there are, and more than a high digit comes to
---     carries_each                 more than it grows by with a record, where there are many
---     full, half                  what a high digit counts, and what a low one stays below
---     low_at w i, high_at w i       the digits at place i
---     unit_at i                    what they count, in ng: µg of CO2, or ng of another gas
---     mass_at w i                  what the records give to the ledger at place i
---     counts_at p a                the counts at place p, a saying how many records are set aside, and which is the first
---     state_in c w                 the state with the counts c and the masses of w
---     added w i x                 w with x more at place i
---     given w e                   w with all that the entry e gives
---     co2_place d, co2_kept d x     where the code puts the CO2 x of a record, and how much of it
---     ledger_in c i                the ledger that stands in c at place i, sound or not
---     ledgers_of s, totals_in c     the ledgers of which a report tells: of a state, and as they stand in c
---     masses_on c w, state_on t c w     at each place what c says and w gives, and the state of this and the counts t
---     Kept m w                    sums of w fit 64 bits, and none of its high digits is above m
---     Light c w                   the ledgers of c, with what w gives, are those of a book, and sums of w fit 64 bits
---     Gone h k f c w              from the checkpoint f on records are gone through: the counts are c, and they give w
+--     words, carries                 how many words there are, and more than a high digit comes to
+--     carries_each                   more than it grows by with a record, where there are many
+--     full, half                     what a high digit counts, and what a low one stays below
+--     low_at w i, high_at w i        the digits at place i
+--     unit_at i                      what they count, in ng: µg of CO2, or ng of another gas
+--     mass_at w i                    what the records give to the ledger at place i
+--     counts_at p a                  the counts at place p, a saying how many records are set aside, and which is the first
+--     state_in c w                   the state with the counts c and the masses of w
+--     added w i x                    w with x more at place i
+--     given w e                      w with all that the entry e gives
+--     co2_place d, co2_kept d x      where the code puts the CO2 x of a record, and how much of it
+--     ledger_in c i                  the ledger that stands in c at place i, sound or not
+--     ledgers_of s, totals_in c      the ledgers of which a report tells: of a state, and as they stand in c
+--     masses_on c w, state_on t c w  at each place what c says and w gives, and the state of this and the counts t
+--     Kept m w                       sums of w fit 64 bits, and none of its high digits is above m
+--     Light c w                      the ledgers of c, with what w gives, are those of a book, and sums of w fit 64 bits
+--     Gone h k f c w                 from the checkpoint f on records are gone through: the counts are c, and they give w
 --
 -- Laws: proofs/WordsLaws.antt, proofs/RunLaws.antt. Definitions only.
 use Rattle.std.specs.Prelude.{ℕ, ◌+◌, ◌-◌, ◌*◌, ◌/◌, ◌<◌, ◌≤◌, List, ◌≡◌, ltb, length, get_or, set, replicate}

@@ -1,6 +1,6 @@
 -- The CO2 of anodes used up. RULES, "Anodes".
 --
---     AnodesInReach m w x   metal, use and impurities that a sound book can hold
+--     AnodesInReach m w x     metal, use and impurities that a sound book can hold
 --     co2_of_anodes m w x     metal × use × (10,000 - impurities) × 3,664 / 10, in µg, to the nearest
 --
 -- Laws: proofs/AnodeLaws.antt. Definitions only.

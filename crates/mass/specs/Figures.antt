@@ -1,11 +1,11 @@
 -- What a report says of four ledgers. RULES, "Report".
 --
---     kilogram          one kilogram, in ng
+--     kilogram           one kilogram, in ng
 --     kg_of v            v ng in kilograms, a half going up
---     AllSound t        each of the four ledgers is sound
---     Mild w            warming values for which the CO2 equivalent in kilograms fits 64 bits
+--     AllSound t         each of the four ledgers is sound
+--     Mild w             warming values for which the CO2 equivalent in kilograms fits 64 bits
 --     co2e_of t w        the CO2 equivalent, in ng
---     decisive v b      what is compared with 10,000 t, for a CO2 equivalent v and biomass CO2 b
+--     decisive v b       what is compared with 10,000 t, for a CO2 equivalent v and biomass CO2 b
 --     must_report v b    whether the site must report
 --     figures_of t w     the five figures and the decision
 --

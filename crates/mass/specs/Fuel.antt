@@ -2,11 +2,11 @@
 --
 --     HeatInReach a h x     an amount, a heat and a factor that a sound book can hold
 --     CarbonInReach a c     an amount and a carbon content that a sound book can hold
---     per_carbon             µg of CO2 for each mg of carbon
---     co2_of_heat a h x       CO2 by methods 1 and 2: amount × heat × CO2 factor, in µg
---     co2_of_carbon a c       CO2 by method 3: amount × carbon × 3,664, in µg
---     trace_of_heat a h x     CH4 or N2O under every method: amount × heat in use × factor, in ng
---     high_of h              the heat of natural gas whose low value is h: 1.11 × h, to the nearest kJ, a half
+--     per_carbon            µg of CO2 for each mg of carbon
+--     co2_of_heat a h x     CO2 by methods 1 and 2: amount × heat × CO2 factor, in µg
+--     co2_of_carbon a c     CO2 by method 3: amount × carbon × 3,664, in µg
+--     trace_of_heat a h x   CH4 or N2O under every method: amount × heat in use × factor, in ng
+--     high_of h             the heat of natural gas whose low value is h: 1.11 × h, to the nearest kJ, a half
 --                           going up
 --
 -- Laws: proofs/FuelLaws.antt. Definitions only.

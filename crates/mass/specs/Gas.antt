@@ -1,6 +1,6 @@
 -- The CO2 of gas analysed by molecular weight. RULES, "Analysed gas".
 --
---     GasInReach a c w v    an amount, carbon, a molecular weight and a molar volume that a sound book can hold
+--     GasInReach a c w v      an amount, carbon, a molecular weight and a molar volume that a sound book can hold
 --     co2_of_gas a c w v      amount × carbon × molecular weight × 3,664 / molar volume, in µg, to the nearest
 --
 -- Laws: proofs/GasLaws.antt. Definitions only.

@@ -1,13 +1,13 @@
 -- What a ledger stands for, and what adding to it means. RULES, "Ledgers".
 --
 --     tonne             one tonne, in ng
---     tonnes_each        the most that one record gives to a ledger, in tonnes
---     records_foreseen   the records of the longest book foreseen
---     most_tonnes        the most that a ledger of such a book can hold, in tonnes
+--     tonnes_each       the most that one record gives to a ledger, in tonnes
+--     records_foreseen  the records of the longest book foreseen
+--     most_tonnes       the most that a ledger of such a book can hold, in tonnes
 --     total g           the mass that g stands for, in ng
 --     Canonical g       g's rest is below a tonne, so that equal totals are equal ledgers
 --     Sound g           g is canonical and holds no more than `most_tonnes`
---     ledger_of v        the ledger that stands for v ng
+--     ledger_of v       the ledger that stands for v ng
 --     added g v         g with v ng more
 --
 -- Laws: proofs/LedgerLaws.antt. Definitions only.

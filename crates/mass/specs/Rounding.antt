@@ -2,7 +2,7 @@
 --
 --     nearest_to n d    the whole number nearest to n / d, a half going to the even one
 --     half_up n d       the whole number nearest to n / d, a half going up
---     Nearest n d r    r × d is within half of d from n, and where it is just half, r is even
+--     Nearest n d r     r × d is within half of d from n, and where it is just half, r is even
 --
 -- `nearest_to` is the one number that `Nearest` allows: proofs/NearestLaws.antt. Other laws:
 -- proofs/RoundingLaws.antt. Definitions only.

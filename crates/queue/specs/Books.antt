@@ -1,6 +1,6 @@
 -- What adding and removing a book do. RULES, "Queue".
 --
---     lowest_free q       the lowest free slot, or 16
+--     lowest_free q      the lowest free slot, or 16
 --     added q n          the answer to adding a book of n records, and the queue after it
 --     removed q i        the answer to removing the book in slot i, and the queue after it
 --

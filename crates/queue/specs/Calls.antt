@@ -2,12 +2,12 @@
 --
 --     Call               a book of n records is added, the book in slot i is removed, a turn with budget b, and
 --                        such a turn whose wake is cut after the place in the round was kept
---     cut_short q b       the queue after that: the round goes on behind the slot, and every count is as it was
+--     cut_short q b      the queue after that: the round goes on behind the slot, and every count is as it was
 --     after q x          the queue after the call x
---     slot_served a       the slot that a turn's answer names, as a list of one; none if it was refused
---     served_by q x       the slot whose turn x is, if it is one that isn't refused
+--     slot_served a      the slot that a turn's answer names, as a list of one; none if it was refused
+--     served_by q x      the slot whose turn x is, if it is one that isn't refused
 --     servings q xs      the slots whose turns came among xs, in order, those that were cut included
---     after_all q xs      the queue after xs
+--     after_all q xs     the queue after xs
 --
 -- Laws: proofs/CallsLaws.antt. Definitions only.
 use Rattle.std.specs.Prelude.{ℕ, List, [], ◌∷◌, ◌++◌}

@@ -1,12 +1,12 @@
 -- What a turn does: it goes round the slots, from the one after the last served. RULES, "Queue".
 --
---     onward q k         the slot k places on from the one after the last served, going round
+--     onward q k          the slot k places on from the one after the last served, going round
 --     due_at q k          the slot there has records left
 --     passed_over q       how many places a turn passes over before one that has, or 16
 --     next_up q           the slot that a turn serves
 --     moved_at q i b      the records that a turn with budget b moves in slot i, as a wake does
---     served q i b       the answer of a turn with budget b that serves slot i, and the queue after it
---     turned q b         the answer to a turn with budget b, and the queue after it
+--     served q i b        the answer of a turn with budget b that serves slot i, and the queue after it
+--     turned q b          the answer to a turn with budget b, and the queue after it
 --
 -- Laws: proofs/RoundLaws.antt. Definitions only.
 use Rattle.std.specs.Prelude.{ℕ, ◌+◌, ◌-◌, ◌%◌, min, Bool, ltb, eqb}

@@ -6,8 +6,8 @@
 --     is_free s           s holds no book
 --     left_in s           the records left of the book in s; 0 if there is none
 --     free_at q i         slot i is free
---     stored q i s       q with s in slot i
---     lowest p n         the lowest number below n of which p holds; n if there is none
+--     stored q i s        q with s in slot i
+--     lowest p n          the lowest number below n of which p holds; n if there is none
 --
 -- Laws: proofs/SlotsLaws.antt, proofs/LowestLaws.antt. Definitions only.
 use Rattle.std.specs.Prelude.{ℕ, zero, suc, Bool, true, false, ltb, get_or, set, replicate}

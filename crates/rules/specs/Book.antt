@@ -5,18 +5,18 @@
 --     length_ok s                the length is right (else 20)
 --     starts_ok u f e            the two starts are right, the trailer starting at byte e
 --     trailer_ok t e             t is a right trailer that starts at byte e (else 21)
---     molar_volume_ok v           a fuel line may tell the molar volume v
---     unit_ok u, fuel_ok f        a line that breaks no rule, its number aside
+--     molar_volume_ok v          a fuel line may tell the molar volume v
+--     unit_ok u, fuel_ok f       a line that breaks no rule, its number aside
 --     lines_ok ok before ls      no line of ls breaks a rule, `before` being the number before them
 --     lines_sound ok s           at most `most_lines` lines in s, and none breaks a rule (else 22, 23)
---     trailer s                 the last line of a book
+--     trailer s                  the last line of a book
 --     head_of s                  what the trailer says, with n and the book's length
 --     unit_lines h s             the unit lines of a book with the head h
 --     fuel_lines h s             its fuel lines
---     opened s                  the answer to a book: the smallest number that applies, or its head
+--     opened s                   the answer to a book: the smallest number that applies, or its head
 --     fault_number x             the number of a fault
---     answer r                  the number, or the head, that r stands for
---     SetApart s s'             s and s' differ at most in the set of warming values that they name
+--     answer r                   the number, or the head, that r stands for
+--     SetApart s s'              s and s' differ at most in the set of warming values that they name
 --
 -- Laws: proofs/BookLaws.antt, proofs/ApartLaws.antt. Definitions only.
 use Rattle.std.specs.Prelude.{◌≡◌, ℕ, ◌+◌, ◌-◌, ◌/◌, ◌%◌, Bool, true, not, leb, List, [], ◌∷◌, length, ◌==◌, ◌≢◌, nat_eq, nat_le, nat_lt}

@@ -3,11 +3,11 @@
 --     byte l k        byte k of l, counting from 0
 --     word l k n      the number of the n bytes of l from byte k on
 --     zeros l k n     these n bytes are all 0
---     bytes_of n v     v in n bytes
+--     bytes_of n v    v in n bytes
 --     part a e s      the bytes of s from a up to e
 --     line k s        line k of s, counting from 0
 --     lines n s       the first n lines of s
---     lines_in s       all lines of s
+--     lines_in s      all lines of s
 --
 -- Laws: proofs/BytesLaws.antt. Definitions only.
 use Rattle.std.specs.Prelude.{ℕ, zero, suc, ◌+◌, ◌-◌, ◌*◌, ◌/◌, ◌%◌, Bool, List, [], ◌∷◌, length, take, drop, ◌==◌, slice_index, slice_range}

@@ -2,15 +2,15 @@
 -- "Anodes" and "Ledgers".
 --
 --     measured_heat l         the heat that the record gives: 1.11 times it where it is a low value
---     heat_in_use l f          the measured heat if flagged, else the fuel's default
---     co2_by_carbon l f        CO2 of the record l of the fuel f by its carbon
+--     heat_in_use l f         the measured heat if flagged, else the fuel's default
+--     co2_by_carbon l f       CO2 of the record l of the fuel f by its carbon
 --     co2_by m l f            CO2 of the record l of the fuel f by method m
 --     destination_by m f      the ledger that this CO2 goes to
 --     entry_by m l f          what the record l of the fuel f gives by method m
 --     fuel_entry l u f        what a fuel record gives
 --     co2_alone x             what a record of no fuel gives: x to the fossil ledger. It has no method, told as 0
 --     hour_entry l r          what the hour l gives by its usable readings r
---     impurities l           what of the anodes l isn't carbon, in hundredths of a percent
+--     impurities l            what of the anodes l isn't carbon, in hundredths of a percent
 --     anodes_entry l          what the anodes l give
 --
 -- Laws: proofs/EntryLaws.antt. Definitions only.

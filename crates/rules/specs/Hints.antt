@@ -1,7 +1,7 @@
 -- Where the line with a number may stand, by the last ten bits of the number. A look-up holds it against the
 -- line, so that neither RULES nor the definitions of a record need it.
 --
---     hinted n s t    t with a hint of each of the first n lines of s: its place, by the last ten bits of its number
+--     hinted n s t     t with a hint of each of the first n lines of s: its place, by the last ten bits of its number
 --     hints_in s t     t with those of all lines of s
 --
 -- Of lines whose numbers end alike the last has the hint. Where no number ends so, t is as it was.

@@ -1,16 +1,16 @@
 -- An index of unit lines and fuel lines: columns of what many records ask of them. This serves the code; RULES
 -- and the definitions of a record don't need it.
 --
---     no_number             what a column has where there is no line; it is no line's number
---     column_of u           which column of a fuel's flags counts in the unit u: that of allowed_flags or of large_flags
---     way_of u              4 if the unit has a monitor, else 0
---     moist_below u         what the moisture of its hours stays below; 0 without a monitor
---     allowed_flags f       a bit for each of the flags 0 to 7 of a record: one of the fuel f has a heat in use with them
---     large_flags f         and has a method too, in a large unit without a monitor
---     volume_of f           the molar volume of a gas, 0 of other fuel
---     Column v s o n t     the 64 entries of t from place o on are v of the first n lines of s, each in its place
---     UnitsNoted s t, FuelsNoted s t    t is the index of the unit lines, or fuel lines, s
---     Small hints          each of 1024 hints is below 64
+--     no_number                       what a column has where there is no line; it is no line's number
+--     column_of u                     which column of a fuel's flags counts in the unit u: that of allowed_flags or of large_flags
+--     way_of u                        4 if the unit has a monitor, else 0
+--     moist_below u                   what the moisture of its hours stays below; 0 without a monitor
+--     allowed_flags f                 a bit for each of the flags 0 to 7 of a record: one of the fuel f has a heat in use with them
+--     large_flags f                   and has a method too, in a large unit without a monitor
+--     volume_of f                     the molar volume of a gas, 0 of other fuel
+--     Column v s o n t                the 64 entries of t from place o on are v of the first n lines of s, each in its place
+--     UnitsNoted s t, FuelsNoted s t  t is the index of the unit lines, or fuel lines, s
+--     Small hints                     each of 1024 hints is below 64
 --
 -- Laws: proofs/IndexLaws.antt. Definitions only.
 use Rattle.std.specs.Prelude.{◌≡◌, ℕ, ◌+◌, ◌/◌, ◌<◌, List, length, ◌==◌, bit_and, nat_eq, nat_lt, slice_index}

@@ -5,7 +5,7 @@
 --     head_ok k l         the named bytes of a line of the sort k break no rule, its number aside
 --     blank_from k        the byte from which no field of such a line is named
 --     number_at k s       the number of line k of s
---     Rising s           there are at most `most_lines` lines in s, and their numbers rise strictly
+--     Rising s            there are at most `most_lines` lines in s, and their numbers rise strictly
 --
 -- Laws: proofs/ListingLaws.antt. Definitions only.
 use Rattle.std.specs.Prelude.{ℕ, ◌/◌, ◌<◌, ◌≤◌, Bool, List, length}

@@ -1,10 +1,10 @@
 -- What a table tells of a record. This serves the code; what is promised of a table doesn't need it.
 --
 --     bit_at v b            bit b of v
---     marked t j c         bit c of row j of t is set
+--     marked t j c          bit c of row j of t is set
 --     marked_at r c t       bit c is set in the row of the unit found at r
 --     was_noted l units t   the unit and period of the record l are marked in t
---     told l units t       t is a table, and they are
+--     told l units t        t is a table, and they are
 --
 -- Laws: proofs/BitLaws.antt, proofs/NotedLaws.antt. Definitions only.
 use Rattle.std.specs.Prelude.{ℕ, ◌+◌, ◌*◌, ◌/◌, ◌%◌, ◌^◌, Bool, false, List, ◌==◌, slice_index}

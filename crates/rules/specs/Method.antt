@@ -1,6 +1,6 @@
 -- Choosing the method of a fuel record. RULES, "Method".
 --
---     small u          the unit's rating is at most 250.0 MMBtu/h
+--     small u           the unit's rating is at most 250.0 MMBtu/h
 --     method_of l u f   the method of the record l of the fuel f in the unit u; 0 if none is permitted
 --
 -- Definitions only.

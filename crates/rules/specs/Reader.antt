@@ -2,12 +2,12 @@
 --
 --     sight_by a s i    the same as `sight_at`, of bytes s that were answered by a
 --     sight_at s i      the number that refuses s; or that it has no record i; or what becomes of it
---     sight r          the number or outcome that r stands for
+--     sight r           the number or outcome that r stands for
 --     kind_at s i       the kind of record i, whatever becomes of it; 0 where s has no such line
 --     left_by a i       the same as `left_from`, of bytes that were answered by a
 --     left_from s i     how many records there are from place i on; none of bytes that are refused
 --     place_after s i   the place after i; from the length of s on, i itself
---     advanced r       r at the place after its next
+--     advanced r        r at the place after its next
 --
 -- Definitions only.
 use Rattle.std.specs.Prelude.{ℕ, ◌+◌, ◌-◌, ◌/◌, List, length, nat_lt}

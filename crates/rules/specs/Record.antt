@@ -2,19 +2,19 @@
 -- "Reasons".
 --
 --     last_reason                   the highest reason
---     check t k rest               rest if t passes, else the record is set aside with reason k
---     listed x ls k rest           rest of the first line of ls with number x; set aside with reason k
---                                  if there is none
+--     check t k rest                rest if t passes, else the record is set aside with reason k
+--     listed x ls k rest            rest of the first line of ls with number x; set aside with reason k
+--                                   if there is none
 --     carbon_form l                 the flag of the carbon, and the bytes from it on, are right
 --     fuel_form l, hour_form l, anodes_form l
---                                  reason 1 doesn't apply, the moisture of an hour aside
+--                                   reason 1 doesn't apply, the moisture of an hour aside
 --     moisture_form l u             nor does it by the moisture: only a dry unit's hour has one
---     heat_limit l, carbon_limit f   the most heat and carbon that the record may give
+--     heat_limit l, carbon_limit f  the most heat and carbon that the record may give
 --     heat_range l f                the heat is in its range, if it was measured
 --     gas_range l f                 the fuel is a gas that tells its molar volume, and the analysis is in its ranges
 --     carbon_range l f              the carbon is in its range
 --     fuel_ranges l f, hour_range l, anodes_ranges l
---                                  reason 4 doesn't apply, the readings of an hour aside
+--                                   reason 4 doesn't apply, the readings of an hour aside
 --     fuel_judged l u f             what becomes of a fuel record once unit and fuel are known
 --     fuel_outcome l units fuels    what becomes of a fuel record
 --     hour_read l u x               what becomes of an hour with its readings judged
@@ -25,7 +25,7 @@
 --     outcome_of l units fuels      what becomes of a record by its own line, whatever stands before it
 --     unless_repeated b o           o; but a record that would count is set aside if it is repeated
 --     outcome_after before l units fuels
---                                  what becomes of a record, the lines before it being `before`
+--                                   what becomes of a record, the lines before it being `before`
 --     outcome_at h s i              what becomes of record i of the book s with the head h
 --
 -- Laws: proofs/RecordLaws.antt. Definitions only.

@@ -1,9 +1,9 @@
 -- Whether a record was sent before: whether its unit and its hour or month stand in an earlier record of
 -- its kind, whatever became of that one. RULES, "Reasons".
 --
---     is_of k u w l         the line l is a record of kind k, unit u and period w, whatever else it holds
+--     is_of k u w l        the line l is a record of kind k, unit u and period w, whatever else it holds
 --     stands k u w ls      one of the lines ls is
---     stands_among l ls     a record of l's kind, unit and period is among the lines ls
+--     stands_among l ls    a record of l's kind, unit and period is among the lines ls
 --     repeatable l         l is a monitor hour or anodes: a unit has one of them for each hour, or month
 --     repeated l before    l is one that stands among the lines before it
 --

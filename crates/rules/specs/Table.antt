@@ -7,15 +7,15 @@
 --     last_period k         the last hour or month that a record of kind k can have; 0 for other kinds
 --     has_bit k w           the period w of a record of kind k has a bit
 --     bit_of k w            which one
---     with_mark_at r c t     t with bit c set in the row of the unit found at r
---     noted l units t      t with the unit and period of the record l marked
+--     with_mark_at r c t    t with bit c set in the row of the unit found at r
+--     noted l units t       t with the unit and period of the record l marked
 --     noted_all ls units t  t with those of each line of ls marked
 --     is_table units t      t has a row for each unit line; no words at all are no table
---     noting l units t     the same as `noted`, if t is a table
---     Known ls units t     t, if it is a table, is that of the lines ls
+--     noting l units t      the same as `noted`, if t is a table
+--     Known ls units t      t, if it is a table, is that of the lines ls
 --     noting_by a s i t     the same as `noting_at`, of bytes s that were answered by a
 --     noting_at s i t       t once record i of s is noted; t itself where there is no such record
---     KnownAt s i t        if s is a book and has i records, t is known of these
+--     KnownAt s i t         if s is a book and has i records, t is known of these
 --
 -- Laws: proofs/TableLaws.antt. Definitions only.
 use Rattle.std.specs.Prelude.{◌≡◌, ℕ, ◌+◌, ◌-◌, ◌*◌, ◌/◌, ◌%◌, ◌^◌, ◌≤◌, Bool, true, List, [], ◌∷◌, length, set, replicate, ◌==◌, bit_or, nat_le, nat_lt, slice_index, slice_set}

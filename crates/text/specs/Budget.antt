@@ -1,6 +1,6 @@
 -- A budget as an argument: decimal digits that say a number of 32 bits.
 --
---     highest          the highest number of 32 bits
+--     highest           the highest number of 32 bits
 --     is_digit b        b is the byte of a decimal digit
 --     all_digits w      every byte of w is
 --     value_from v w    the number that the digits of v and then those of w say

@@ -1,7 +1,7 @@
 -- How a page is written, piece by piece. This serves the code: what is promised says `page_of`.
 --
 --     blank            the page with nothing on it
---     with_byte p b     p with one byte more, if there is room
+--     with_byte p b    p with one byte more, if there is room
 --     extended p t     p with t behind what is on it, as far as there is room
 --
 -- Laws: proofs/PageLaws.antt. Definitions only.

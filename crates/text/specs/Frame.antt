@@ -3,22 +3,22 @@
 --
 --     head_size                     24
 --     most_behind                   the most bytes behind a head: book, checkpoint and buffer together
---     call_in head .. out_in head    the fields of a head: call, argument, and the three lengths
---     gap_in head, blank_in head     the bytes that no field names are 0
+--     call_in head .. out_in head   the fields of a head: call, argument, and the three lengths
+--     gap_in head, blank_in head    the bytes that no field names are 0
 --     argument_ok k x               x is right beside call k: any budget (2), any index (4), else 0
 --     head_ok head                  24 bytes that break no rule of a head
 --     frame_in head                 what they say
 --     asked_in head                 the call that any bytes ask for; what is no right head stops
 --     call_answer w                 answers a fresh start or a wake that gave the reply word w
 --     number_of w                   the number in a reply word: 0 if the call was accepted
---     figure fs i                  figure i of the six that a report fills: five in kg, then the decision
---     same xs ys                   xs and ys are equal
+--     figure fs i                   figure i of the six that a report fills: five in kg, then the decision
+--     same xs ys                    xs and ys are equal
 --     figures_part fs               the figures of a report that is given
 --     change_part before after      no figures, and a 1 if a refusal changed them
 --     report_part n before after    the one or the other, by the number n
 --     report_answer w before after  answers a report that gave w and left `after` in place of `before`
 --     ledger_number d               1 fossil, 2 biomass, 0 none
---     uncounted n k m              number n, reason k and method m, with no ledger and no masses
+--     uncounted n k m               number n, reason k and method m, with no ledger and no masses
 --     told_of x                     what is told of what was seen of a record
 --     told_bytes t                  the same as bytes
 --     record_answer x               answers a look at a record that saw x

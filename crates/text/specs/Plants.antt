@@ -3,7 +3,7 @@
 --     mistake_text x    what is wrong with a line
 --     wrong_text i l    the line for line i of a list, which is l and no plant's
 --     fault_text t x    the line for the verdict x on the list t, whose lines are counted from 1; nothing if it
---                      is right
+--                       is right
 --
 -- Laws: proofs/PlantsLaws.antt. Definitions only.
 use Rattle.std.specs.Prelude.{ℕ, ◌+◌, List, [], ◌++◌}

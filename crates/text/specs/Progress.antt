@@ -7,7 +7,7 @@
 --     progress_text k c m       the same as `wake` prints it: how far it went in two lines
 --     turn_text k c m           the same as `tablet` prints it, behind a plant's name: in one line
 --     hint_text n               what an operator is told beside a refusal, behind the checkpoint's path: what 30 and
---                              31 ask for
+--                               31 ask for
 --
 -- Laws: proofs/ProgressLaws.antt. Definitions only.
 use Rattle.std.specs.Prelude.{ℕ, List, [], ◌++◌, eqb}

@@ -2,7 +2,7 @@
 --
 --     begins w t       t begins with w
 --     tells first t    a line of t tells a refusal, where t begins a line if it is first
---     has_refusal t     a line of t tells a refusal
+--     has_refusal t    a line of t tells a refusal
 --
 -- Laws: proofs/RefusalLaws.antt. Definitions only.
 use Rattle.std.specs.Prelude.{ℕ, Bool, true, false, List, [], ◌∷◌, eqb}

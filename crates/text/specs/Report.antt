@@ -1,6 +1,6 @@
 -- What is printed of a report, and what `annual` prints. RULES, "Programs" and "Numbers".
 --
---     value vs i         value i that a reply gives back
+--     value vs i          value i that a reply gives back
 --     aside_text vs       the record and its reason, which 41 gives back
 --     refused_text n vs   the line of a refusal: its number and, for 41, the record and its reason
 --     decision_text d     the line of the decision

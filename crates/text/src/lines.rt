@@ -12,6 +12,9 @@ use rules::entry::{Destination, Entry};
 use rules::reader::Seen;
 use rules::record::Outcome;
 
+// The method of an hour and of anodes.
+const NO_METHOD: u8 = 0;
+
 // The line of what is seen at place i of a book, where a record of this kind stands; none past the last
 // record.
 pub fn tell_record(i: usize, kind: u8, seen: Seen) -> Page
@@ -59,7 +62,7 @@ fn say_entry(p: Page, kind: u8, e: Entry) -> Page
 fn say_method(p: Page, kind: u8, method: u8) -> Page
     ensures said { result ≡ extended p (method_text kind method) }
 {
-    if method != 0 {
+    if method != NO_METHOD {
         return number::say_field(p, b" method ", method as u64);
     }
     if kind == 4 {
