@@ -1,6 +1,6 @@
 -- A record of kind 1 that passes the tests at one go counts, and its CO2 comes from its heat, from its carbon or
 -- from no fuel at all: from each just where the rules take it. Assumes nothing.
-use Rattle.std.proofs.Common.{◌≡◌, ℕ, ◌+◌, ◌*◌, ◌/◌, ◌%◌, ◌<◌, ◌≤◌, Bool, true, false, not, ◌&&◌, eqb, List, get_or, sym, refl, ap, ◌∙◌, ap₂, le_trans, le_of_eq, le_refl, mul-le-mul, zero-mul, mul-one, arith, lit<, eq-eqb, ne_eqb, eqb-true, le-leb, leb-true}
+use Rattle.std.proofs.Common.{◌≡◌, ℕ, ◌+◌, ◌*◌, ◌/◌, ◌%◌, ◌<◌, ◌≤◌, Bool, true, false, ◌&&◌, eqb, List, get_or, sym, refl, ap, ◌∙◌, ap₂, le_trans, le_of_eq, le_refl, mul-le-mul, zero-mul, mul-one, arith, lit<, eq-eqb, ne_eqb, eqb-true, le-leb, leb-true}
 use borrow.Author.Tests.{eqb-false}
 use Rattle.choice.proofs.Splitting.{if_test}
 use Rattle.choice.proofs.TestsLaws.{also_t, also_l, also_r, either_t, either_f, choose_t, choose_f, both, is}

@@ -10,7 +10,7 @@
 --     lines_in s      all lines of s
 --
 -- Laws: proofs/BytesLaws.antt. Definitions only.
-use Rattle.std.specs.Prelude.{ℕ, zero, suc, ◌+◌, ◌-◌, ◌*◌, ◌/◌, ◌%◌, Bool, List, [], ◌∷◌, length, take, drop, ◌==◌, slice_index, slice_range}
+use Rattle.std.specs.Prelude.{ℕ, zero, suc, ◌+◌, ◌*◌, ◌/◌, ◌%◌, Bool, List, [], ◌∷◌, length, take, drop, ◌==◌, slice_index, slice_range}
 
 abbrev pub byte : List ℕ → ℕ → ℕ
 byte l k = slice_index l k

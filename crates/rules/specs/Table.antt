@@ -18,7 +18,7 @@
 --     KnownAt s i t         if s is a book and has i records, t is known of these
 --
 -- Laws: proofs/TableLaws.antt. Definitions only.
-use Rattle.std.specs.Prelude.{◌≡◌, ℕ, ◌+◌, ◌-◌, ◌*◌, ◌/◌, ◌%◌, ◌^◌, ◌≤◌, Bool, true, List, [], ◌∷◌, length, set, replicate, ◌==◌, bit_or, nat_le, nat_lt, slice_index, slice_set}
+use Rattle.std.specs.Prelude.{◌≡◌, ℕ, ◌+◌, ◌-◌, ◌*◌, ◌/◌, ◌%◌, ◌^◌, ◌≤◌, Bool, true, List, [], ◌∷◌, length, replicate, ◌==◌, bit_or, nat_le, nat_lt, slice_index, slice_set}
 use Rattle.choice.specs.Tests.{◌also◌, choose}
 use Rattle.rules.specs.declared.book.Head.{Head}
 use Rattle.rules.specs.declared.listing.Found.{Found}

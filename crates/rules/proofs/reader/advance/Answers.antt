@@ -1,7 +1,6 @@
 -- The place after the reader's is what `step_from` gives. Assumes nothing.
 use Rattle.std.proofs.Common.{ap}
 use Rattle.rules.specs.Reader.{advanced}
-use Rattle.rules.specs.declared.reader.Reader.{Reader}
 use Rattle.rules.proofs.reader.advance.Goals as goal
 
 pub returns : goal.returns

@@ -1,5 +1,5 @@
 -- What `advance` says of the reader, field by field. Assumes nothing.
-use Rattle.std.proofs.Common.{ℕ, List, ◌∙◌, ap}
+use Rattle.std.proofs.Common.{◌∙◌, ap}
 use Rattle.rules.specs.Reader.{advanced, left_from}
 use Rattle.rules.specs.declared.reader.Reader.{Reader}
 use Rattle.rules.proofs.reader.go_past.Goals as goal
