@@ -1,5 +1,5 @@
 // The calls of the job for C: a reply is one word, and figures go to a buffer that the caller lends.
-// include/wetherstep.h declares them.
+// include/wetherstep.h declares them, and `wetherstep_c` exports them.
 ghost use Rattle.std.specs.Prelude.{◌≡◌};
 ghost use Rattle.job.specs.Reply.{figure_values, started, woken, reported, remaining};
 ghost use Rattle.job.specs.Wake.{fresh_reply, fresh_bytes, wake_reply, wake_bytes};
@@ -21,37 +21,28 @@ const UNFINISHED: u8 = 40;
 
 const RECORD_ASIDE: u8 = 41;
 
-#[unsafe(no_mangle)]
-pub extern "C" fn wetherstep_fresh(book: &[u8], out: &mut [u8]) -> u64
+pub fn wetherstep_fresh(book: &[u8], out: &mut [u8]) -> u64
     ensures word { result ≡ word_of (fresh_reply book.now out.old) }
     ensures bytes { out.new ≡ fresh_bytes book.now out.old }
 {
     tell_start(wake::fresh(book, out))
 }
 
-#[unsafe(no_mangle)]
-pub extern "C" fn wetherstep_wake(
-    book: &[u8],
-    checkpoint: &[u8],
-    budget: u32,
-    out: &mut [u8],
-) -> u64
+pub fn wetherstep_wake(book: &[u8], checkpoint: &[u8], budget: u32, out: &mut [u8]) -> u64
     ensures word { result ≡ word_of (wake_reply book.now checkpoint.now budget out.old) }
     ensures bytes { out.new ≡ wake_bytes book.now checkpoint.now budget out.old }
 {
     tell_wake(wake::wake(book, checkpoint, budget, out))
 }
 
-#[unsafe(no_mangle)]
-pub extern "C" fn wetherstep_report(book: &[u8], checkpoint: &[u8], figures: &mut [u64; 6]) -> u64
+pub fn wetherstep_report(book: &[u8], checkpoint: &[u8], figures: &mut [u64; 6]) -> u64
     ensures word { result ≡ word_of (report_reply book.now checkpoint.now) }
     ensures figures { figures.new ≡ figures_after (report_reply book.now checkpoint.now) figures.old }
 {
     tell_report(report::report(book, checkpoint), figures)
 }
 
-#[unsafe(no_mangle)]
-pub extern "C" fn wetherstep_left(book: &[u8], checkpoint: &[u8]) -> u64
+pub fn wetherstep_left(book: &[u8], checkpoint: &[u8]) -> u64
     ensures word { result ≡ word_of (left_reply book.now checkpoint.now) }
 {
     tell_left(report::count_left(book, checkpoint))

@@ -1,6 +1,5 @@
 // The look at a record for C: a reply is one word, and masses go to a buffer that the caller lends.
-// include/wetherstep.h declares it. It is a library of its own: beside a second caller the compiler no
-// longer puts the judging of a record into the loop of a wake.
+// include/wetherstep.h declares it, and `wetherstep_record_c` exports it.
 ghost use Rattle.std.specs.Prelude.{◌≡◌};
 ghost use Rattle.rules.specs.Reader.{shown, sight_at, sight};
 ghost use Rattle.wetherstep.specs.Face.{packed};
@@ -23,8 +22,7 @@ const ACCEPTED: u8 = 0;
 // In place of a method.
 const NO_RECORD: u8 = 255;
 
-#[unsafe(no_mangle)]
-pub extern "C" fn wetherstep_record(book: &[u8], index: u32, masses: &mut [u64; 3]) -> u64
+pub fn wetherstep_record(book: &[u8], index: u32, masses: &mut [u64; 3]) -> u64
     ensures word { result ≡ record_word (sight_at book.now index) }
     ensures masses { masses.new ≡ masses_after (sight_at book.now index) masses.old }
 {
