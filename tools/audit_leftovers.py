@@ -14,7 +14,7 @@ CODE = {
         | [\w.*]+ (\[.*\])? \s [-+*/%&|^<>]*= \s .* ;     | [\w:.]+ \( .* \) ;
         | [{}] [;,)]* (\s else .*)?                       | \# (\[|include|define) .*""", re.X),
     "--": re.compile(r"""
-        ((unfoldable|pub)\s)* use \s [\w·]+ \. \S .*      | pub \s (mod|data|record) \s .*
+        ((unfoldable|pub)\s)* use \s \w+ \. \S .*         | pub \s (mod|data|record) \s .*
         | unfolding (\s \S* [^\s.,;:])+                   | (data|record|module) \s .* \s where
         | ((unfoldable|abbrev|pub)\s)* \S+ \s : \s .*     | let \s .* \s = \s .*
         | (?! (.*\s)? (with|where|if|the|of|is|are|and|for|so|when|has|that|as|by|to|an) \s .* = )

@@ -4,7 +4,7 @@ import pathlib
 import re
 import subprocess
 
-Function = collections.namedtuple("Function", "crate file name lent result clauses")
+Function = collections.namedtuple("Function", "crate file name takes lent result clauses")
 
 
 def read(path):
@@ -36,17 +36,23 @@ def tracked_texts(root):
 
 
 def crates_of(root):
-    return re.findall(r"^(\w+)\s*:", read(root / "crates.txt"), re.M)
+    return re.findall(r"^(\w+)(?: staticlib)?\s*:", read(root / "crates.txt"), re.M)
+
+
+def is_exporting(root, crate):
+    """Whether the crate is a static library, whose functions C calls and no other crate."""
+    return bool(re.search(rf"^{crate} staticlib\s*:", read(root / "crates.txt"), re.M))
 
 
 def is_library(root, crate):
-    return not (root / "crates" / crate / "src/main.rt").exists()
+    is_program = (root / "crates" / crate / "src/main.rt").exists()
+    return not is_program and not is_exporting(root, crate)
 
 
 def clauses_at(text, at):
     """Gives the kind, name and term of each clause from `at` on, up to the function's body."""
     found = []
-    while clause := re.compile(r"\s*([a-z]+)\s*(\w*)\s*\{").match(text, at):
+    while clause := re.compile(r"\s*([a-z]+\*?)\s*(\w*)\s*\{").match(text, at):
         depth, at = 1, clause.end()
         while depth:
             depth += (text[at] == "{") - (text[at] == "}")
@@ -56,9 +62,12 @@ def clauses_at(text, at):
 
 
 def public_functions(root, crate):
-    """Gives none of a program, whose functions no other crate calls."""
-    if not is_library(root, crate):
-        return
+    """Gives none of a program or of a static library, whose functions no other crate calls."""
+    return functions_of(root, crate) if is_library(root, crate) else []
+
+
+def functions_of(root, crate):
+    """Gives the functions of a crate that are marked as public."""
     source = root / "crates" / crate / "src"
     header = r'^( *)pub (?:extern "" )?fn (\w+)([^{]*?)(?=\s*\{|\s+(?:ghost|requires|ensures)\b)'
     for file in sorted(source.rglob("*.rt")):
@@ -71,7 +80,9 @@ def public_functions(root, crate):
             name = "::".join([crate, *module, *owner, found[2]])
             lent = len(re.findall(r"&(?:'\w+ )?mut\b", takes))
             clauses = clauses_at(text, found.end())
-            yield Function(crate, file.relative_to(root), name, lent, result.strip(), clauses)
+            takes = "".join(takes.split()).replace(",)", ")")
+            yield Function(crate, file.relative_to(root), name, takes, lent, result.strip(),
+                           clauses)
 
 
 def public_definitions(root, crate):

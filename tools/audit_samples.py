@@ -13,13 +13,14 @@ target/
 # The layers.
 mass:
 job: mass
-files: io libc
-show: job files io libc
+files:
+job_c staticlib: job
+show: job files
 === crates/mass/src/lib.rt
 pub mod ledger;
 === crates/mass/src/ledger.rt
 // The parser passes over a `pub fn` in a comment. A tonne is 10^15 ng; the rest is below it.
-ghost use Rattle·mass·specs.specs.Ledger.{added, Few, restOf};
+ghost use Rattle.mass.specs.Ledger.{added, Few, rest_of};
 
 pub struct Ledger {
     pub rest: u64,
@@ -27,7 +28,7 @@ pub struct Ledger {
 
 impl Ledger {
     pub fn rest(self) -> u64
-        ensures rest { λ r. ⌜ r ≡ restOf self ⌝ }
+        ensures rest { result ≡ rest_of self }
     {
         let quoted = b"pub fn quoted() { // ";
         self.rest
@@ -40,8 +41,8 @@ pub(crate) fn carry(x: u64) -> u64 {
 
 // The sum may pass a tonne.
 pub fn add(g: Ledger, x: u64) -> Ledger
-    requires few { ⌜ Few g ⌝ }
-    ensures exact { λ r. ⌜ r ≡ added g x ⌝ }
+    requires few { Few g }
+    ensures exact { result ≡ added g x }
 {
     Ledger { rest: g.rest + x }
 }
@@ -51,67 +52,67 @@ pub fn add(g: Ledger, x: u64) -> Ledger
 --     added g x    g with x ng more
 --     Few g        g has room: 10^8 units × 200,000 kJ × 200,000 mg/MJ is 4 × 10^18
 unfoldable pub added : Ledger → ℕ → Ledger
-added g x = record { rest = g .rest + x }
+added g x = record { rest = g.rest + x }
 
 abbrev pub Few : Ledger → Type 0
-Few g = g .rest < tonne
+Few g = g.rest < tonne
 
-pub restOf : Ledger → ℕ
-restOf g = g .rest
+pub rest_of : Ledger → ℕ
+rest_of g = g.rest
 
 pub data Kind : Type 0 where
   whole : Kind
 
 -- Only a promise reaches it, by the infix name.
-unfoldable pub _within_ : Ledger → Kind → Type 0
-_within_ g whole = Few g
+unfoldable pub ◌within◌ : Ledger → Kind → Type 0
+◌within◌ g whole = Few g
 
 pub record Whole (g : Ledger) : Type 0 where
   pub below : Few g
 === crates/mass/specs/Carry.antt
-use Rattle·mass·specs.specs.Ledger as ledger
+use Rattle.mass.specs.Ledger as ledger
 
 pub carried : Ledger → Ledger
 carried g = ledger.added g 0
 === crates/mass/proofs/LedgerLaws.antt
-use Rattle·mass·specs.specs.Ledger.{added, Whole}
+use Rattle.mass.specs.Ledger.{added, Whole}
 
 pub whole-added : (g : Ledger) → Whole g
     → Whole (added g 0)
 whole-added g w = w
 === crates/mass/proofs/Unique.antt
-use Rattle·mass·proofs.proofs.ledger.Ledger.rest.Reads as rest
-use Rattle·mass·proofs.proofs.ledger.add.Reads as add
+use Rattle.mass.proofs.ledger.Ledger.rest.Reads as rest
+use Rattle.mass.proofs.ledger.add.Reads as add
 
-pub rest-unique : (κs : _) (a : _) (r s : _) (x y : _)
+pub rest_unique : (κs : _) (a : _) (r s : _) (x y : _)
     → rest.Post κs a r x → rest.Post κs a s y → r ≡ s
-rest-unique κs a r s x y p q = p ∙ sym q
+rest_unique κs a r s x y p q = p ∙ sym q
 
-pub add-unique : (κs : _) (a : _) (r s : _) (x y : _)
+pub add_unique : (κs : _) (a : _) (r s : _) (x y : _)
     → add.Post κs a r x → add.Post κs a s y → r ≡ s
-add-unique κs a r s x y p q = p ∙ sym q
+add_unique κs a r s x y p q = p ∙ sym q
 === crates/mass/must-fail/ledger_rest_is_the_carry.edit
 # the rest is what is left of the sum
 file: src/ledger.rt
 old: g.rest + x
 new: g.rest - x
 === crates/job/src/lib.rt
-ghost use Rattle·job·specs.specs.Wake.{woken, tailOf};
+ghost use Rattle.job.specs.Wake.{woken, tail_of};
 
-#[no_mangle]
-pub extern "C" fn wake(
+#[tactic(auto, unfolding(crate::specs::Wake::woken))]
+pub fn wake(
     book: &[u8],
     out: &mut [u8],
     log: &'a mut [u8],
 ) -> u32
-    ensures answer { λ r. ⌜ r ≡ woken (now (book .entry)) ⌝ }
-    ensures kept { λ _. ⌜ now (out .exit) ≡ now (out .entry) ⌝ }
+    ensures answer { result ≡ woken book.now }
+    ensures kept { out.new ≡ out.old }
 {
     0
 }
 
 pub fn tail(book: &[u8]) -> &[u8]
-    ensures tail { λ r. ⌜ now r ≡ tailOf (now (book .entry)) ⌝ }
+    ensures tail { result.now ≡ tail_of book.now }
 {
     &book[1..]
 }
@@ -119,57 +120,69 @@ pub fn tail(book: &[u8]) -> &[u8]
 pub fn pick(book: &[u8]) -> u8 {
     0
 }
+=== crates/job_c/src/lib.rt
+ghost use Rattle.job.specs.Wake.{woken};
+
+#[unsafe(no_mangle)]
+pub extern "C" fn wake(book: &[u8], out: &mut [u8], log: &'a mut [u8]) -> u32
+    ensures answer { result ≡ woken book.now }
+    ensures kept { out.new ≡ out.old }
+{
+    job::wake(book, out, log)
+}
 === crates/job/specs/Wake.antt
 pub woken : List ℕ → ℕ
 woken b = 0
 
-pub tailOf : List ℕ → List ℕ
-tailOf b = drop 1 b
+pub tail_of : List ℕ → List ℕ
+tail_of b = drop 1 b
 === crates/job/proofs/Demands.antt
-use Rattle·mass.specs.Ledger.{added, restOf, _within_, whole}
-use Rattle·job·specs.specs.Wake as wake
-use Rattle·files.specs.Got.{Within}
+use Rattle.mass.specs.Ledger.{added, rest_of, ◌within◌, whole}
+use Rattle.job.specs.Wake as wake
+use Rattle.files.specs.Got.{Within}
 
 pub record Demand (g : Ledger) : Type 0 where
-  pub kept : restOf (added g 0) ≡ wake.woken []
+  pub kept : rest_of (added g 0) ≡ wake.woken []
   pub held : g within whole
-  pub read : Within (length (wake.tailOf [])) []
+  pub read : Within (length (wake.tail_of [])) []
 === crates/job/proofs/Unique.antt
-use Rattle·job·proofs.proofs.wake.Reads as wake
-use Rattle·job·proofs.proofs.tail.Reads as tail
+use Rattle.job.proofs.wake.Reads as wake
+use Rattle.job.proofs.tail.Reads as tail
 
-pub wake-unique : (κs : _) (a : _) (r s : _) (x y : _)
+pub wake_unique : (κs : _) (a : _) (r s : _) (x y : _)
     → wake.Post κs a r x → wake.Post κs a s y → r ≡ s
-wake-unique κs a r s x y p q = p .0 ∙ sym (q .0)
+wake_unique κs a r s x y p q = p.0 ∙ sym q.0
 
-pub wake-out-unique : (κs : _) (a : _) (r s : _) (x y : _)
-    → wake.Post κs a r x → wake.Post κs a s y → now (x .1 .0) ≡ now (y .1 .0)
-wake-out-unique κs a r s x y p q = p .1 ∙ sym (q .1)
+pub wake_out_unique : (κs : _) (a : _) (r s : _) (x y : _)
+    → wake.Post κs a r x → wake.Post κs a s y → x.1.0.now ≡ y.1.0.now
+wake_out_unique κs a r s x y p q = p.1 ∙ sym q.1
 
-pub wake-log-unique : (κs : _) (a : _) (r s : _) (x y : _)
-    → wake.Post κs a r x → wake.Post κs a s y → now (x .1 .1 .0) ≡ now (y .1 .1 .0)
-wake-log-unique κs a r s x y p q = p .2 ∙ sym (q .2)
+pub wake_log_unique : (κs : _) (a : _) (r s : _) (x y : _)
+    → wake.Post κs a r x → wake.Post κs a s y → x.1.1.0.now ≡ y.1.1.0.now
+wake_log_unique κs a r s x y p q = p.2 ∙ sym q.2
 
-pub tail-unique : (κs : _) (a : _) (r s : _) (x y : _)
-    → tail.Post κs a r x → tail.Post κs a s y → now r ≡ now s
-tail-unique κs a r s x y p q = p ∙ sym q
-=== crates/job/proofs/wake/Proof.antt
+pub tail_unique : (κs : _) (a : _) (r s : _) (x y : _)
+    → tail.Post κs a r x → tail.Post κs a s y → r.now ≡ s.now
+tail_unique κs a r s x y p q = p ∙ sym q
+=== crates/job/proofs/wake/Answers.antt
 -- The lem that the place is below the end?
-use lib.ListN.{take}
-use Rattle·mass.specs.Ledger.{added as plus, restOf}
-use Rattle·mass.specs.Ledger as ledger
-use Rattle·job·specs.specs.Wake.{woken}
+use Rattle.std.specs.Prelude.{take}
+use Rattle.mass.specs.Ledger.{added as plus, rest_of}
+use Rattle.mass.specs.Ledger as ledger
+use Rattle.job.specs.Wake.{woken}
 
-returns : tie.Need-returns
+pub returns : goal.returns
 unfolding woken take
 returns c = unfold woken in lemma-of c plus "?"
 === crates/files/src/lib.rt
-ghost use Rattle·files·specs.specs.Got.{Within};
+ghost use Rattle.files.specs.Got.{Within};
 
-pub fn read_all(fd: i32, buf: &mut [u8]) -> usize
-    ensures within { λ r. ⌜ Within r (now (buf .exit)) ⌝ }
+use std::fs::File;
+
+pub fn read_all(file: &File, buf: &mut [u8]) -> usize
+    ensures within { Within result buf.new }
 {
-    io::read_full(fd, buf)
+    file.read_full(buf)
 }
 === crates/files/specs/Got.antt
 pub Within : ℕ → List ℕ → Type 0
@@ -193,7 +206,7 @@ fn main() {}
 0010  20
 ```
 === crates/rules/proofs/Sample.antt
-sampleBook =
+sample_book =
     0x01 ∷ 0xff
     ∷ 0x20
     ∷ []
@@ -204,7 +217,7 @@ sampleBook =
 
 ### `mass::ledger::Ledger::rest`
 
-- Gives: `restOf` (specs/Ledger.antt).
+- Gives: `rest_of` (specs/Ledger.antt).
 - Shuts out: 1. the tonnes. 2. the carry.
 
 ### `mass::ledger::add`
@@ -223,7 +236,7 @@ sampleBook =
 
 ### `job::tail`
 
-- Gives: `tailOf`.
+- Gives: `tail_of`.
 - Shuts out: 1. the head. 2. the whole.
 
 ## files
@@ -245,40 +258,43 @@ sampleBook =
 #!/bin/sh
 # The parts run in this order: proofs first.
 exit 0
-=== target/log/mass.out
+=== target/rt-ci.log
+== mass
 fn mass::ledger::add: proved
 logic=proved functions=3 sum=064d native=nat,char,string logic-built=trusted
-rt: mass proved (6 s)
-=== target/log/job.out
-logic=proved functions=3 sum=064d
-=== target/log/files.out
-library libc: modules loaded=11 checked=0
+rt: mass proved
+rt: job is kept: an earlier run on this machine proved the same files over the same libraries
+== files: its tests
+logic=proved tests=1 functions=2 axioms=2 sum=064d
+rt: files: its tests are proved
+== files
 logic=proved functions=1 sum=064d
-=== target/log/show.out
-library libc: modules loaded=11 checked=0
-logic=proved functions=1 axioms=2 sum=064d
-=== target/must-fail/mass/ledger_rest_is_the_carry/.log
-proofs/ledger/add/Proof.antt:25:45: error: `returns`: the two types differ
-proofs/ledger/add/Proof.antt:28:82: error: `sub`: module `Tie` has no `Need-sub` that can be named
-logic=not-proved
+rt: files proved
+== job_c
+axioms libc: none reached of the 128 declared
+logic=proved functions=1 sum=064e
+rt: job_c proved
+== show
+logic=proved functions=1 axioms=2 sum=064f
+rt: show proved
+rt: must-fail mass/ledger_rest_is_the_carry.edit: refused, as it must be: note: src/ledger.rt:23:1: it isn't proved
 """
 
 LEDGER, WAKE = "crates/mass/src/ledger.rt", "crates/job/src/lib.rt"
-SPEC, PROOF = "crates/mass/specs/Ledger.antt", "crates/job/proofs/wake/Proof.antt"
-FILES = "crates/files/src/lib.rt"
+SPEC, PROOF = "crates/mass/specs/Ledger.antt", "crates/job/proofs/wake/Answers.antt"
+FILES, EXPORTS = "crates/files/src/lib.rt", "crates/job_c/src/lib.rt"
 MASS_LAWS, JOB_LAWS = "crates/mass/proofs/Unique.antt", "crates/job/proofs/Unique.antt"
-PAGE, TRUST, LOG = "docs/CONTRACTS.md", "docs/TRUST.md", "target/log/mass.out"
-EDIT_LOG = "target/must-fail/mass/ledger_rest_is_the_carry/.log"
+PAGE, TRUST, LOG = "docs/CONTRACTS.md", "docs/TRUST.md", "target/rt-ci.log"
 
 # The rule, the file, old text, new text, and words of the fault. A file of no old text is removed.
 EDITS = [
-    ("ensures", LEDGER, "    ensures exact { λ r. ⌜ r ≡ added g x ⌝ }\n", "", "add has no ensures"),
+    ("ensures", LEDGER, "    ensures exact { result ≡ added g x }\n", "", "add has no ensures"),
     ("ensures", LEDGER, "ensures rest {", "ghost rest {", "Ledger::rest has no ensures"),
-    ("ensures", FILES, "    ensures within { λ r. ⌜ Within r (now (buf .exit)) ⌝ }\n", "",
+    ("ensures", FILES, "    ensures within { Within result buf.new }\n", "",
      "files::read_all has no ensures"),
     ("entry", PAGE, "### `files::read_all`", "### read_all", "files::read_all has no entry"),
     ("entry", PAGE, "### `mass::ledger::Ledger::rest`", "### rest", "Ledger::rest has no entry"),
-    ("entry", PAGE, "Gives: `added`", "Gives: `restOf`", "add has an entry whose Gives"),
+    ("entry", PAGE, "Gives: `added`", "Gives: `rest_of`", "add has an entry whose Gives"),
     ("entry", SPEC, "unfoldable pub added", "added", "add has an entry whose Gives"),
     ("entry", PAGE, "2. an addition in µg", "An addition in µg", "doesn't shut out two"),
     ("entry", PAGE, "1. the tonnes. 2. the", "1. `tonnes`. 2. the", "doesn't shut out two"),
@@ -298,27 +314,39 @@ EDITS = [
      "add has no import of its Reads"),
     ("unique", MASS_LAWS, "y → r ≡ s\nadd", "y → r ≡ r\nadd", "no law that ends in r ≡ s"),
     ("unique", MASS_LAWS, "add.Post κs a s y", "rest.Post κs a s y", "no law that ends in r ≡ s"),
-    ("unique", MASS_LAWS, "pub add-unique", "add-unique", "no law that ends in r ≡ s"),
-    ("unique", JOB_LAWS, "now (y .1 .1 .0)", "now (x .1 .1 .0)",
-     "2 &mut parameters and laws for 1"),
-    ("unique", JOB_LAWS, "now (x .1 .1 .0) ≡ now (y .1 .1 .0)", "now (x .1 .0) ≡ now (y .1 .0)",
-     "laws for 1"),
-    ("requires", WAKE, "    ensures answer", "    requires any { ⌜ ⊤ ⌝ }\n    ensures answer",
-     "wake has a requires"),
-    ("requires", FILES, "    ensures within", "    requires any { ⌜ ⊤ ⌝ }\n    ensures within",
+    ("unique", MASS_LAWS, "pub add_unique", "add_unique", "no law that ends in r ≡ s"),
+    ("unique", JOB_LAWS, "→ r.now ≡ s.now", "→ r ≡ s", "no law that ends in r.now ≡ s.now"),
+    ("unique", JOB_LAWS, "y.1.1.0.now", "x.1.1.0.now", "2 &mut parameters and laws for 1"),
+    ("unique", JOB_LAWS, "x.1.1.0.now ≡ y.1.1.0.now", "x.1.0.now ≡ y.1.0.now", "laws for 1"),
+    ("requires", WAKE, "    ensures tail", "    requires any { ⊤ }\n    ensures tail",
+     "tail has a requires"),
+    ("requires", FILES, "    ensures within", "    requires any { ⊤ }\n    ensures within",
      "files::read_all has a requires"),
     ("requires", LEDGER, "requires few {", "requires {", "a requires with no name"),
     ("requires", LEDGER, "requires few {", "requires many {", "asks many, and its entry"),
     ("unfolding", PROOF, "unfolding woken", "unfolding plus woken", "unfolds plus"),
-    ("unfolding", PROOF, "unfolding woken take", "unfolding woken\n    restOf", "unfolds restOf"),
+    ("unfolding", PROOF, "unfolding woken take", "unfolding woken\n    rest_of", "unfolds rest_of"),
     ("unfolding", PROOF, "unfolding woken", "unfolding ledger.added", "unfolds ledger.added"),
-    ("unfolding", PROOF, "unfolding woken", "unfolding Rattle·mass.specs.Ledger.added",
-     "unfolds Rattle·mass"),
+    ("unfolding", PROOF, "unfolding woken", "unfolding Rattle.mass.specs.Ledger.added",
+     "unfolds Rattle.mass"),
     ("unfolding", PROOF, "unfold woken in", "unfold woken plus in", "unfolds plus"),
-    ("unfolding", PROOF, "{added as plus, restOf}\n", "*\nuse lib.Sum.{plus}\nunfolding restOf\n",
-     "unfolds restOf"),
+    ("unfolding", PROOF, "{added as plus, rest_of}\n", "*\nuse lib.Sum.{plus}\nunfolding rest_of\n",
+     "unfolds rest_of"),
+    ("unfolding", WAKE, "unfolding(crate::specs::Wake::woken)",
+     "unfolding(crate::specs::Wake::woken, mass::specs::Ledger::added)",
+     "has mass::specs::Ledger::added of another crate unfolded"),
+    ("export", EXPORTS, "out.new ≡ out.old", "out.new ≡ book.now", "else than job::wake"),
+    ("export", EXPORTS, "ensures answer { result ≡ woken book.now }\n    ", "",
+     "else than job::wake"),
+    ("export", EXPORTS, "-> u32", "-> u64", "else than job::wake"),
+    ("export", EXPORTS, "book: &[u8], out: &mut [u8]", "out: &mut [u8], book: &[u8]",
+     "else than job::wake"),
+    ("export", EXPORTS, "fn wake(", "fn job_wake(", "what 0 functions"),
+    ("system", WAKE, "pub fn pick(", "use std::fs;\n\npub fn pick(", "names fs of std"),
+    ("system", WAKE, "pub fn pick(", "use std::{fmt, io};\n\npub fn pick(", "names io of std"),
+    ("system", LEDGER, "pub fn add(", "fn print(rt: HostRuntime) {}\n\npub fn add(", "Runtime"),
     ("reading", "crates/job/proofs/Demands.antt", "  pub held : g within whole\n", "",
-     "has Kind, _within_, whole, which nothing promised reaches"),
+     "has Kind, whole, ◌within◌, which nothing promised reaches"),
     ("reading", TRUST, "`whole-added` of", "`whole-added` in", "has Whole, which nothing promised"),
     ("reading", TRUST, "[Wake](../crates/job/specs/Wake.antt)", "Wake", "not listed in docs/TRUST.md"),
     ("reading", TRUST, "[Got](", "[Got](../crates/files/specs/Got.antt), [Got](", "docs/TRUST.md"),
@@ -330,26 +358,32 @@ EDITS = [
     ("sample", "crates/rules/proofs/Sample.antt", "    ∷ 0x20\n", "", "prints another book"),
     ("axiom", PROOF, "lemma-of c", "Prim.lem c", "uses lem"),
     ("axiom", PROOF, "lemma-of c", "(ac c)", "uses ac"),
+    ("axiom", PROOF, "pub returns", "axiom pub told : ⊥\npub returns", "uses axiom"),
     ("hole", PROOF, "lemma-of c", "(lemma-of ?)", "has a hole"),
     ("hole", PROOF, "lemma-of c", "{! lemma-of c !}", "has a hole"),
-    ("edit", EDIT_LOG, "`returns`: the two types differ", "module `Tie` has no `Need-mul` that",
+    ("edit", LOG, "be: note: src", "be (only because a proof file names what the edit took away): src",
      "shape"),
-    ("edit", EDIT_LOG, None, None, "has no log"),
+    ("edit", LOG, "be: note: src", "be (only by a limit of the prover): src", "by a limit"),
+    ("edit", LOG, "refused, as it must be", "NOT REFUSED", "isn't refused"),
+    ("edit", LOG, "refused, as it must be", "BAD EDIT", "isn't refused"),
+    ("edit", LOG, "rt: must-fail mass", "rt: must-fail job", "is tried 0 times"),
     ("check", LOG, "functions=3", "functions=3 axioms=2", "is proved with axioms=2"),
     ("check", LOG, "functions=3", "functions=3 foreign=f", "is proved with foreign=f"),
-    ("check", LOG, "logic=", "library libc: modules loaded=11\nlogic=", "is proved with libc"),
-    ("check", "target/log/files.out", "functions=1", "functions=1 axioms=2",
-     "is proved with axioms=2"),
-    ("check", LOG, "logic=proved", "logic=not-proved", "no log of a proved check"),
-    ("check", LOG, None, None, "no log of a proved check"),
+    ("check", LOG, "functions=1 sum=064d", "functions=1 axioms=2", "is proved with axioms=2"),
+    ("check", LOG, "functions=1 sum=064e", "functions=1 axioms=2", "is proved with axioms=2"),
+    ("check", LOG, "logic=proved", "logic=not-proved", "isn't proved by"),
+    ("check", LOG, "rt: mass proved", "rt: mass NOT PROVED", "isn't proved by"),
+    ("check", LOG, "rt: job is kept", "rt: job is lost", "isn't proved by"),
+    ("law", TRUST, "stays whole.", "stays whole. `none` of [LedgerLaws]"
+     "(../crates/mass/proofs/LedgerLaws.antt) says more.", "names none, which"),
     ("leftover", "run.sh", "proofs first", "TODO", "line 2 has a mark of open work"),
     ("leftover", LEDGER, "    x\n}", "    // let y = x;\n    x\n}", "line 18 is code"),
     ("leftover", LEDGER, "// The sum may", "// self.rest = g;\n// The sum may", "is code"),
-    ("leftover", WAKE, "#[no_mangle]", "// use mass::ledger;\n#[no_mangle]", "line 3 is code"),
-    ("leftover", PROOF, "use lib", "-- use lib", "line 2 is code"),
+    ("leftover", WAKE, "#[tactic", "// use mass::ledger;\n#[tactic", "line 3 is code"),
+    ("leftover", PROOF, "use Rattle.std", "-- use Rattle.std", "line 2 is code"),
     ("leftover", PROOF, "unfolding", "-- unfolding", "is code"),
     ("leftover", SPEC, "--     added g x    g with x ng more", "-- pub total : Ledger → ℕ", "is code"),
-    ("leftover", SPEC, "--     added g x    g with x ng more", "-- total g = tonne + g .rest", "is code"),
+    ("leftover", SPEC, "--     added g x    g with x ng more", "-- total g = tonne + g.rest", "is code"),
     ("leftover", "run.sh", "exit 0", '# rm -f "$log"\nexit 0', "line 3 is code"),
     ("leftover", "run.sh", "exit 0", "# import os\n# count = 0\nexit 0", "is code"),
 ]

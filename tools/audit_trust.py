@@ -14,7 +14,7 @@ Module = collections.namedtuple("Module", "definitions names aliases")
 
 def imports_of(text):
     """Gives {name: (crate, module, its name there)} and {alias: (crate, module)}."""
-    line = (r"^(?:\w+ )*use Rattle·(\w+)(?:·specs)?\.(?:specs\.)+([A-Z]\w*)"
+    line = (r"^(?:\w+ )*use Rattle\.(\w+)\.specs\.([A-Z]\w*)"
             r"(?:\.\{([^}]*)\}| as (\S+?));?$")
     found, aliases = {}, {}
     for crate, module, several, alias in re.findall(line, text, re.M):
@@ -56,21 +56,33 @@ def modules_of(root):
 def cited(text, modules, names, aliases, own=None):
     """Gives the (module, name) of each definition that the text cites."""
     words = set(re.split(r"[\s(){}\[\];,⌜⌝«»]+", text))
+    # A field stands tight behind what it is of.
+    bare = words | {word.partition(".")[0] for word in words}
     known = {name: (own, name) for name in modules[own].definitions} if own else {}
     known |= {name: (place[:2], place[2]) for name, place in names.items()}
     for name, place in known.items():
-        if (name.strip("_") if name[0] == "_" else name) in words and place[0] in modules:
+        if name.strip("◌") in bare and place[0] in modules:
             yield place
     for word in words:
-        alias, _, name = word.partition(".")
-        if alias in aliases and name:
-            yield aliases[alias], name
+        alias, *named = word.split(".")
+        if alias in aliases and named:
+            yield aliases[alias], named[0]
+
+
+def laws_of(root):
+    """Gives {(path, law): its statement} of each law that the page names, or None where it isn't there."""
+    named = re.findall(r"`([^`]+)`\s+of\s+\[\w+\]\(\.\./([^)]+\.antt)\)", read(root / TRUST))
+    found = {}
+    for law, path in named:
+        text = without_comments(read(root / path), "--")
+        statement = re.search(rf"^ *(?:pub )?{re.escape(law)} :.*?(?=^ *\S+ [^\n]*=|^ *unfolding)", text,
+                              re.M | re.S)
+        found[path, law] = statement and statement[0]
+    return found
 
 
 def roots_of(root, modules):
     """Gives what public contracts, promises and the laws that the page names cite."""
-    laws = {(path, law) for law, path in re.findall(r"`([^`]+)`\s+of\s+\[\w+\]\(\.\./([^)]+)\)",
-                                                   read(root / TRUST))}
     for crate in crates_of(root):
         home = root / "crates" / crate
         for function in public_functions(root, crate):
@@ -80,11 +92,9 @@ def roots_of(root, modules):
         text = without_comments(read(home / PROMISES), "--")
         yield from cited(re.sub(r"^(?:\w+ )*use .*$", "", text, flags=re.M), modules,
                          *imports_of(text))
-    for path, law in laws:
+    for (path, _), statement in laws_of(root).items():
         text = without_comments(read(root / path), "--")
-        found = re.search(rf"^ *(?:pub )?{re.escape(law)} :.*?(?=^ *\S+ [^\n]*=|^ *unfolding)", text,
-                          re.M | re.S)
-        yield from cited(found[0] if found else "", modules, *imports_of(text))
+        yield from cited(statement or "", modules, *imports_of(text))
 
 
 def reached(root, modules):
@@ -111,7 +121,7 @@ def sample_faults(page, proofs):
     """Compares the one book that the page prints with the one that is proved accepted."""
     block = re.search(r"^## One book\n.*?```\n(.*?)```", page, re.M | re.S)
     printed = re.findall(r"(?<= )[0-9a-f]{2}\b", block[1]) if block else []
-    proved = re.search(r"^sampleBook =\n(.*?)\[\]", proofs, re.M | re.S)
+    proved = re.search(r"^sample_book =\n(.*?)\[\]", proofs, re.M | re.S)
     listed = re.findall(r"0x([0-9a-f]{2})\b", proved[1]) if proved else []
     return [] if printed and printed == listed else [f"prints another book than {SAMPLE} has"]
 
@@ -134,6 +144,8 @@ def trust_results(root):
         if not inside and place in listed:
             faults.append(f"serves the code alone, and is listed in {TRUST}")
         yield "reading", f"crates/{crate}/specs/{name}.antt:", faults
+    for (path, law), statement in laws_of(root).items():
+        yield "law", f"{TRUST}:", [] if statement else [f"names {law}, which {path} has not"]
     yield "sample", f"{FORMAT}:", sample_faults(read(root / FORMAT), read(root / SAMPLE))
     for row, lines in rows_of(page):
         count = sum(len(read(root / "crates" / c / "specs" / f"{m}.antt").splitlines())
