@@ -136,7 +136,7 @@ def programs_for_nobody(programs):
         return
     with tempfile.TemporaryDirectory() as folder:
         home = pathlib.Path(folder)
-        for path in ("tools/program", "target/bin/wake"):
+        for path in ("tools/program", "crates/wake/out/wake"):
             (home / path).parent.mkdir(parents=True)
             shutil.copy(ROOT / path, home / path)
         for path in (home, *home.rglob("*")):

@@ -1,9 +1,8 @@
-"""The commands that run the programs: `tools/program`, which gives them a status and touches
-nothing that they read or print, `./run`, which runs the job on a book to its end, and `tools/book
-explain`, which asks `lines`; and a program by itself, as another machine has it."""
+"""The commands that run the programs: `tools/program`, which touches nothing that they read or
+print, `./run`, which runs the job on a book to its end, and `tools/book explain`, which asks `lines`;
+and a program by itself, as another machine has it."""
 import os
 import pathlib
-import platform
 import re
 import shutil
 import signal
@@ -14,8 +13,9 @@ from program_books import book, fuel_record, unit_line
 from program_copy import correct
 from program_jobs import job_on, plan_by_lines
 from program_replay import FRESH, START, STARTED, answer, frame
-from program_runs import MISUSED, PATIENCE, PLANT, ROOT, TURNED_AWAY, WORKED, Answer, Wrong
-from program_runs import expect, expect_answer, expect_failure, expect_told, kill, memory_folder
+from program_runs import FAILED, MISUSED, PATIENCE, PLANT, ROOT, TURNED_AWAY, WORKED, Answer
+from program_runs import Wrong, ended_by, expect, expect_answer, expect_failure, expect_line
+from program_runs import expect_told, kill, memory_folder
 
 EVERY_BYTE = bytes(range(256)) * 3
 ASIDE = book([fuel_record()] * 150, [unit_line(rating=2501)])
@@ -55,7 +55,7 @@ def try_descriptors(programs, cases):
             for _ in range(2):
                 expect_answer(programs.run("annual", data=ONE, stdout=file), WORKED, None)
         expect(path.read_bytes(), 2 * EXAMPLE, "the file")
-    with cases.case("tools/program: no status goes to a descriptor of the caller"), \
+    with cases.case("tools/program: nothing goes to another descriptor of the caller"), \
             memory_folder() as folder:
         path = pathlib.Path(folder, "mine")
         script = 'exec "$@" 3>"$0" 4>>"$0" 5>>"$0"'
@@ -64,41 +64,33 @@ def try_descriptors(programs, cases):
         expect(path.read_bytes(), b"", "what the caller's file has")
 
 
-def run_plainly(name, path, program, *args, data=b""):
-    """The built program under a name, without tools/program, and with a file as descriptor 3."""
-    kit = pathlib.Path(run_command("rt", "doc").out.decode().strip()).parent.parent
-    tools = kit / "on" / platform.machine() / "toolchain"
-    emulator = [tools / "bin/qemu-x86_64"] if (tools / "bin/qemu-x86_64").exists() else []
-    command = [*emulator, tools / "lib/ld-linux-x86-64.so.2", "--argv0", name, "--library-path",
-               tools / "lib", ROOT / "target/bin" / program, *args]
-    return run_command("sh", "-c", 'exec "$@" 3>"$0"', path, *command, input=data)
+def run_plainly(name, program, *args, data=b""):
+    """The built program under a name, without tools/program."""
+    path = ROOT / "crates" / program / "out" / program
+    return run_command("bash", "-c", 'exec -a "$0" "$@"', name, path, *args, input=data)
 
 
 def try_names(_, cases):
-    """A program writes its status as a digit, and only if its name asks for it."""
-    runs = {"annual": [(ONE, [], b"0"), (b"", [], b"3"), (b"", ["x"], b"2")],
-            "replay": [(START, [], b"0"), (START[:9], [], b"1"), (b"", ["x"], b"2")]}
+    """A program's status is its own, whatever its name."""
+    runs = {"annual": [(ONE, [], WORKED), (b"", [], TURNED_AWAY), (b"", ["x"], MISUSED)],
+            "replay": [(START, [], WORKED), (START[:9], [], FAILED), (b"", ["x"], MISUSED)]}
     for program, attempts in runs.items():
-        for data, args, digit in attempts:
-            with cases.case(f"{program} that ends with {digit.decode()}, by its name"), \
-                    memory_folder() as folder:
-                path = pathlib.Path(folder, "status")
-                run_plainly("status-on-3", path, program, *args, data=data)
-                expect(path.read_bytes(), digit, "what is on descriptor 3")
-                for name in ("status-on", "status-on-30", program):
-                    run_plainly(name, path, program, *args, data=data)
-                    expect(path.read_bytes(), b"", f"what is on descriptor 3 of {name}")
+        for data, args, status in attempts:
+            for name in (program, "status-on-3"):
+                with cases.case(f"{program} that ends with {status} under the name {name}"):
+                    told = run_plainly(name, program, *args, data=data)
+                    expect(told.status, status, "the exit status")
 
 
 def find_program(process, name):
-    """The program that runs below tools/program, by the path that it was built at."""
+    """What tools/program became or started, by the path that it was built at."""
     for entry in pathlib.Path("/proc").glob("[0-9]*"):
         try:
             words = (entry / "cmdline").read_bytes().split(b"\0")
             session = int((entry / "stat").read_text().rpartition(")")[2].split()[3])
         except OSError:
             continue  # It has ended meanwhile.
-        if session == process.pid and any(word.endswith(b"/bin/" + name) for word in words):
+        if session == process.pid and any(word.endswith(b"/out/" + name) for word in words):
             return int(entry.name)
     raise Wrong(f"{name} isn't among what tools/program started")
 
@@ -130,19 +122,19 @@ def try_signals(programs, cases):
     for number in (signal.SIGKILL, signal.SIGTERM, signal.SIGSEGV):
         with cases.case(f"tools/program: {number.name} ends the program"):
             told = stop(programs, number, lambda process: find_program(process, b"replay"))
-            expect(told.status, 128 + number, "the exit status")
+            expect(ended_by(told, number), True, "that it did")
             expect(STARTED.startswith(told.out), True, f"that {told.out!r} is of its answer")
     for number in (signal.SIGTERM, signal.SIGINT, signal.SIGHUP):
         # Its outputs end, so the program has ended too.
         with cases.case(f"tools/program: {number.name} to it ends the program"):
             told = stop(programs, number, lambda process: process.pid)
-            expect(told.status, 128 + number, "the exit status")
-    with cases.case("tools/program: SIGPIPE ends the program where nobody reads"):
+            expect(ended_by(told, number), True, "that it did")
+    with cases.case("tools/program: a pipe that nobody reads is a failure"):
         reading, writing = os.pipe()
         os.close(reading)
         told = programs.run("replay", data=START, stdout=writing)
         os.close(writing)
-        expect(told.status, 128 + signal.SIGPIPE, "the exit status")
+        expect_line(told, b"Broken pipe")
 
 
 def try_program(programs, cases):
@@ -252,19 +244,15 @@ def try_explain(_, cases):
 
 def try_alone(_, cases):
     """A program with the loader and the C library beside it, and nothing else that it could use."""
-    kit = pathlib.Path(run_command("rt", "doc").out.decode().strip()).parent.parent
-    tools = kit / "on" / platform.machine() / "toolchain"
-    emulator = tools / "bin/qemu-x86_64"
+    tools = pathlib.Path(run_command("rt", "doc").out.decode().strip()).parent / "toolchain/lib"
     with memory_folder() as folder, cases.case("wake, as README takes it to another machine"):
-        for path in (ROOT / "target/bin/wake", tools / "lib/ld-linux-x86-64.so.2",
-                     tools / "lib/libc.so.6", PLANT):
+        for path in (ROOT / "crates/wake/out/wake", tools / "ld-linux-x86-64.so.2",
+                     tools / "libc.so.6", PLANT):
             shutil.copy(path, folder)
-        command = [*([emulator] if emulator.exists() else []), "./ld-linux-x86-64.so.2", "--argv0",
-                   "status-on-3", "--library-path", ".", "./wake", PLANT.name, "ours", "2047"]
-        told = run_command("/bin/sh", "-c", 'exec "$@" 3>status', "sh", *command, cwd=folder, env={})
+        told = run_command("./ld-linux-x86-64.so.2", "--library-path", ".", "./wake", PLANT.name,
+                           "ours", "2047", cwd=folder, env={})
         expect_told(told, b"moved 282\ndone 282 of 282\n"
                     + (ROOT / "examples/plant.report").read_bytes())
-        expect(pathlib.Path(folder, "status").read_bytes(), b"0", "the digit of its status")
 
 
 def try_commands(programs, cases):

@@ -4,7 +4,6 @@ import collections
 import contextlib
 import os
 import pathlib
-import platform
 import re
 import shlex
 import signal
@@ -15,8 +14,7 @@ import time
 
 ROOT = pathlib.Path(__file__).resolve().parent.parent
 PLANT = ROOT / "examples/plant.book"
-IS_EMULATED = platform.machine() != "x86_64"
-# No run takes a second, but an emulator on a busy machine is given all the time it may want.
+# No run takes a second, but a busy machine is given all the time it may want.
 PATIENCE = 300
 
 # What a program ends with: it did what it is for, it told of a failure, its arguments are wrong, or

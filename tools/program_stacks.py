@@ -11,7 +11,7 @@ from program_model import DELIVERY, LISTED, answer_of, judged, lines_of, plan_of
 from program_months import made
 from program_repeats import sent
 from program_replay import BLANK, FRESH, RECORD, WAKE, answer, frame
-from program_runs import IS_EMULATED, Answer, expect, expect_told, memory_folder
+from program_runs import Answer, expect, expect_told, memory_folder
 
 STACK = 8192  # KiB
 # KiB of the arrays that each program has on its stack. Whoever does with less wasn't limited.
@@ -91,7 +91,6 @@ def least_stack(run, told):
 
 
 def try_longest(programs, cases):
-    """The emulator gives a program 8 MiB too where that is its own limit."""
     for name, run, told in runs_on(programs, *mixed(), longest_frames()):
         with cases.case(f"{name}: a stack of {STACK} KiB is enough for its longest input"):
             expect_told(run(preexec_fn=limit_stack(STACK)), told)
@@ -112,7 +111,4 @@ def try_least(programs, cases):
 
 def try_stacks(programs, cases):
     try_longest(programs, cases)
-    if IS_EMULATED:
-        cases.note("how much stack is needed is left out: less than 8 MiB is the emulator's alone")
-        return
     try_least(programs, cases)

@@ -3,7 +3,8 @@
 SAMPLE_FILES = {
     "run": "#!/bin/sh\necho one\necho two\necho three\n",
     "tools/program": "#!/bin/sh\necho refused 21\nexit 3\n",
-    "crates.txt": "mass:\nwake: mass\n",
+    "tools/build": "#!/bin/sh\n",
+    "crates.txt": "mass:\nwake: mass\nwake_c staticlib: wake\n",
 }
 
 
@@ -30,8 +31,8 @@ RIGHT = {
     "a refusal": page("", "|$ tools/program wake", "|refused 21"),
     "a refusal that isn't shown whole": page("", "|$ tools/program wake", "|.."),
     "a command that is left out": page(*RUNS, "|$ .ci/run", "|.."),
-    "what sentences name": page("`./run BOOK`, `rt check NAME`, `rt", "fmt --check`,",
-                                "`rt staticlib mass`, `tools/program wake BOOK`.", *RUNS),
+    "what sentences name": page("`./run BOOK`, `tools/build NAME`, `rt", "ci`,",
+                                "`tools/build wake_c`, `tools/program wake BOOK`.", *RUNS),
     "what is no command": page("`wake BOOK`, `crates/none`, [none](docs/none.md).", *RUNS),
     "a line of a list that goes on": page("- a point", "|$ none", *RUNS),
 }
@@ -55,7 +56,8 @@ WRONG = {
     "another part of a file": (page("See `crates.txt`:", "", "|wake: none", "", ".", *RUNS),
                                "no such lines"),
     "a sentence names a missing file": (page("`tools/none`", *RUNS), "there is no tools/none"),
-    "a sentence names a missing crate": (page("`rt check none`", *RUNS), "there is no crate none"),
+    "a sentence names a missing crate": (page("`tools/build wake", "none`", *RUNS),
+                                         "there is no crate none"),
     "a sentence names a missing program": (page("`tools/program none BOOK`", *RUNS),
                                            "there is no crate none"),
     "there is no command": (page("Words.", "", "|a picture"), "it has no command"),

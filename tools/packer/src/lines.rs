@@ -14,30 +14,21 @@ const ANSWERED: [i32; 2] = [0, 3];
 pub fn ask(book: &[u8]) -> Result<String, String> {
     let home = env::var_os(HOME).map(PathBuf::from);
     let home = home.ok_or("tools/book runs this, since `lines` is found from there")?;
-    if !home.join("target/bin/lines").is_file() {
+    if !home.join("crates/lines/out/lines").is_file() {
         build(&home)?;
     }
     run(&home, book)
 }
 
-/// Under a lock, since nobody says that two builds at once are safe.
+/// What stands in its way, tools/build says itself.
 fn build(home: &Path) -> Result<(), String> {
-    eprintln!("tools/book: `lines` is being built, which takes some minutes the first time");
-    let kept = home.join("target/packer");
-    let log = kept.join("lines.log");
-    let status = Command::new("flock")
-        .arg(kept.join("lines.lock"))
-        .args(["sh", "-c", "exec rt check lines >\"$0\" 2>&1"])
-        .arg(&log)
-        .current_dir(home)
+    let status = Command::new(home.join("tools/build"))
+        .arg("lines")
         .stdin(Stdio::null())
         .status();
     match status {
         Ok(status) if status.success() => Ok(()),
-        _ => Err(format!(
-            "tools/book: `lines` isn't built: see {}",
-            log.display()
-        )),
+        _ => Err("tools/book: `lines` isn't built".to_string()),
     }
 }
 

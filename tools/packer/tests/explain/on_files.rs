@@ -1,7 +1,7 @@
 //! The program on files, in a repository of its own with a stand-in for `lines`.
 
 use crate::accounts::LISTS;
-use crate::repository::{told, Repository};
+use crate::repository::{told, Repository, LINES};
 use crate::{book_of, explained, in_the_second_values, COUNTS, EXPLAINED, PRINTED, TEXT};
 
 #[test]
@@ -60,22 +60,18 @@ fn lines_is_built_where_it_is_missing() {
     let repository = Repository::new("builds_lines", "cat printed");
     repository.write("book", book_of(TEXT).content);
     repository.write("printed", PRINTED);
-    std::fs::remove_file(repository.home.join("target/bin/lines")).unwrap();
-    let notice = "tools/book: `lines` is being built, which takes some minutes the first time\n";
+    std::fs::remove_file(repository.home.join(LINES)).unwrap();
 
-    repository.stand_in("bin/rt", "echo \"$PWD: $*\"; exit 1");
-    let log = repository.path("target/packer/lines.log");
-    let message = format!("{notice}tools/book: `lines` isn't built: see {log}\n");
+    repository.stand_in("tools/build", "echo \"asked for $*\" >&2; exit 1");
+    let message = "asked for lines\ntools/book: `lines` isn't built\n".to_string();
     let output = repository.explain(&["book"]);
     assert_eq!(told(&output), (Some(1), String::new(), message));
-    let home = std::fs::canonicalize(&repository.home).unwrap();
-    let logged = std::fs::read_to_string(&log).unwrap();
-    assert_eq!(logged, format!("{}: check lines\n", home.display()));
 
-    repository.stand_in("bin/rt", "echo built; touch target/bin/lines");
+    let built = format!("echo built >&2; touch {LINES}");
+    repository.stand_in("tools/build", &built);
     let words = explained(&book_of(TEXT), None, PRINTED).unwrap().words;
     let words = words.replace("BOOK", "book");
-    for message in [notice, ""] {
+    for message in ["built\n", ""] {
         let output = repository.explain(&["book"]);
         let wanted = (Some(3), words.clone(), message.to_string());
         assert_eq!(told(&output), wanted);
@@ -85,7 +81,7 @@ fn lines_is_built_where_it_is_missing() {
 #[test]
 fn a_refused_book_needs_no_lines() {
     let repository = Repository::new("needs_no_lines", "exit 1");
-    std::fs::remove_file(repository.home.join("target/bin/lines")).unwrap();
+    std::fs::remove_file(repository.home.join(LINES)).unwrap();
     repository.write("book", "cut");
     let (status, _, message) = told(&repository.explain(&["book"]));
     assert_eq!((status, message.as_str()), (Some(3), ""));

@@ -1,12 +1,15 @@
 //! A repository made for one test, with stand-ins for `lines` and for what builds it.
 
 use std::fs;
-use std::path::{Path, PathBuf};
+use std::path::PathBuf;
 use std::process::{Command, Output};
 use std::sync::MutexGuard;
 
 use crate::folder::fresh_folder;
 use crate::stand_in::{alone, stand_in};
+
+/// The built program.
+pub const LINES: &str = "crates/lines/out/lines";
 
 pub struct Repository {
     pub home: PathBuf,
@@ -18,16 +21,16 @@ impl Repository {
     pub fn new(name: &str, lines: &str) -> Repository {
         let alone = alone();
         let home = fresh_folder(name);
-        for folder in ["bin", "target/bin", "target/packer", "tools"] {
+        for folder in ["crates/lines/out", "tools"] {
             fs::create_dir_all(home.join(folder)).unwrap();
         }
-        fs::write(home.join("target/bin/lines"), "").unwrap();
+        fs::write(home.join(LINES), "").unwrap();
         let repository = Repository {
             home,
             _alone: alone,
         };
         repository.stand_in("tools/program", lines);
-        repository.stand_in("bin/rt", "echo rt is not to be asked; exit 1");
+        repository.stand_in("tools/build", "echo tools/build is not to be asked; exit 1");
         repository
     }
 
@@ -41,22 +44,13 @@ impl Repository {
 
     /// Explains files of the repository's folder, which is the caller's too.
     pub fn explain(&self, files: &[&str]) -> Output {
-        let path = std::env::var("PATH").unwrap();
         Command::new(env!("CARGO_BIN_EXE_packer"))
             .arg("explain")
             .args(files)
             .current_dir(&self.home)
             .env("WETHERSTEP", &self.home)
-            .env(
-                "PATH",
-                format!("{}:{path}", self.home.join("bin").display()),
-            )
             .output()
             .unwrap()
-    }
-
-    pub fn path(&self, name: impl AsRef<Path>) -> String {
-        self.home.join(name).display().to_string()
     }
 }
 
