@@ -1,6 +1,6 @@
-"""The commands that run the programs: `tools/program`, which touches nothing that they read or
-print, `./run`, which runs the job on a book to its end, and `tools/book explain`, which asks `lines`;
-and a program by itself, as another machine has it."""
+"""The commands that run the programs: `tools/program`, which gives them a status and touches
+nothing that they read or print, `./run`, which runs the job on a book to its end, and `tools/book
+explain`, which asks `lines`; and a program by itself, as another machine has it."""
 import os
 import pathlib
 import re
@@ -13,9 +13,9 @@ from program_books import book, fuel_record, unit_line
 from program_copy import correct
 from program_jobs import job_on, plan_by_lines
 from program_replay import FRESH, START, STARTED, answer, frame
-from program_runs import FAILED, MISUSED, PATIENCE, PLANT, ROOT, TURNED_AWAY, WORKED, Answer
-from program_runs import Wrong, ended_by, expect, expect_answer, expect_failure, expect_line
-from program_runs import expect_told, kill, memory_folder
+from program_runs import MISUSED, PATIENCE, PLANT, ROOT, TURNED_AWAY, WORKED, Answer, Wrong
+from program_runs import expect, expect_answer, expect_failure, expect_line, expect_told, kill
+from program_runs import memory_folder
 
 EVERY_BYTE = bytes(range(256)) * 3
 ASIDE = book([fuel_record()] * 150, [unit_line(rating=2501)])
@@ -55,7 +55,7 @@ def try_descriptors(programs, cases):
             for _ in range(2):
                 expect_answer(programs.run("annual", data=ONE, stdout=file), WORKED, None)
         expect(path.read_bytes(), 2 * EXAMPLE, "the file")
-    with cases.case("tools/program: nothing goes to another descriptor of the caller"), \
+    with cases.case("tools/program: no status goes to a descriptor of the caller"), \
             memory_folder() as folder:
         path = pathlib.Path(folder, "mine")
         script = 'exec "$@" 3>"$0" 4>>"$0" 5>>"$0"'
@@ -64,33 +64,38 @@ def try_descriptors(programs, cases):
         expect(path.read_bytes(), b"", "what the caller's file has")
 
 
-def run_plainly(name, program, *args, data=b""):
-    """The built program under a name, without tools/program."""
-    path = ROOT / "crates" / program / "out" / program
-    return run_command("bash", "-c", 'exec -a "$0" "$@"', name, path, *args, input=data)
+def run_plainly(name, path, program, *args, data=b""):
+    """The built program under a name, without tools/program, and with a file as descriptor 3."""
+    built = ROOT / "crates" / program / "out" / program
+    return run_command("bash", "-c", 'exec -a "$0" "${@:2}" 3>"$1"', name, path, built, *args,
+                       input=data)
 
 
 def try_names(_, cases):
-    """A program's status is its own, whatever its name."""
-    runs = {"annual": [(ONE, [], WORKED), (b"", [], TURNED_AWAY), (b"", ["x"], MISUSED)],
-            "replay": [(START, [], WORKED), (START[:9], [], FAILED), (b"", ["x"], MISUSED)]}
+    """A program writes its status as a digit, and only if its name asks for it."""
+    runs = {"annual": [(ONE, [], b"0"), (b"", [], b"3"), (b"", ["x"], b"2")],
+            "replay": [(START, [], b"0"), (START[:9], [], b"1"), (b"", ["x"], b"2")]}
     for program, attempts in runs.items():
-        for data, args, status in attempts:
-            for name in (program, "status-on-3"):
-                with cases.case(f"{program} that ends with {status} under the name {name}"):
-                    told = run_plainly(name, program, *args, data=data)
-                    expect(told.status, status, "the exit status")
+        for data, args, digit in attempts:
+            with cases.case(f"{program} that ends with {digit.decode()}, by its name"), \
+                    memory_folder() as folder:
+                path = pathlib.Path(folder, "status")
+                run_plainly("status-on-3", path, program, *args, data=data)
+                expect(path.read_bytes(), digit, "what is on descriptor 3")
+                for name in ("status-on", "status-on-30", program):
+                    run_plainly(name, path, program, *args, data=data)
+                    expect(path.read_bytes(), b"", f"what is on descriptor 3 of {name}")
 
 
 def find_program(process, name):
-    """What tools/program became or started, by the path that it was built at."""
+    """The program that runs below tools/program, by the path that it was built at."""
     for entry in pathlib.Path("/proc").glob("[0-9]*"):
         try:
-            words = (entry / "cmdline").read_bytes().split(b"\0")
+            built = os.readlink(entry / "exe")
             session = int((entry / "stat").read_text().rpartition(")")[2].split()[3])
         except OSError:
             continue  # It has ended meanwhile.
-        if session == process.pid and any(word.endswith(b"/out/" + name) for word in words):
+        if session == process.pid and built.endswith("/out/" + name):
             return int(entry.name)
     raise Wrong(f"{name} isn't among what tools/program started")
 
@@ -121,14 +126,14 @@ def stop(programs, number, find):
 def try_signals(programs, cases):
     for number in (signal.SIGKILL, signal.SIGTERM, signal.SIGSEGV):
         with cases.case(f"tools/program: {number.name} ends the program"):
-            told = stop(programs, number, lambda process: find_program(process, b"replay"))
-            expect(ended_by(told, number), True, "that it did")
+            told = stop(programs, number, lambda process: find_program(process, "replay"))
+            expect(told.status, 128 + number, "the exit status")
             expect(STARTED.startswith(told.out), True, f"that {told.out!r} is of its answer")
     for number in (signal.SIGTERM, signal.SIGINT, signal.SIGHUP):
         # Its outputs end, so the program has ended too.
         with cases.case(f"tools/program: {number.name} to it ends the program"):
             told = stop(programs, number, lambda process: process.pid)
-            expect(ended_by(told, number), True, "that it did")
+            expect(told.status, 128 + number, "the exit status")
     with cases.case("tools/program: a pipe that nobody reads is a failure"):
         reading, writing = os.pipe()
         os.close(reading)
@@ -249,10 +254,12 @@ def try_alone(_, cases):
         for path in (ROOT / "crates/wake/out/wake", tools / "ld-linux-x86-64.so.2",
                      tools / "libc.so.6", PLANT):
             shutil.copy(path, folder)
-        told = run_command("./ld-linux-x86-64.so.2", "--library-path", ".", "./wake", PLANT.name,
-                           "ours", "2047", cwd=folder, env={})
+        command = ["./ld-linux-x86-64.so.2", "--argv0", "status-on-3", "--library-path", ".",
+                   "./wake", PLANT.name, "ours", "2047"]
+        told = run_command("/bin/sh", "-c", 'exec "$@" 3>status', "sh", *command, cwd=folder, env={})
         expect_told(told, b"moved 282\ndone 282 of 282\n"
                     + (ROOT / "examples/plant.report").read_bytes())
+        expect(pathlib.Path(folder, "status").read_bytes(), b"0", "the digit of its status")
 
 
 def try_commands(programs, cases):
