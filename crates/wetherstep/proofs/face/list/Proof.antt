@@ -5,11 +5,11 @@ use Rattle.job.proofs.ReplyLaws.{figure_values_six}
 use Rattle.wetherstep.proofs.face.list.Statement.{statement}
 use Rattle.wetherstep.proofs.face.list.Tie as tie
 
-returns : tie.Need-returns
-returns c = sym (figure_values_six _ (choose_t 0 c.if1.true refl))
+returns : tie.Need-returns-then-f
+returns c = sym (figure_values_six _ (choose_t 0 c.if-f.true refl))
 
-returns-2 : tie.Need-returns-2
-returns-2 c = sym (figure_values_six _ (choose_f 1 c.if1.false refl))
+returns-2 : tie.Need-returns-else-f
+returns-2 c = sym (figure_values_six _ (choose_f 1 c.if-f.false refl))
 
-pub list-spec : {M : Type 1} → statement M
-list-spec = tie.close (tie.spec returns returns-2)
+pub list_spec : {M : Type 1} → statement M
+list_spec = tie.close (tie.spec returns returns-2)

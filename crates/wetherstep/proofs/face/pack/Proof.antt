@@ -5,21 +5,21 @@ use Rattle.wetherstep.specs.Face.{packed}
 use Rattle.wetherstep.proofs.face.pack.Statement.{statement}
 use Rattle.wetherstep.proofs.face.pack.Tie as tie
 
-mul-result : tie.Need-overflow-mul-result
+mul-result : tie.Need-overflow_mul-result
 mul-result c = search rules
 
-add-result : tie.Need-overflow-add-result
+add-result : tie.Need-overflow_add-result
 add-result c = search rules
 
-mul-result-2 : tie.Need-overflow-mul-result-2
+mul-result-2 : tie.Need-overflow_mul-result-2
 mul-result-2 c = search rules
 
-add-result-2 : tie.Need-overflow-add-result-2
+add-result-2 : tie.Need-overflow_add-result-2
 add-result-2 c = search rules
 
 returns : tie.Need-returns
 unfolding packed
 returns c = omega arith
 
-pub pack-spec : {M : Type 1} → statement M
-pack-spec = tie.close (tie.spec mul-result add-result mul-result-2 add-result-2 returns)
+pub pack_spec : {M : Type 1} → statement M
+pack_spec = tie.close (tie.spec mul-result add-result mul-result-2 add-result-2 returns)

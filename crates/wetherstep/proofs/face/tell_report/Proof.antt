@@ -8,58 +8,58 @@ use Rattle.wetherstep.proofs.FaceLaws.{word_of-none, word_of_count, word_of_asid
 use Rattle.wetherstep.proofs.face.tell_report.Statement.{statement}
 use Rattle.wetherstep.proofs.face.tell_report.Tie as tie
 
-enum-known-s : tie.Need-enum-known-s
+enum-known-s : tie.Need-enum_known-s
 enum-known-s c = search rules
 
-number-refusal-requires : tie.Need-number-refusal-requires
+number-refusal-requires : tie.Need-number_refusal-requires
 number-refusal-requires c κs = search rules
 
 pack-requires : tie.Need-pack-requires
 pack-requires c κs = search rules
 
-enum-known-s-2 : tie.Need-enum-known-s-2
+enum-known-s-2 : tie.Need-enum_known-s-in-Unfinished-1
 enum-known-s-2 c = search rules
 
-pack-requires-2 : tie.Need-pack-requires-2
+pack-requires-2 : tie.Need-pack-requires-in-Unfinished
 pack-requires-2 c κs = search rules
 
-enum-known-s-3 : tie.Need-enum-known-s-3
+enum-known-s-3 : tie.Need-enum_known-s-in-RecordAside-1
 enum-known-s-3 c = search rules
 
-pack-requires-3 : tie.Need-pack-requires-3
+pack-requires-3 : tie.Need-pack-requires-in-RecordAside
 pack-requires-3 c κs = search rules
 
-enum-known-s-4 : tie.Need-enum-known-s-4
+enum-known-s-4 : tie.Need-enum_known-s-in-Given-1
 enum-known-s-4 c = search rules
 
 list-requires : tie.Need-list-requires
 list-requires c κs = search rules
 
-pack-requires-4 : tie.Need-pack-requires-4
+pack-requires-4 : tie.Need-pack-requires-in-Given
 pack-requires-4 c κs = search rules
 
-returns : tie.Need-returns
+returns : tie.Need-returns-in-NotReported
 returns c =
-    let told = ap reported c.before.before.before.s.given.1 ∙ reported_not_reported _ in
-    (word_of-none told c.before.number-refusal.ensures c.pack.ensures, sym (figures_after-kept _ told refl))
+    let told = ap reported c.in-NotReported.is ∙ reported_not_reported _ in
+    (word_of-none told c.number_refusal.ensures c.pack.ensures, sym (figures_after-kept _ told refl))
 
-returns-2 : tie.Need-returns-2
+returns-2 : tie.Need-returns-in-Unfinished
 returns-2 c =
-    let told = ap reported c.before.before.s2.given.1 ∙ reported_unfinished _ in
-    (word_of_count told c.pack2.ensures, sym (figures_after-kept _ told refl))
+    let told = ap reported c.in-Unfinished.is ∙ reported_unfinished _ in
+    (word_of_count told c.pack-in-Unfinished.ensures, sym (figures_after-kept _ told refl))
 
-returns-3 : tie.Need-returns-3
+returns-3 : tie.Need-returns-in-RecordAside
 returns-3 c =
-    let told = ap reported c.before.before.s3.given.1 ∙ reported_record_aside _ _ in
-    (word_of_aside told c.pack3.ensures, sym (figures_after-kept _ told refl))
+    let told = ap reported c.in-RecordAside.is ∙ reported_record_aside _ _ in
+    (word_of_aside told c.pack-in-RecordAside.ensures, sym (figures_after-kept _ told refl))
 
-returns-4 : tie.Need-returns-4
+returns-4 : tie.Need-returns-in-Given
 returns-4 c =
-    let told = ap reported c.before.before.before.s4.given.1 ∙ reported-given _ in
-    (word_of-given _ told c.pack4.ensures, c.before.list.ensures ∙ sym (figures_after-given _ told _))
+    let told = ap reported c.in-Given.is ∙ reported-given _ in
+    (word_of-given _ told c.pack-in-Given.ensures, c.list.ensures ∙ sym (figures_after-given _ told _))
 
-pub tell-report-spec : {M : Type 1} → statement M
-tell-report-spec =
+pub tell_report_spec : {M : Type 1} → statement M
+tell_report_spec =
     tie.close
     (tie.spec
     enum-known-s

@@ -7,33 +7,33 @@ use Rattle.wetherstep.proofs.FaceLaws.{word_of-none, word_of_count}
 use Rattle.wetherstep.proofs.face.tell_wake.Statement.{statement}
 use Rattle.wetherstep.proofs.face.tell_wake.Tie as tie
 
-enum-known-w : tie.Need-enum-known-w
+enum-known-w : tie.Need-enum_known-w
 enum-known-w c = search rules
 
-number-refusal-requires : tie.Need-number-refusal-requires
+number-refusal-requires : tie.Need-number_refusal-requires
 number-refusal-requires c κs = search rules
 
 pack-requires : tie.Need-pack-requires
 pack-requires c κs = search rules
 
-enum-known-w-2 : tie.Need-enum-known-w-2
+enum-known-w-2 : tie.Need-enum_known-w-in-Moved-1
 enum-known-w-2 c = search rules
 
-pack-requires-2 : tie.Need-pack-requires-2
+pack-requires-2 : tie.Need-pack-requires-in-Moved
 pack-requires-2 c κs = search rules
 
-returns : tie.Need-returns
+returns : tie.Need-returns-in-NotWoken
 returns c =
-    let told = ap woken c.before.before.before.w.given.1 ∙ woken_not_woken _ in
-    word_of-none told c.before.number-refusal.ensures c.pack.ensures
+    let told = ap woken c.in-NotWoken.is ∙ woken_not_woken _ in
+    word_of-none told c.number_refusal.ensures c.pack.ensures
 
-returns-2 : tie.Need-returns-2
+returns-2 : tie.Need-returns-in-Moved
 returns-2 c =
-    let told = ap woken c.before.before.w2.given.1 ∙ woken-moved _ in
-    word_of_count told c.pack2.ensures
+    let told = ap woken c.in-Moved.is ∙ woken-moved _ in
+    word_of_count told c.pack-in-Moved.ensures
 
-pub tell-wake-spec : {M : Type 1} → statement M
-tell-wake-spec =
+pub tell_wake_spec : {M : Type 1} → statement M
+tell_wake_spec =
     tie.close
     (tie.spec
     enum-known-w

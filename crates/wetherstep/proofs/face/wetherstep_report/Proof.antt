@@ -9,15 +9,15 @@ use Rattle.wetherstep.proofs.face.wetherstep_report.Tie as tie
 report-requires : tie.Need-report-requires
 report-requires c κs = search rules
 
-tell-report-requires : tie.Need-tell-report-requires
+tell-report-requires : tie.Need-tell_report-requires
 tell-report-requires c κs = search rules
 
 returns : tie.Need-returns
 returns c =
-    let gave = c.before.before.report.ensures in
-    let told = c.tell-report.ensures in
-    let before = c.before.before.before.before.before.args.figures.now in
+    let gave = c.report.ensures in
+    let told = c.tell_report.ensures in
+    let before = c.args.figures.now in
     (told.0 ∙ ap word_of gave, told.1 ∙ ap (λ (r : Reply). figures_after r before) gave)
 
-pub wetherstep-report-spec : {M : Type 1} → statement M
-wetherstep-report-spec = tie.close (tie.spec report-requires tell-report-requires returns)
+pub wetherstep_report_spec : {M : Type 1} → statement M
+wetherstep_report_spec = tie.close (tie.spec report-requires tell-report-requires returns)

@@ -8,16 +8,16 @@ use Rattle.wetherstep.proofs.face.wetherstep_wake.Tie as tie
 wake-requires : tie.Need-wake-requires
 wake-requires c κs = search rules
 
-tell-wake-requires : tie.Need-tell-wake-requires
+tell-wake-requires : tie.Need-tell_wake-requires
 tell-wake-requires c κs = search rules
 
-same_length : tie.Need-same-length
+same_length : tie.Need-shape_of-out
 same_length c = search rules
 
 returns : tie.Need-returns
 returns c =
-    let gave = c.before.before.before.wake.ensures in
-    (c.tell-wake.ensures ∙ ap word_of gave.0, gave.1)
+    let gave = c.wake.ensures in
+    (c.tell_wake.ensures ∙ ap word_of gave.0, gave.1)
 
-pub wetherstep-wake-spec : {M : Type 1} → statement M
-wetherstep-wake-spec = tie.close (tie.spec wake-requires tell-wake-requires same_length returns)
+pub wetherstep_wake_spec : {M : Type 1} → statement M
+wetherstep_wake_spec = tie.close (tie.spec wake-requires tell-wake-requires same_length returns)
