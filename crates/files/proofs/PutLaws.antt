@@ -1,4 +1,4 @@
--- What is put behind the first bytes of a buffer, from what a copy into the rest of it leaves.
+-- What is put behind the first bytes of a buffer, from what a copy of what fits leaves.
 -- Assumes nothing.
 use Prim.Native.Nat.{ℕ, zero, suc, ◌+◌, ◌-◌, ◌<◌, ◌≤◌, min}
 use mathlib.Core.List.{List, [], ◌∷◌, ◌++◌, append-nil, append_assoc}
@@ -7,7 +7,7 @@ use native.Mathlib.Nat.{zero-min, min-zero, suc-min-suc, le_of_lt}
 use native.Mathlib.Omega.{arith}
 use lib.ListN.{length, take, drop, length-take, length-drop}
 use lib.Seq.{take_all, take-length, drop-length, drop-drop}
-use borrow.Rule.Slice.PartMut.{mid_of, post_of, put_mid, mid_len}
+use borrow.Rule.Slice.PartMut.{put_mid}
 use Rattle.files.specs.Put.{front, put_end, put_bytes}
 
 drop_min : (a : ℕ) (xs : List ℕ) → drop (min a (length xs)) xs ≡ drop a xs
@@ -35,19 +35,6 @@ module _ (n : ℕ) (xs ys : List ℕ) where
       )
 
   module _ (h : n ≤ length xs) where
-    -- The rest of the buffer is all that stands behind its first n.
-    rest : mid_of n (length xs - n) xs ≡ drop n xs
-    rest = take_all (length xs - n) (drop n xs) (omega (arith, length-drop n xs))
-
-    none_after : post_of n (length xs - n) xs ≡ []
-    none_after = drop_past (length xs - n) (drop n xs) (omega (arith, length-drop n xs))
-
-    pub fitting_le : {fs : List ℕ} → fs ≡ front (length xs - n) ys → length fs ≤ length (mid_of n (length xs - n) xs)
-    fitting_le e =
-        let few = ap length e ∙ length-take (length xs - n) ys in
-        let room = mid_len n (length xs) xs (omega arith) in
-        omega arith
-
     ends : {fs : List ℕ} → fs ≡ front (length xs - n) ys → n + length fs ≡ min (n + length ys) (length xs)
     ends e = let all = ap length e ∙ length-take (length xs - n) ys in omega arith
 
@@ -57,12 +44,12 @@ module _ (n : ℕ) (xs ys : List ℕ) where
         ∙ ap (λ (m : ℕ). drop m xs) (ends e)
         ∙ drop_min (n + length ys) xs
 
-    -- fs is what fits, and zs what its copy leaves in the rest of the buffer.
-    pub put_copied : {fs zs : List ℕ} {r : ℕ} → fs ≡ front (length xs - n) ys → r ≡ length fs
-        → zs ≡ take (length fs) fs ++ drop (length fs) (mid_of n (length xs - n) xs)
-        → (n + r ≡ put_end n xs ys) × (put_mid n (length xs - n) xs zs ≡ put_bytes n xs ys)
+    -- fs is what fits, and is written behind the first n.
+    pub put_copied : {fs zs : List ℕ} → fs ≡ front (length xs - n) ys → zs ≡ fs
+        → (n + length fs ≡ put_end n xs ys) × (put_mid n (n + length fs - n) xs zs ≡ put_bytes n xs ys)
     unfolding put_end put_bytes
-    put_copied {fs} e s p = (
-      ap (λ (m : ℕ). n + m) s ∙ ends e,
-      rw (p, none_after, rest, left e, take-length fs, append-nil, ← append_assoc, e),
-    )
+    put_copied {fs} e p =
+        let count : n + length fs - n ≡ length fs = omega arith in (
+          ends e,
+          rw (p, count, left e, ← append_assoc, e),
+        )

@@ -10,4 +10,4 @@ use Rattle.files.specs.declared.Got.TheVariants.{Bytes, Failed}
 
 abbrev pub Within : Got → List ℕ → Type 0
 Within (Bytes n) xs = IsPrefixLen n xs
-Within Failed xs = Unit {0}
+Within (Failed why) xs = Unit {0}

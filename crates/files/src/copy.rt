@@ -2,8 +2,12 @@
 // and the copy tells it byte for byte.
 ghost use Rattle.io.specs.Counts.{IsPrefixLen};
 
+use crate::complain::{Complain, fail};
 use crate::save::LONGEST_PATH;
-use crate::{Got, real, save};
+use crate::{Got, path, real, save};
+use std::io::{ErrorKind, Read, Result};
+use std::random::RandomSource;
+use std::rt::Files;
 
 // The most bytes of a checkpoint's path: the copy's name has 5 more, and what it is saved under 7 more.
 pub const LONGEST_CHECKPOINT: usize = save::LONGEST_SAVED - 5;
@@ -20,51 +24,60 @@ pub(crate) enum Compared {
 }
 
 // Compares the copy beside the checkpoint at path with the book, whose own path is real.
-pub(crate) fn compare(whose: &[u8], path: &[u8], book: &[u8], real: &[u8]) -> Compared {
+pub(crate) fn compare<R: Files + Alloc + Complain>(
+    rt: &R,
+    whose: &[u8],
+    path: &[u8],
+    book: &[u8],
+    real: &[u8],
+) -> Compared {
     let mut room = [0u8; LONGEST_PATH];
     let n = name_copy(path, &mut room);
     let copy = &room[..n];
-    if !real::is_apart(whose, copy, real) {
+    if !real::is_apart(rt, whose, copy, real) {
         return Compared::Failed;
     }
-    let fd = os::open_read(copy);
-    if fd < 0 {
-        if os::errno() == libc::ENOENT {
-            return Compared::Missing;
+    match compare_at(rt, copy, book) {
+        Ok(compared) => compared,
+        Err(why) => {
+            fail(rt, whose, copy, why);
+            Compared::Failed
         }
-        crate::fail(whose, copy);
-        return Compared::Failed;
     }
-    let compared = compare_open(fd, book);
-    match compared {
-        Compared::Failed => crate::fail(whose, copy),
-        Compared::Same => {}
-        Compared::Missing => {}
-        Compared::Other => {}
+}
+
+fn compare_at<R: Files>(rt: &R, copy: &[u8], book: &[u8]) -> Result<Compared> {
+    match path::open(rt, copy) {
+        Ok(file) => compare_open(file, book),
+        Err(why) => {
+            if why.kind() == ErrorKind::NotFound {
+                return Ok(Compared::Missing);
+            }
+            Err(why)
+        }
     }
-    libc::close(fd);
-    compared
 }
 
 // Piece by piece, so that a copy needs no room of its own.
-fn compare_open(fd: i32, book: &[u8]) -> Compared {
+fn compare_open<F: Read + Drop>(file: F, book: &[u8]) -> Result<Compared> {
+    let mut file = file;
     let mut piece = [0u8; 4096];
     let mut n = 0;
     loop {
-        let got = crate::read_some(fd, &mut piece);
+        let got = crate::read_some(&mut file, &mut piece);
         match got {
-            Got::Failed => {
-                return Compared::Failed;
+            Got::Failed(why) => {
+                return Err(why);
             }
             Got::Bytes(more) => {
                 if more == 0 {
-                    return end_at(n, book);
+                    return Ok(end_at(n, book));
                 }
                 if book.len() - n < more {
-                    return Compared::Other;
+                    return Ok(Compared::Other);
                 }
                 if !roster::bytes::are_same(&book[n..n + more], crate::take_front(&piece, more)) {
-                    return Compared::Other;
+                    return Ok(Compared::Other);
                 }
                 n += more;
             }
@@ -81,10 +94,15 @@ fn end_at(n: usize, book: &[u8]) -> Compared {
 }
 
 // Saves the book as the copy beside the checkpoint at path, and answers as a save does.
-pub(crate) fn keep(whose: &[u8], path: &[u8], book: &[u8]) -> bool {
+pub(crate) fn keep<R: Files + RandomSource + Complain>(
+    rt: &R,
+    whose: &[u8],
+    path: &[u8],
+    book: &[u8],
+) -> bool {
     let mut room = [0u8; LONGEST_PATH];
     let n = name_copy(path, &mut room);
-    save::save(whose, &room[..n], book, b"")
+    save::save(rt, whose, &room[..n], book, b"")
 }
 
 // Puts path with `.book` behind it at the start of room, and answers its length.

@@ -1,11 +1,12 @@
-// How a program ended, for whoever started it. A Rattle program has no exit status, so tools/program
+// How a program ended, for whoever started it. It ends with the status 0 whatever it did, so tools/program
 // starts it under a name that says where it is waited for, and makes a status of the digit that it
 // finds there.
 ghost use Rattle.std.specs.Prelude.{◌≡◌};
 ghost use Rattle.files.specs.declared.ended.Ended.TheVariants.{Misused};
 ghost use Rattle.files.specs.Ended.{is_done};
 
-use libc::STDERR_FILENO;
+use crate::complain::Complain;
+use std::rt::Env;
 
 #[derive(Clone, Copy)]
 pub enum Ended {
@@ -23,19 +24,25 @@ pub enum Ended {
 const WAITING: i32 = 3;
 
 // Tells how the program ended, if that is waited for.
-pub fn tell(e: Ended) {
-    let mut name = [0u8; 11];
-    let n = os::arg(0, &mut name);
-    if roster::bytes::are_same(&name[..n], b"status-on-3") {
+pub fn tell<R: Env>(rt: &R, e: Ended) {
+    if is_waited_for(rt) {
         io::write_all(WAITING, &[take_digit(e)]);
     }
 }
 
+fn is_waited_for<R: Env>(rt: &R) -> bool {
+    let mut name = [0u8; 11];
+    match rt.arg(0, &mut name) {
+        Ok(n) => roster::bytes::are_same(&name[..n], b"status-on-3"),
+        Err(_) => false,
+    }
+}
+
 // Says on standard error how the program is called.
-pub fn misuse(words: &[u8]) -> Ended
+pub fn misuse<R: Complain>(rt: &R, words: &[u8]) -> Ended
     ensures misused { result ≡ Misused }
 {
-    io::write_all(STDERR_FILENO, words);
+    rt.complain(words);
     Ended::Misused
 }
 

@@ -5,13 +5,16 @@ ghost use Rattle.job.specs.Wake.{fresh_reply, fresh_bytes, wake_reply, wake_byte
 ghost use Rattle.files.specs.Guard.{due_of};
 ghost use Rattle.files.specs.Kept.{replied, placed, counting, anew_reply, anew_bytes, DueOf, Found, Begun, FoundBy, Saved};
 
+use crate::complain::{Complain, fail, tell};
 use crate::copy::Compared;
-use crate::{Got, copy, real, save};
+use crate::{Got, copy, path, real, save};
 use job::checkpoint;
 use job::reply::{Refusal, Started, Woken};
-use libc::STDERR_FILENO;
 use rules::book;
 use rules::book::Opened;
+use std::io::ErrorKind;
+use std::random::RandomSource;
+use std::rt::Files;
 
 // What is due before a wake of a book may be saved.
 #[derive(Clone, Copy)]
@@ -50,14 +53,21 @@ pub enum Kept {
 }
 
 // What is due for a wake of the book, whose own path is real and whose job has its checkpoint at path.
-pub fn find_due(book: &[u8], real: &[u8], whose: &[u8], path: &[u8], anew: bool) -> Due
+pub fn find_due<R: Files + Alloc + Complain>(
+    rt: &R,
+    book: &[u8],
+    real: &[u8],
+    whose: &[u8],
+    path: &[u8],
+    anew: bool,
+) -> Due
     ensures due { DueOf result book.now anew }
 {
     match book::open(book) {
         Opened::Wrong(fault) => Due::Refused(Refusal::Book(fault)),
         Opened::Open(_h) => {
-            if real::is_apart(whose, path, real) {
-                return decide(copy::compare(whose, path, book, real), anew);
+            if real::is_apart(rt, whose, path, real) {
+                return decide(copy::compare(rt, whose, path, book, real), anew);
             }
             Due::Failed
         }
@@ -87,68 +97,92 @@ fn decide(compared: Compared, anew: bool) -> Due
 
 // Where the job stands: at a fresh start, if one is due or there is no checkpoint at path; else at that
 // checkpoint.
-pub fn find_place(book: &[u8], due: Due, whose: &[u8], path: &[u8], room: &mut [u8]) -> Place
+pub fn find_place<R: Files + Complain>(
+    rt: &R,
+    book: &[u8],
+    due: Due,
+    whose: &[u8],
+    path: &[u8],
+    room: &mut [u8],
+) -> Place
     ensures found { FoundBy due result book.now room.old room.new }
 {
     match due {
-        Due::Nothing => read_place(book, whose, path, room),
-        Due::Copy => read_place(book, whose, path, room),
-        Due::Anew => replace_place(book, whose, path, room),
+        Due::Nothing => read_place(rt, book, whose, path, room),
+        Due::Copy => read_place(rt, book, whose, path, room),
+        Due::Anew => replace_place(rt, book, whose, path, room),
         Due::Refused(x) => Place::Refused(x),
         Due::Failed => Place::Failed,
     }
 }
 
 // Only a checkpoint that isn't there is a reason to start afresh unasked.
-fn read_place(book: &[u8], whose: &[u8], path: &[u8], room: &mut [u8]) -> Place
+fn read_place<R: Files + Complain>(
+    rt: &R,
+    book: &[u8],
+    whose: &[u8],
+    path: &[u8],
+    room: &mut [u8],
+) -> Place
     ensures found { Found result book.now room.old room.new }
 {
-    let fd = os::open_read(path);
-    if 0 <= fd {
-        return match crate::read_open(fd, whose, path, room) {
-            Got::Failed => Place::Failed,
+    match path::open(rt, path) {
+        Ok(file) => match crate::read_open(rt, file, whose, path, room) {
+            Got::Failed(_) => Place::Failed,
             Got::Bytes(n) => Place::At(n),
-        };
+        },
+        Err(why) => {
+            if why.kind() == ErrorKind::NotFound {
+                return start_anew(book, room);
+            }
+            fail(rt, whose, path, why);
+            Place::Failed
+        }
     }
-    if os::errno() == libc::ENOENT {
-        return start_anew(book, room);
-    }
-    crate::fail(whose, path);
-    Place::Failed
 }
 
 // A fresh start takes the place of what could be a checkpoint, and of nothing else.
-fn replace_place(book: &[u8], whose: &[u8], path: &[u8], room: &mut [u8]) -> Place
+fn replace_place<R: Files + Complain>(
+    rt: &R,
+    book: &[u8],
+    whose: &[u8],
+    path: &[u8],
+    room: &mut [u8],
+) -> Place
     ensures begun { Begun result book.now room.old room.new }
 {
-    if is_replaceable(whose, path) {
+    if is_replaceable(rt, whose, path) {
         return start_anew(book, room);
     }
     Place::Failed
 }
 
 // Whether what is at path is missing, empty or as long as a checkpoint; if not, standard error says so.
-fn is_replaceable(whose: &[u8], path: &[u8]) -> bool {
-    let fd = os::open_read(path);
-    if fd < 0 {
-        if os::errno() == libc::ENOENT {
-            return true;
+fn is_replaceable<R: Files + Complain>(rt: &R, whose: &[u8], path: &[u8]) -> bool {
+    match path::open(rt, path) {
+        Ok(file) => {
+            let mut room = [0u8; crate::CHECKPOINT_ROOM];
+            match crate::read_open(rt, file, whose, path, &mut room) {
+                Got::Failed(_) => false,
+                Got::Bytes(n) => is_checkpoint_long(rt, n, whose, path),
+            }
         }
-        crate::fail(whose, path);
-        return false;
-    }
-    let mut room = [0u8; crate::CHECKPOINT_ROOM];
-    match crate::read_open(fd, whose, path, &mut room) {
-        Got::Failed => false,
-        Got::Bytes(n) => is_checkpoint_long(n, whose, path),
+        Err(why) => {
+            if why.kind() == ErrorKind::NotFound {
+                return true;
+            }
+            fail(rt, whose, path, why);
+            false
+        }
     }
 }
 
-fn is_checkpoint_long(n: usize, whose: &[u8], path: &[u8]) -> bool {
+fn is_checkpoint_long<R: Complain>(rt: &R, n: usize, whose: &[u8], path: &[u8]) -> bool {
     if n == 0 || n == checkpoint::SIZE {
         return true;
     }
-    crate::tell(
+    tell(
+        rt,
         whose,
         path,
         b": neither empty nor as long as a checkpoint, so it is left as it is\n",
@@ -180,11 +214,11 @@ fn begin(book: &[u8], out: &mut [u8]) -> Place
 
 // Says on standard error that the job starts anew, if what is due comes of another book than it was
 // begun with.
-pub fn tell_change(due: Due, book_path: &[u8], path: &[u8]) {
+pub fn tell_change<R: Complain>(rt: &R, due: Due, book_path: &[u8], path: &[u8]) {
     match due {
         Due::Anew => {
-            crate::tell(book_path, b" has changed since ", path);
-            io::write_all(STDERR_FILENO, b" was begun: the job starts anew\n");
+            tell(rt, book_path, b" has changed since ", path);
+            rt.complain(b" was begun: the job starts anew\n");
         }
         Due::Nothing => {}
         Due::Copy => {}
@@ -194,7 +228,8 @@ pub fn tell_change(due: Due, book_path: &[u8], path: &[u8]) {
 }
 
 // One wake from a checkpoint, with what is due before it. What it saves at path is left in saved.
-pub fn wake(
+pub fn wake<R: Files + RandomSource + Complain>(
+    rt: &R,
     book: &[u8],
     from: &[u8],
     budget: u32,
@@ -209,7 +244,7 @@ pub fn wake(
     match job::wake::wake(book, from, budget, saved) {
         Woken::NotWoken(x) => Kept::Refused(x),
         Woken::Moved(moved) => {
-            if settle(due, whose, path, book) && save::save(whose, path, saved, b"") {
+            if settle(rt, due, whose, path, book) && save::save(rt, whose, path, saved, b"") {
                 return Kept::Moved(moved);
             }
             Kept::Failed
@@ -219,11 +254,17 @@ pub fn wake(
 
 // Does what is due before a checkpoint is saved, and answers whether it could. The old checkpoint is
 // gone for good before the copy is another book, so that no stop leaves the two side by side.
-fn settle(due: Due, whose: &[u8], path: &[u8], book: &[u8]) -> bool {
+fn settle<R: Files + RandomSource + Complain>(
+    rt: &R,
+    due: Due,
+    whose: &[u8],
+    path: &[u8],
+    book: &[u8],
+) -> bool {
     match due {
         Due::Nothing => true,
-        Due::Copy => copy::keep(whose, path, book),
-        Due::Anew => save::remove(whose, path) && copy::keep(whose, path, book),
+        Due::Copy => copy::keep(rt, whose, path, book),
+        Due::Anew => save::remove(rt, whose, path) && copy::keep(rt, whose, path, book),
         Due::Refused(_) => false,
         Due::Failed => false,
     }

@@ -1,13 +1,16 @@
-// What the programs share: reading a descriptor to its end, writing bytes and pages, and a job that is
+// What the programs share: reading an input to its end, writing bytes and pages, and a job that is
 // kept in files.
 //
 // No contract can say what a call of the operating system read or wrote. Beside what it states, each
 // function is proved to end if those calls return.
 #![tactic(auto)]
 
+pub mod arguments;
+pub mod complain;
 pub mod copy;
 pub mod ended;
 pub mod kept;
+pub mod path;
 mod real;
 pub mod save;
 
@@ -17,10 +20,12 @@ ghost use Rattle.files.specs.Got.{Within};
 ghost use Rattle.files.specs.Put.{front, put_end, put_bytes};
 ghost use Rattle.files.specs.Ended.{Printed};
 
+use complain::{Complain, fail, tell};
 use ended::Ended;
 use job::checkpoint;
-use libc::{STDERR_FILENO, STDIN_FILENO, STDOUT_FILENO};
 use rules::book::LONGEST_BOOK;
+use std::io::{Error, Read};
+use std::rt::Files;
 use text::page::Page;
 use text::refusal;
 
@@ -30,25 +35,28 @@ pub const BOOK_ROOM: usize = LONGEST_BOOK + 1;
 // One byte more than a checkpoint, likewise.
 pub const CHECKPOINT_ROOM: usize = checkpoint::SIZE + 1;
 
+// The longest path with a zero behind it.
+pub const PATH_ROOM: usize = save::LONGEST_PATH + 1;
+
 // What came of reading into a buffer. Either way its other bytes may have changed too.
 #[derive(Clone, Copy)]
 pub enum Got {
     // So many bytes stand at the start of the buffer: all there were, or as many as it holds.
     Bytes(usize),
-    // A read failed, and errno says why.
-    Failed,
+    // A read failed, and this is why.
+    Failed(Error),
 }
 
 // Reads until the input ends or buf is full, in as many pieces as the input comes in.
-pub fn read_all(fd: i32, buf: &mut [u8]) -> Got
+pub fn read_all<F: Read>(from: &mut F, buf: &mut [u8]) -> Got
     ensures within { Within result buf.new }
 {
     let mut n = 0;
     while n < buf.len() {
-        let got = read_some(fd, &mut buf[n..]);
+        let got = read_some(from, &mut buf[n..]);
         match got {
-            Got::Failed => {
-                return Got::Failed;
+            Got::Failed(why) => {
+                return Got::Failed(why);
             }
             Got::Bytes(more) => {
                 if more == 0 {
@@ -62,77 +70,92 @@ pub fn read_all(fd: i32, buf: &mut [u8]) -> Got
 }
 
 // Reads standard input as read_all does; if it can't, standard error says why.
-pub fn read_input(buf: &mut [u8]) -> Got
+pub fn read_input<R: Input + Complain>(rt: &R, buf: &mut [u8]) -> Got
     ensures within { Within result buf.new }
 {
-    let got = read_all(STDIN_FILENO, buf);
-    tell_input(got);
+    let got = read_all(&mut rt.reader(), buf);
+    tell_input(rt, got);
     got
 }
 
 // One more read of standard input: no bytes are its end. A failure is told likewise.
-pub fn read_on(buf: &mut [u8]) -> Got
+pub fn read_on<R: Input + Complain>(rt: &R, buf: &mut [u8]) -> Got
     ensures within { Within result buf.new }
 {
-    let got = read_some(STDIN_FILENO, buf);
-    tell_input(got);
+    let got = read_some(&mut rt.reader(), buf);
+    tell_input(rt, got);
     got
 }
 
-fn tell_input(got: Got) {
+fn tell_input<R: Complain>(rt: &R, got: Got) {
     match got {
-        Got::Failed => os::fail(b"standard input"),
+        Got::Failed(why) => fail(rt, b"", b"standard input", why),
         Got::Bytes(_) => {}
     }
 }
 
 // Reads the file at path as read_all does; if it can't, standard error says why, behind `whose`.
-pub fn read_file(whose: &[u8], path: &[u8], buf: &mut [u8]) -> Got
+pub fn read_file<R: Files + Complain>(rt: &R, whose: &[u8], path: &[u8], buf: &mut [u8]) -> Got
     ensures within { Within result buf.new }
 {
-    let fd = os::open_read(path);
-    if fd < 0 {
-        fail(whose, path);
-        return Got::Failed;
+    match path::open(rt, path) {
+        Ok(file) => read_open(rt, file, whose, path, buf),
+        Err(why) => {
+            fail(rt, whose, path, why);
+            Got::Failed(why)
+        }
     }
-    read_open(fd, whose, path, buf)
 }
 
 // Reads the book at path likewise, and puts the path by which the system knows it at the start of real.
-pub fn read_book(whose: &[u8], path: &[u8], buf: &mut [u8], real: &mut [u8]) -> Got
+pub fn read_book<R: Files + Alloc + Complain>(
+    rt: &R,
+    whose: &[u8],
+    path: &[u8],
+    buf: &mut [u8],
+    real: &mut [u8],
+) -> Got
     ensures within { Within result buf.new }
 {
-    let fd = os::open_read(path);
-    if fd < 0 {
-        fail(whose, path);
-        return Got::Failed;
+    match path::open(rt, path) {
+        Ok(file) => {
+            real::find_path(rt, path, real);
+            read_open(rt, file, whose, path, buf)
+        }
+        Err(why) => {
+            fail(rt, whose, path, why);
+            Got::Failed(why)
+        }
     }
-    real::find_path(fd, real);
-    read_open(fd, whose, path, buf)
 }
 
-// Reads an open file and closes it. A failure is told before the close, which may set errno.
-pub fn read_open(fd: i32, whose: &[u8], path: &[u8], buf: &mut [u8]) -> Got
+// Reads an open file and closes it.
+pub fn read_open<R: Complain, F: Read + Drop>(
+    rt: &R,
+    file: F,
+    whose: &[u8],
+    path: &[u8],
+    buf: &mut [u8],
+) -> Got
     ensures within { Within result buf.new }
 {
-    let got = read_all(fd, buf);
+    let mut file = file;
+    let got = read_all(&mut file, buf);
     match got {
-        Got::Failed => fail(whose, path),
+        Got::Failed(why) => fail(rt, whose, path, why),
         Got::Bytes(_) => {}
     }
-    libc::close(fd);
     got
 }
 
 // One read. Only at the end of the input does it come to no bytes, for room isn't empty.
-pub(crate) fn read_some(fd: i32, room: &mut [u8]) -> Got
+pub(crate) fn read_some<F: Read>(from: &mut F, room: &mut [u8]) -> Got
     ensures within { Within result room.new }
 {
-    let got = libc::read(fd, room);
-    if got < 0 {
-        return Got::Failed;
+    match from.read(room) {
+        Ok(n) => Got::Bytes(n),
+        Err(why) => Got::Failed(why),
     }
-    Got::Bytes(io::count(got, room))
 }
 
 // The first n of the bytes, or all of them where there are fewer.
@@ -157,26 +180,30 @@ pub fn put(dst: &mut [u8], n: usize, src: &[u8]) -> usize
         return len;
     }
     let fitting = take_front(src, len - n);
-    n + bytes::copy(fitting, &mut dst[n..])
+    let end = n + fitting.len();
+    dst[n..end].copy_from_slice(fitting);
+    end
 }
 
 // Writes the bytes to standard output, and answers whether it could; if not, standard error says why,
 // and calls it by this name.
-pub fn print_bytes(name: &[u8], bytes: &[u8]) -> bool {
-    let is_printed = io::write_all(STDOUT_FILENO, bytes);
-    if !is_printed {
-        os::fail(name);
+pub fn print_bytes<R: Print + Complain>(rt: &R, name: &[u8], bytes: &[u8]) -> bool {
+    match rt.write_all(bytes) {
+        Ok(()) => true,
+        Err(why) => {
+            fail(rt, b"", name, why);
+            false
+        }
     }
-    is_printed
 }
 
 // Prints what stands on the page likewise, and answers how that ends the program.
-pub fn print_page(name: &[u8], p: Page) -> Ended
+pub fn print_page<R: Print + Complain>(rt: &R, name: &[u8], p: Page) -> Ended
     ensures printed { Printed result (front p.len p.bytes) }
 {
     let bytes = p.bytes;
     let text = take_front(&bytes, p.len);
-    if !print_bytes(name, text) {
+    if !print_bytes(rt, name, text) {
         return Ended::Failed;
     }
     if refusal::is_told(text) {
@@ -185,24 +212,12 @@ pub fn print_page(name: &[u8], p: Page) -> Ended
     Ended::Done
 }
 
-// Says on standard error what failed last at a path, behind the name of whoever it is told of.
-pub(crate) fn fail(whose: &[u8], path: &[u8]) {
-    io::write_all(STDERR_FILENO, whose);
-    os::fail(path);
-}
-
-// Says on standard error what is to be said of a path, likewise.
-pub(crate) fn tell(whose: &[u8], path: &[u8], words: &[u8]) {
-    io::write_all(STDERR_FILENO, whose);
-    io::write_all(STDERR_FILENO, path);
-    io::write_all(STDERR_FILENO, words);
-}
-
-// Says what stands on the page likewise, if anything does.
-pub fn tell_page(whose: &[u8], path: &[u8], p: Page) {
+// Says what stands on the page on standard error, behind a path and the name of whoever it is told of,
+// if anything does.
+pub fn tell_page<R: Complain>(rt: &R, whose: &[u8], path: &[u8], p: Page) {
     if p.len == 0 {
         return;
     }
     let bytes = p.bytes;
-    tell(whose, path, take_front(&bytes, p.len));
+    tell(rt, whose, path, take_front(&bytes, p.len));
 }

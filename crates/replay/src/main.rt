@@ -1,9 +1,11 @@
 // Answers a stream of calls, so that any other program can drive the library: `replay <FRAMES`.
 #![tactic(auto)]
 
+use files::complain::Complain;
 use files::ended::Ended;
-use files::{Got, ended};
+use files::{Got, arguments, ended};
 use rules::reader;
+use std::rt::Env;
 use text::frame;
 use text::frame::{Asked, Broken, Frame};
 use text::page::Page;
@@ -36,27 +38,27 @@ enum Answered {
     Failed,
 }
 
-fn main() {
-    ended::tell(run());
+fn main(rt: HostRuntime) {
+    ended::tell(&rt, run(&rt));
 }
 
-fn run() -> Ended {
-    if os::arg_count() != 1 {
-        return ended::misuse(b"usage: replay <FRAMES\n");
+fn run<R: Env + Input + Print + Complain>(rt: &R) -> Ended {
+    if arguments::count(rt) != 1 {
+        return ended::misuse(rt, b"usage: replay <FRAMES\n");
     }
     let mut long = [0u8; LONG];
     let mut short = [0u8; SHORT];
-    answer_all(&mut long, &mut short)
+    answer_all(rt, &mut long, &mut short)
 }
 
 // A proved loop has to end, and nothing says that the input does. So the loop counts to a number that
 // no run reaches.
-fn answer_all(long: &mut [u8], short: &mut [u8]) -> Ended {
+fn answer_all<R: Input + Print + Complain>(rt: &R, long: &mut [u8], short: &mut [u8]) -> Ended {
     let mut i = 0;
     while i < u64::MAX {
-        let answered = answer_next(long, short);
+        let answered = answer_next(rt, long, short);
         if !is_whole(answered) {
-            return end_at(i, answered);
+            return end_at(rt, i, answered);
         }
         i += 1;
     }
@@ -64,22 +66,26 @@ fn answer_all(long: &mut [u8], short: &mut [u8]) -> Ended {
 }
 
 // How the program ends that stops at frame i.
-fn end_at(i: u64, x: Answered) -> Ended {
+fn end_at<R: Complain>(rt: &R, i: u64, x: Answered) -> Ended {
     match x {
         Answered::Whole => Ended::Done,
         Answered::Over => Ended::Done,
         Answered::Broken(how) => {
-            files::tell_page(b"", b"", frame::tell_broken(i, how));
+            files::tell_page(rt, b"", b"", frame::tell_broken(i, how));
             Ended::Failed
         }
         Answered::Failed => Ended::Failed,
     }
 }
 
-fn answer_next(long: &mut [u8], short: &mut [u8]) -> Answered {
+fn answer_next<R: Input + Print + Complain>(
+    rt: &R,
+    long: &mut [u8],
+    short: &mut [u8],
+) -> Answered {
     let mut head = [0u8; 24];
-    match files::read_input(&mut head) {
-        Got::Failed => Answered::Failed,
+    match files::read_input(rt, &mut head) {
+        Got::Failed(_) => Answered::Failed,
         Got::Bytes(n) => {
             if n == 0 {
                 return Answered::Over;
@@ -89,22 +95,32 @@ fn answer_next(long: &mut [u8], short: &mut [u8]) -> Answered {
             }
             match frame::read(&head) {
                 Asked::Stop => Answered::Broken(Broken::Head),
-                Asked::Call(f) => answer_frame(f, long, short),
+                Asked::Call(f) => answer_frame(rt, f, long, short),
             }
         }
     }
 }
 
 // The longer of the two goes where it fits.
-fn answer_frame(f: Frame, long: &mut [u8], short: &mut [u8]) -> Answered {
+fn answer_frame<R: Input + Print + Complain>(
+    rt: &R,
+    f: Frame,
+    long: &mut [u8],
+    short: &mut [u8],
+) -> Answered {
     if f.out <= short.len() {
-        return answer_in(f, long, short);
+        return answer_in(rt, f, long, short);
     }
-    answer_in(f, short, long)
+    answer_in(rt, f, short, long)
 }
 
 // A head that was read asks for no more than the arrays hold.
-fn answer_in(f: Frame, first: &mut [u8], second: &mut [u8]) -> Answered {
+fn answer_in<R: Input + Print + Complain>(
+    rt: &R,
+    f: Frame,
+    first: &mut [u8],
+    second: &mut [u8],
+) -> Answered {
     let n = f.book;
     let m = f.checkpoint;
     let k = f.out;
@@ -117,25 +133,30 @@ fn answer_in(f: Frame, first: &mut [u8], second: &mut [u8]) -> Answered {
     if second.len() < k {
         return Answered::Broken(Broken::Head);
     }
-    answer_parts(f, &mut first[..n + m], &mut second[..k])
+    answer_parts(rt, f, &mut first[..n + m], &mut second[..k])
 }
 
 // The book and the checkpoint stand one behind the other, as in the input.
-fn answer_parts(f: Frame, parts: &mut [u8], out: &mut [u8]) -> Answered {
-    let filled = fill(parts);
+fn answer_parts<R: Input + Print + Complain>(
+    rt: &R,
+    f: Frame,
+    parts: &mut [u8],
+    out: &mut [u8],
+) -> Answered {
+    let filled = fill(rt, parts);
     if !is_whole(filled) {
         return filled;
     }
-    let filled = fill(out);
+    let filled = fill(rt, out);
     if !is_whole(filled) {
         return filled;
     }
     let p = call_on(f, parts, out);
     let bytes = p.bytes;
-    if !files::print_bytes(b"standard output", files::take_front(&bytes, p.len)) {
+    if !files::print_bytes(rt, b"standard output", files::take_front(&bytes, p.len)) {
         return Answered::Failed;
     }
-    if !files::print_bytes(b"standard output", out) {
+    if !files::print_bytes(rt, b"standard output", out) {
         return Answered::Failed;
     }
     Answered::Whole
@@ -151,9 +172,9 @@ fn is_whole(x: Answered) -> bool {
 }
 
 // Reads until buf is full.
-fn fill(buf: &mut [u8]) -> Answered {
-    match files::read_input(buf) {
-        Got::Failed => Answered::Failed,
+fn fill<R: Input + Complain>(rt: &R, buf: &mut [u8]) -> Answered {
+    match files::read_input(rt, buf) {
+        Got::Failed(_) => Answered::Failed,
         Got::Bytes(n) => {
             if n < buf.len() {
                 return Answered::Broken(Broken::Cut);

@@ -5,62 +5,66 @@ mod log;
 mod plant;
 mod round;
 
+use files::complain::Complain;
 use files::ended::Ended;
 use files::save::LONGEST_SAVED;
-use files::{Got, ended};
-use libc::STDERR_FILENO;
+use files::{Got, arguments, ended};
 use roster::plants;
 use roster::plants::Listed;
+use std::random::RandomSource;
+use std::rt::{Env, Files};
 use text::budget;
 use text::budget::Budget;
 
 // 16 of the longest lines come to 130,880 bytes: what is longer is wrong in what is read of it.
 pub(crate) const LIST_ROOM: usize = 131072;
 
-fn main() {
-    ended::tell(run());
+fn main(rt: HostRuntime) {
+    ended::tell(&rt, run(&rt));
 }
 
-fn run() -> Ended {
-    if os::arg_count() != 3 {
-        return misuse();
+fn run<R: Env + Files + Print + Alloc + RandomSource + Complain>(rt: &R) -> Ended {
+    if arguments::count(rt) != 3 {
+        return misuse(rt);
     }
     let mut word = [0u8; 4096];
-    let n = os::arg(2, &mut word);
-    if os::errno() != 0 {
-        return misuse();
-    }
+    let Ok(n) = rt.arg(2, &mut word) else {
+        return misuse(rt);
+    };
     match budget::read(&word[..n]) {
-        Budget::Wrong => misuse(),
-        Budget::Records(b) => read_path(b),
+        Budget::Wrong => misuse(rt),
+        Budget::Records(b) => read_path(rt, b),
     }
 }
 
-fn misuse() -> Ended {
-    ended::misuse(b"usage: tablet LIST BUDGET, of 1 or more\n")
+fn misuse<R: Complain>(rt: &R) -> Ended {
+    ended::misuse(rt, b"usage: tablet LIST BUDGET, of 1 or more\n")
 }
 
-fn read_path(b: u32) -> Ended {
+fn read_path<R: Env + Files + Print + Alloc + RandomSource + Complain>(rt: &R, b: u32) -> Ended {
     // With a budget of 0 no turn would be the last.
     if b == 0 {
-        return misuse();
+        return misuse(rt);
     }
     // The place is saved beside LIST, under a name of 6 bytes more.
     let mut path = [0u8; LONGEST_SAVED - 6];
-    let n = os::arg(1, &mut path);
-    if os::errno() != 0 {
-        return ended::misuse(b"tablet: LIST is longer than 4082 bytes\n");
-    }
-    read_list(&path[..n], b)
+    let Ok(n) = rt.arg(1, &mut path) else {
+        return ended::misuse(rt, b"tablet: LIST is longer than 4082 bytes\n");
+    };
+    read_list(rt, &path[..n], b)
 }
 
-fn read_list(path: &[u8], b: u32) -> Ended {
+fn read_list<R: Files + Print + Alloc + RandomSource + Complain>(
+    rt: &R,
+    path: &[u8],
+    b: u32,
+) -> Ended {
     let mut list = [0u8; LIST_ROOM];
-    match files::read_file(b"", path, &mut list) {
-        Got::Failed => Ended::Failed,
+    match files::read_file(rt, b"", path, &mut list) {
+        Got::Failed(_) => Ended::Failed,
         Got::Bytes(n) => {
             let end = end_line(&mut list, n);
-            judge(files::take_front(&list, end), path, b)
+            judge(rt, files::take_front(&list, end), path, b)
         }
     }
 }
@@ -80,18 +84,23 @@ fn end_line(list: &mut [u8], n: usize) -> usize {
     n + 1
 }
 
-fn judge(list: &[u8], path: &[u8], b: u32) -> Ended {
+fn judge<R: Files + Print + Alloc + RandomSource + Complain>(
+    rt: &R,
+    list: &[u8],
+    path: &[u8],
+    b: u32,
+) -> Ended {
     let listed = plants::judge(list);
     match listed {
-        Listed::Plants(n) => round::run(list, n as usize, path, b),
-        Listed::Wrong(_) => complain(list, path, listed),
-        Listed::Again(_) => complain(list, path, listed),
-        Listed::Many => complain(list, path, listed),
+        Listed::Plants(n) => round::run(rt, list, n as usize, path, b),
+        Listed::Wrong(_) => complain(rt, list, path, listed),
+        Listed::Again(_) => complain(rt, list, path, listed),
+        Listed::Many => complain(rt, list, path, listed),
     }
 }
 
-fn complain(list: &[u8], path: &[u8], listed: Listed) -> Ended {
-    io::write_all(STDERR_FILENO, path);
-    files::tell_page(b"", b": ", text::plants::tell_fault(list, listed));
+fn complain<R: Complain>(rt: &R, list: &[u8], path: &[u8], listed: Listed) -> Ended {
+    rt.complain(path);
+    files::tell_page(rt, b"", b": ", text::plants::tell_fault(list, listed));
     Ended::Failed
 }

@@ -4,14 +4,18 @@
 use crate::log::Log;
 use crate::plant::Asked;
 use crate::{LIST_ROOM, log, plant};
+use files::complain::{Complain, fail};
 use files::ended::Ended;
 use files::save::LONGEST_SAVED;
-use files::{BOOK_ROOM, Got, save};
+use files::{BOOK_ROOM, Got, path, save};
 use queue::reply::Turned;
 use queue::slots::{Queue, SLOT_COUNT};
 use queue::{books, round, slots};
 use roster::{lines, place};
 use rules::book::LONGEST_BOOK;
+use std::io::ErrorKind;
+use std::random::RandomSource;
+use std::rt::Files;
 
 // As many books as there are slots, of as many records as stand beside a trailer, each turn one record
 // at least. Only while another program takes the books back could there be more, and the next run goes
@@ -25,54 +29,80 @@ struct Round {
     log: Log,
 }
 
-pub(crate) fn run(list: &[u8], n: usize, path: &[u8], budget: u32) -> Ended {
+pub(crate) fn run<R: Files + Print + Alloc + RandomSource + Complain>(
+    rt: &R,
+    list: &[u8],
+    n: usize,
+    path: &[u8],
+    budget: u32,
+) -> Ended {
     let mut room = [0u8; BOOK_ROOM];
-    run_in(list, n, path, budget, &mut room)
+    run_in(rt, list, n, path, budget, &mut room)
 }
 
 // The plants have the room for a book by turns.
-fn run_in(list: &[u8], n: usize, path: &[u8], budget: u32, room: &mut [u8]) -> Ended {
+fn run_in<R: Files + Print + Alloc + RandomSource + Complain>(
+    rt: &R,
+    list: &[u8],
+    n: usize,
+    path: &[u8],
+    budget: u32,
+    room: &mut [u8],
+) -> Ended {
     let mut name = [0u8; LONGEST_SAVED];
     let end = files::put(&mut name, 0, path);
     let end = files::put(&mut name, end, b".place");
-    go_on(list, n, &name[..end], budget, room)
+    go_on(rt, list, n, &name[..end], budget, room)
 }
 
 // Goes on behind the plant that was served last. A place that can't be read is no reason to begin
 // with the first plant again.
-fn go_on(list: &[u8], n: usize, path: &[u8], budget: u32, room: &mut [u8]) -> Ended {
+fn go_on<R: Files + Print + Alloc + RandomSource + Complain>(
+    rt: &R,
+    list: &[u8],
+    n: usize,
+    path: &[u8],
+    budget: u32,
+    room: &mut [u8],
+) -> Ended {
     let mut kept = [0u8; LIST_ROOM];
-    match read_kept(path, &mut kept) {
-        Got::Failed => Ended::Failed,
+    match read_kept(rt, path, &mut kept) {
+        Got::Failed(_) => Ended::Failed,
         Got::Bytes(k) => {
-            let filled = fill(list, n, room);
+            let filled = fill(rt, list, n, room);
             let mut q = filled.queue;
             q.last = (place::find(list, files::take_front(&kept, k)) % SLOT_COUNT) as u8;
             let begun = filled.log;
-            log::end(take_turns(list, q, begun, path, budget, room))
+            log::end(take_turns(rt, list, q, begun, path, budget, room))
         }
     }
 }
 
 // What is kept of the last run, or nothing where there is no such file.
-fn read_kept(path: &[u8], kept: &mut [u8]) -> Got {
-    let fd = os::open_read(path);
-    if 0 <= fd {
-        return files::read_open(fd, b"", path, kept);
+fn read_kept<R: Files + Complain>(rt: &R, path: &[u8], kept: &mut [u8]) -> Got {
+    match path::open(rt, path) {
+        Ok(file) => files::read_open(rt, file, b"", path, kept),
+        Err(why) => {
+            if why.kind() == ErrorKind::NotFound {
+                return Got::Bytes(0);
+            }
+            fail(rt, b"", path, why);
+            Got::Failed(why)
+        }
     }
-    if os::errno() == libc::ENOENT {
-        return Got::Bytes(0);
-    }
-    os::fail(path);
-    Got::Failed
 }
 
-fn fill(list: &[u8], n: usize, room: &mut [u8]) -> Round {
+fn fill<R: Files + Print + Alloc + RandomSource + Complain>(
+    rt: &R,
+    list: &[u8],
+    n: usize,
+    room: &mut [u8],
+) -> Round {
     let mut queue = slots::begin();
     let mut log = log::begin();
     let mut i = 0;
     while i < n {
-        let t = plant::ask(lines::take_line(list, i), Asked::Count, log, room);
+        let t = plant::ask(rt, lines::take_line(list, i), Asked::Count, log, room);
         let r = books::add(queue, t.left);
         queue = r.queue;
         log = t.log;
@@ -81,7 +111,8 @@ fn fill(list: &[u8], n: usize, room: &mut [u8]) -> Round {
     Round { queue, log }
 }
 
-fn take_turns(
+fn take_turns<R: Files + Print + Alloc + RandomSource + Complain>(
+    rt: &R,
     list: &[u8],
     first: Queue,
     begun: Log,
@@ -101,10 +132,10 @@ fn take_turns(
             }
             Turned::Served(i, _) => {
                 let after = r.queue;
-                if !keep(list, after.last, path) {
+                if !keep(rt, list, after.last, path) {
                     return log::fail(log);
                 }
-                let t = serve(list, i, after, budget, log, room);
+                let t = serve(rt, list, i, after, budget, log, room);
                 q = t.queue;
                 log = t.log;
             }
@@ -115,9 +146,10 @@ fn take_turns(
 }
 
 // The list turned round, so that the plant in this slot stands last.
-fn keep(list: &[u8], slot: u8, path: &[u8]) -> bool {
+fn keep<R: Files + RandomSource + Complain>(rt: &R, list: &[u8], slot: u8, path: &[u8]) -> bool {
     let n = slot as usize + 1;
     save::save(
+        rt,
         b"",
         path,
         lines::take_after(list, n),
@@ -127,8 +159,16 @@ fn keep(list: &[u8], slot: u8, path: &[u8]) -> bool {
 
 // The plant is counted by what its files say after the turn: it may be one that can't be served, or
 // whose book or checkpoint another program changed meanwhile.
-fn serve(list: &[u8], i: usize, q: Queue, budget: u32, log: Log, room: &mut [u8]) -> Round {
-    let t = plant::ask(lines::take_line(list, i), Asked::Turn(budget), log, room);
+fn serve<R: Files + Print + Alloc + RandomSource + Complain>(
+    rt: &R,
+    list: &[u8],
+    i: usize,
+    q: Queue,
+    budget: u32,
+    log: Log,
+    room: &mut [u8],
+) -> Round {
+    let t = plant::ask(rt, lines::take_line(list, i), Asked::Turn(budget), log, room);
     let log = t.log;
     let queue = recount(q, i, t.left);
     Round { queue, log }

@@ -3,65 +3,74 @@
 
 mod kept;
 
+use files::complain::Complain;
 use files::copy::LONGEST_CHECKPOINT;
-use files::ended;
 use files::ended::Ended;
 use files::save::LONGEST_PATH;
+use files::{arguments, ended};
+use std::random::RandomSource;
+use std::rt::{Env, Files};
 use text::budget;
 use text::budget::Budget;
 
-fn main() {
-    ended::tell(run());
+fn main(rt: HostRuntime) {
+    ended::tell(&rt, run(&rt));
 }
 
-fn run() -> Ended {
-    let words = os::arg_count();
+fn run<R: Env + Files + Print + Alloc + RandomSource + Complain>(rt: &R) -> Ended {
+    let words = arguments::count(rt);
     if words == 4 {
-        return read_budget(false);
+        return read_budget(rt, false);
     }
-    if words == 5 && is_fresh_asked() {
-        return read_budget(true);
+    if words == 5 && is_fresh_asked(rt) {
+        return read_budget(rt, true);
     }
-    misuse()
+    misuse(rt)
 }
 
-fn misuse() -> Ended {
-    ended::misuse(b"usage: wake BOOK CHECKPOINT BUDGET [fresh]\n")
+fn misuse<R: Complain>(rt: &R) -> Ended {
+    ended::misuse(rt, b"usage: wake BOOK CHECKPOINT BUDGET [fresh]\n")
 }
 
 // Whether the fourth argument is `fresh`.
-fn is_fresh_asked() -> bool {
+fn is_fresh_asked<R: Env>(rt: &R) -> bool {
     let mut word = [0u8; 5];
-    let n = os::arg(4, &mut word);
-    roster::bytes::are_same(&word[..n], b"fresh")
+    match rt.arg(4, &mut word) {
+        Ok(n) => roster::bytes::are_same(&word[..n], b"fresh"),
+        Err(_) => false,
+    }
 }
 
-fn read_budget(anew: bool) -> Ended {
+fn read_budget<R: Env + Files + Print + Alloc + RandomSource + Complain>(
+    rt: &R,
+    anew: bool,
+) -> Ended {
     let mut word = [0u8; 4096];
-    let n = os::arg(3, &mut word);
-    if os::errno() != 0 {
-        return misuse();
-    }
+    let Ok(n) = rt.arg(3, &mut word) else {
+        return misuse(rt);
+    };
     match budget::read(&word[..n]) {
-        Budget::Wrong => misuse(),
-        Budget::Records(b) => read_paths(b, anew),
+        Budget::Wrong => misuse(rt),
+        Budget::Records(b) => read_paths(rt, b, anew),
     }
 }
 
-fn read_paths(b: u32, anew: bool) -> Ended {
+fn read_paths<R: Env + Files + Print + Alloc + RandomSource + Complain>(
+    rt: &R,
+    b: u32,
+    anew: bool,
+) -> Ended {
     let mut book = [0u8; LONGEST_PATH];
-    let n = os::arg(1, &mut book);
-    if os::errno() != 0 {
-        return ended::misuse(b"wake: BOOK is longer than 4095 bytes\n");
-    }
+    let Ok(n) = rt.arg(1, &mut book) else {
+        return ended::misuse(rt, b"wake: BOOK is longer than 4095 bytes\n");
+    };
     let mut checkpoint = [0u8; LONGEST_CHECKPOINT];
-    let m = os::arg(2, &mut checkpoint);
-    if os::errno() != 0 {
-        return ended::misuse(b"wake: CHECKPOINT is longer than 4083 bytes\n");
-    }
+    let Ok(m) = rt.arg(2, &mut checkpoint) else {
+        return ended::misuse(rt, b"wake: CHECKPOINT is longer than 4083 bytes\n");
+    };
     // The copy beside no name would have one, and the checkpoint none.
     if m == 0 {
-        return misuse();
+        return misuse(rt);
     }
-    kept::run(&book[..n], &checkpoint[..m], b, anew)
+    kept::run(rt, &book[..n], &checkpoint[..m], b, anew)
 }
