@@ -1,7 +1,4 @@
--- What a count promises of a buffer, and of a buffer whose part was filled; what is put into one; how a
--- job stands in its files; what the contracts leave no choice of.
-pub mod GotLaws
-pub mod PartLaws
+-- What is put into a buffer; how a job stands in its files; what the contracts leave no choice of.
 pub mod PutLaws
 pub mod KeptLaws
 pub mod GuardLaws

@@ -1,12 +1,12 @@
 -- What is put behind the first bytes of a buffer, from what a copy of what fits leaves.
 -- Assumes nothing.
 use Prim.Native.Nat.{ℕ, zero, suc, ◌+◌, ◌-◌, ◌<◌, ◌≤◌, min}
-use mathlib.Core.List.{List, [], ◌∷◌, ◌++◌, append-nil, append_assoc}
+use mathlib.Core.List.{List, [], ◌∷◌, append-nil, append_assoc}
 use mathlib.Core.Path.{◌≡◌, sym, ap, ◌∙◌}
 use native.Mathlib.Nat.{zero-min, min-zero, suc-min-suc, le_of_lt}
 use native.Mathlib.Omega.{arith}
-use lib.ListN.{length, take, drop, length-take, length-drop}
-use lib.Seq.{take_all, take-length, drop-length, drop-drop}
+use lib.ListN.{length, drop, length-take}
+use lib.Seq.{take_all, drop-length, drop-drop}
 use borrow.Rule.Slice.PartMut.{put_mid}
 use Rattle.files.specs.Put.{front, put_end, put_bytes}
 
@@ -19,10 +19,6 @@ pub drop_past : (n : ℕ) (xs : List ℕ) → length xs ≤ n → drop n xs ≡ 
 drop_past n xs h =
     let all : min n (length xs) ≡ length xs = omega arith in
     sym (drop_min n xs) ∙ ap (λ (m : ℕ). drop m xs) all ∙ drop-length xs
-
-pub put_end-le : (n : ℕ) (xs ys : List ℕ) → put_end n xs ys ≤ length xs
-unfolding put_end
-put_end-le n xs ys = omega arith
 
 module _ (n : ℕ) (xs ys : List ℕ) where
   -- Behind more bytes than there are nothing fits.

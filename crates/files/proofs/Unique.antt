@@ -21,8 +21,10 @@ pub put_bytes_unique : (κs : _) (a : _) (r s : _) (x y : _)
     → put.Post κs a r x → put.Post κs a s y → x.0.now ≡ y.0.now
 put_bytes_unique κs a r s x y p q = p.1.1 ∙ sym q.1.1
 
-pub misuse_unique : (κs : _) (a : _) (r s : _) (x y : _) → misuse.Post κs a r x → misuse.Post κs a s y → r ≡ s
-misuse_unique κs a r s x y p q = p ∙ sym q
+-- Of any runtime: its type and the laws, members and code that it has are named first.
+pub misuse_unique : (t l m d : _) (κs : _) (a : _) (r s : _) (x y : _)
+    → misuse.Post t l m d κs a r x → misuse.Post t l m d κs a s y → r ≡ s
+misuse_unique t l m d κs a r s x y p q = p ∙ sym q
 
 pub is_done_unique : (κs : _) (a : _) (r s : _) (x y : _) → is-done.Post κs a r x → is-done.Post κs a s y → r ≡ s
 is_done_unique κs a r s x y p q = p ∙ sym q
@@ -35,7 +37,11 @@ pub start_anew_bytes_unique : (κs : _) (a : _) (r s : _) (x y : _)
     → start-anew.Post κs a r x → start-anew.Post κs a s y → x.1.0.now ≡ y.1.0.now
 start_anew_bytes_unique κs a r s x y p q = p.1 ∙ sym q.1
 
--- Whether the save came off, the operating system decides.
-pub wake_bytes_unique : (κs : _) (a : _) (r s : _) (x y : _)
-    → wake.Post κs a r x → wake.Post κs a s y → x.1.1.1.1.1.1.0.now ≡ y.1.1.1.1.1.1.0.now
-wake_bytes_unique κs a r s x y p q = p.1 ∙ sym q.1
+-- Whether the save came off, the operating system decides. The runtime comes with its files and folders.
+pub wake_bytes_unique : (t u v l m n fs fs' rd rd' wr wr' sk sk' op op' dr dr' rs rs' co co' f' d' : _)
+    (κs : _) (a : _) (r s : _) (x y : _)
+    → wake.Post t u v l m n fs fs' rd rd' wr wr' sk sk' op op' dr dr' rs rs' co co' f' d' κs a r x
+    → wake.Post t u v l m n fs fs' rd rd' wr wr' sk sk' op op' dr dr' rs rs' co co' f' d' κs a s y
+    → x.1.1.1.1.1.1.1.0.now ≡ y.1.1.1.1.1.1.1.0.now
+wake_bytes_unique t u v l m n fs fs' rd rd' wr wr' sk sk' op op' dr dr' rs rs' co co' f' d' κs a r s x y p q =
+    p.1 ∙ sym q.1

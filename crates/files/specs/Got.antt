@@ -2,7 +2,7 @@
 --
 --     Within r xs   if r is a count, so many bytes stand at the start of xs
 --
--- Laws: proofs/GotLaws.antt. Definitions only.
+-- Definitions only.
 use Rattle.std.specs.Prelude.{ℕ, List}
 use Rattle.io.specs.Counts.{IsPrefixLen}
 use Rattle.files.specs.declared.Got.{Got}

@@ -1,10 +1,10 @@
 // What is said on standard error.
 ghost use Rattle.io.specs.Counts.{IsPrefixLen};
 
+use std::fmt;
 use std::fmt::Write;
 use std::io::{Error, Print};
 use std::rt::LibcRuntime;
-use std::fmt;
 
 // Standard error, for bytes that needn't be text, as a path's.
 pub trait Complain {

@@ -1,8 +1,7 @@
 // Files by their paths, which are bytes here and text to std.
-use std::fs;
 use std::io::{Error, Result};
 use std::rt::Files;
-use std::str;
+use std::{fs, str};
 
 // What the system itself says of a name whose bytes it can't take.
 const ILLEGAL_BYTES: i32 = 84;
