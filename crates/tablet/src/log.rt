@@ -6,7 +6,7 @@ use roster::lines;
 use text::page::Page;
 use text::{page, refusal};
 
-#[derive(Drop)]
+#[derive(Clone, Copy)]
 pub(crate) struct Log {
     // Whether standard error tells a failure.
     pub is_failed: bool,
