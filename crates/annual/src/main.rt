@@ -35,9 +35,5 @@ fn print_held<R: Input + Print + Complain>(rt: &R, book: &mut [u8], n: usize) ->
 }
 
 fn print_year<R: Print + Complain>(rt: &R, book: &[u8], more: bool) -> Ended {
-    files::print_page(
-        rt,
-        b"standard output",
-        report::tell_annual(book, more),
-    )
+    files::print_page(rt, b"standard output", report::tell_annual(book, more))
 }

@@ -16,7 +16,7 @@
 --     encode h s                     the checkpoint that says s, of a book with the head h
 --
 -- Laws: proofs/CheckpointLaws.antt. Definitions only.
-use Rattle.std.specs.Prelude.{ℕ, zero, suc, ◌+◌, ◌*◌, ◌/◌, ◌%◌, Bool, true, List, [], ◌∷◌, ◌++◌, leb, ltb, eqb}
+use Rattle.std.specs.Prelude.{ℕ, zero, suc, ◌+◌, ◌*◌, ◌/◌, ◌%◌, Bool, true, List, [], ◌∷◌, ◌++◌, nat_le, nat_lt, nat_eq}
 use Rattle.choice.specs.Tests.{◌also◌, choose}
 use Rattle.mass.specs.Ledger.{tonne, tonnes_each}
 use Rattle.rules.specs.declared.book.Head.{Head}
@@ -71,12 +71,12 @@ blank_in c = zeros c 86 10
 -- ---- soundness
 unfoldable pub first_sound : List ℕ → Bool
 first_sound c =
-    choose (eqb (aside_in c) 0)
-    (eqb (index_in c) 0 also eqb (reason_in c) 0)
-    (ltb (index_in c) (done_in c) also leb 1 (reason_in c) also leb (reason_in c) last_reason)
+    choose (nat_eq (aside_in c) 0)
+    (nat_eq (index_in c) 0 also nat_eq (reason_in c) 0)
+    (nat_lt (index_in c) (done_in c) also nat_le 1 (reason_in c) also nat_le (reason_in c) last_reason)
 
 unfoldable pub ledger_sound : List ℕ → ℕ → Bool
-ledger_sound c i = ltb (rest_in c i) tonne also leb (tonnes_in c i) (tonnes_each * done_in c)
+ledger_sound c i = nat_lt (rest_in c i) tonne also nat_le (tonnes_in c i) (tonnes_each * done_in c)
 
 unfoldable pub every : (ℕ → Bool) → ℕ → Bool
 every t zero = true
@@ -84,10 +84,10 @@ every t (suc n) = every t n also t n
 
 unfoldable pub sound : Head → List ℕ → Bool
 sound h c =
-    eqb (length_in c) h.length
-    also eqb (year_in c) h.year
-    also leb (done_in c) h.n
-    also leb (aside_in c) (done_in c)
+    nat_eq (length_in c) h.length
+    also nat_eq (year_in c) h.year
+    also nat_le (done_in c) h.n
+    also nat_le (aside_in c) (done_in c)
     also first_sound c
     also every (ledger_sound c) ledgers
     also gap_in c

@@ -23,7 +23,7 @@
 --     weighed_by x w, AsideBy p x a b    the words once x is taken, and what is then said of records set aside
 --
 -- Laws: proofs/LegLaws.antt, proofs/WentLaws.antt. Definitions only.
-use Rattle.std.specs.Prelude.{ℕ, ◌+◌, ◌-◌, ◌*◌, ◌<◌, ◌≤◌, Bool, true, false, List, ◌≡◌, get_or}
+use Rattle.std.specs.Prelude.{ℕ, ◌+◌, ◌-◌, ◌*◌, ◌<◌, ◌≤◌, Bool, true, false, List, ◌≡◌, slice_index}
 use Rattle.rules.specs.declared.book.Head.{Head}
 use Rattle.rules.specs.declared.record.Outcome.TheVariants.{SetAside}
 use Rattle.rules.specs.declared.sorting.Sorted.{Sorted}
@@ -94,7 +94,7 @@ abbrev pub RoomFor : Sorted → List ℕ → Type 0
 RoomFor sorted.Unsure d = Unit {0}
 RoomFor (sorted.Sure x) d =
     ((x.at + 8 < 1024) × (x.way < 4))
-    × ((get_or d (x.at + x.way) 0 + x.burned < 18446744073709551616) × (get_or d (x.at + 8) 0 + x.carbon < 18446744073709551616))
+    × ((slice_index d (x.at + x.way) + x.burned < 18446744073709551616) × (slice_index d (x.at + 8) + x.carbon < 18446744073709551616))
 
 abbrev pub Co2For : Sorted → Type 0
 Co2For sorted.Unsure = Unit {0}

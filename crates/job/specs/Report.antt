@@ -8,7 +8,7 @@
 --     left_reply k c       the reply to a count: the records of the book, less those done
 --
 -- Laws: proofs/ReportLaws.antt. Definitions only.
-use Rattle.std.specs.Prelude.{ℕ, ◌-◌, List, [], ◌∷◌, ltb, eqb}
+use Rattle.std.specs.Prelude.{ℕ, ◌-◌, List, [], ◌∷◌, nat_lt, nat_eq}
 use Rattle.choice.specs.Tests.{choose}
 use Rattle.mass.specs.declared.ledger.Ledger.{Ledger}
 use Rattle.mass.specs.declared.figures.Figures.{Figures}
@@ -22,7 +22,7 @@ use Rattle.job.specs.Reply.{Reply, reply, figure_values}
 use Rattle.job.specs.Wake.{if_open, admitted}
 
 unfoldable pub warming_of : ℕ → Warming
-warming_of w = choose (eqb w 0) (record { ch4 = 21; n2o = 310 }) (record { ch4 = 25; n2o = 298 })
+warming_of w = choose (nat_eq w 0) (record { ch4 = 21; n2o = 310 }) (record { ch4 = 25; n2o = 298 })
 
 unfoldable pub figures_at : Head → State → Figures
 figures_at h s =
@@ -31,8 +31,8 @@ figures_at h s =
 
 unfoldable pub reply_at : Head → State → Reply
 reply_at h s =
-    choose (ltb s.counts.done h.n) (reply 40 (s.counts.done ∷ []))
-    (choose (ltb 0 s.counts.aside) (reply 41 (s.counts.index ∷ s.counts.reason ∷ []))
+    choose (nat_lt s.counts.done h.n) (reply 40 (s.counts.done ∷ []))
+    (choose (nat_lt 0 s.counts.aside) (reply 41 (s.counts.index ∷ s.counts.reason ∷ []))
     (reply 0 (figure_values (figures_at h s))))
 
 unfoldable pub report_reply : List ℕ → List ℕ → Reply

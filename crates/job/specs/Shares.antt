@@ -26,7 +26,7 @@
 --     Gathered fs d s           s is what the words d of the fuel lines fs come to
 --
 -- Laws: proofs/SharesLaws.antt, proofs/GatheredLaws.antt, proofs/PouredLaws.antt. Definitions only.
-use Rattle.std.specs.Prelude.{ℕ, ◌+◌, ◌*◌, ◌/◌, ◌%◌, ◌<◌, ◌≤◌, Bool, List, ◌≡◌, eqb, ltb, length, get_or, set}
+use Rattle.std.specs.Prelude.{ℕ, ◌+◌, ◌*◌, ◌/◌, ◌%◌, ◌<◌, ◌≤◌, Bool, List, ◌≡◌, nat_eq, nat_lt, length, slice_set, slice_index}
 use Rattle.choice.specs.Tests.{choose}
 use Rattle.rules.specs.declared.factors.Factors.{Factors}
 use Rattle.rules.specs.declared.sorting.Share.{Share}
@@ -62,7 +62,7 @@ abbrev pub pour_most : ℕ
 pour_most = ledgers * pour_each
 
 abbrev pub raised : List ℕ → ℕ → ℕ → List ℕ
-raised d p x = set d p (get_or d p 0 + x)
+raised d p x = slice_set d p (slice_index d p + x)
 
 unfoldable pub shared : List ℕ → Share → List ℕ
 shared d x = raised (raised d (x.at + x.way) x.burned) (x.at + 8) x.carbon
@@ -71,28 +71,28 @@ abbrev pub co2_place_of : Bool → ℕ
 co2_place_of b = choose b biomass fossil
 
 unfoldable pub co2_ledger : List ℕ → ℕ
-co2_ledger f = co2_place_of (eqb (fuel_class f) 3)
+co2_ledger f = co2_place_of (nat_eq (fuel_class f) 3)
 
 unfoldable pub worth_of : List ℕ → ℕ → ℕ → ℕ
 worth_of f v i =
-    choose (eqb i ch4) (choose (ltb v 8) (ch4_factor f * heat_of f v) 0)
-    (choose (eqb i n2o) (choose (ltb v 8) (n2o_factor f * heat_of f v) 0)
-    (choose (eqb i (co2_ledger f)) (1000 * choose (ltb v 8) (co2_of f v) (choose (eqb v 8) 3664 0)) 0))
+    choose (nat_eq i ch4) (choose (nat_lt v 8) (ch4_factor f * heat_of f v) 0)
+    (choose (nat_eq i n2o) (choose (nat_lt v 8) (n2o_factor f * heat_of f v) 0)
+    (choose (nat_eq i (co2_ledger f)) (1000 * choose (nat_lt v 8) (co2_of f v) (choose (nat_eq v 8) 3664 0)) 0))
 
 unfoldable pub fuel_shares : List ℕ → List ℕ → ℕ → ℕ → ℕ
-fuel_shares f d k i = sum_to (λ v. get_or d (16 * k + v) 0 * worth_of f v i) 16
+fuel_shares f d k i = sum_to (λ v. slice_index d (16 * k + v) * worth_of f v i) 16
 
 unfoldable pub shares_at : List ℕ → List ℕ → ℕ → ℕ
 shares_at fs d i = sum_to (λ k. fuel_shares (line k fs) d k i) (length fs / 32)
 
 -- ---- how the code sums them up
 unfoldable pub counted_in : ℕ → List ℕ → ℕ → ℕ
-counted_in heat d k = get_or d (16 * k + 1) 0 + heat * get_or d (16 * k) 0
+counted_in heat d k = slice_index d (16 * k + 1) + heat * slice_index d (16 * k)
 
 unfoldable pub other_in : ℕ → List ℕ → ℕ → ℕ
 other_in heat d k =
-    get_or d (16 * k + 3) 0 + get_or d (16 * k + 5) 0 + get_or d (16 * k + 7) 0
-    + heat * (get_or d (16 * k + 2) 0 + get_or d (16 * k + 4) 0 + get_or d (16 * k + 6) 0)
+    slice_index d (16 * k + 3) + slice_index d (16 * k + 5) + slice_index d (16 * k + 7)
+    + heat * (slice_index d (16 * k + 2) + slice_index d (16 * k + 4) + slice_index d (16 * k + 6))
 
 unfoldable pub weighed : List ℕ → ℕ → ℕ → ℕ → List ℕ
 weighed s i x y = raised (raised s i (x / coarse * y)) (ledgers + i) (x % coarse * y)
@@ -103,11 +103,11 @@ gathered f k d s =
     let counted = counted_in f.heat d k in
     let all = counted + other_in f.heat d k in
     let by_heat = weighed s co2 counted f.co2 in
-    let by_carbon = weighed by_heat co2 (get_or d (16 * k + 8) 0) 3664 in
+    let by_carbon = weighed by_heat co2 (slice_index d (16 * k + 8)) 3664 in
     weighed (weighed by_carbon ch4 all f.ch4) n2o all f.n2o
 
 unfoldable pub sum_at : List ℕ → ℕ → ℕ
-sum_at s i = unit_at i * (coarse * get_or s i 0 + get_or s (ledgers + i) 0)
+sum_at s i = unit_at i * (coarse * slice_index s i + slice_index s (ledgers + i))
 
 unfoldable pub poured : List ℕ → ℕ → ℕ → ℕ → List ℕ
 poured w i units rest =
@@ -115,11 +115,11 @@ poured w i units rest =
 
 -- ---- what is known of words and sums
 unfoldable pub most_in : ℕ → ℕ
-most_in v = choose (ltb v 8) (most_burned v) 400000000000000
+most_in v = choose (nat_lt v 8) (most_burned v) 400000000000000
 
 pub record Held (n : ℕ) (d : List ℕ) : Type 0 where
   pub whole : length d ≡ 1024
-  pub few : (k v : ℕ) → k < 64 → v < 16 → get_or d (16 * k + v) 0 ≤ most_in v * n
+  pub few : (k v : ℕ) → k < 64 → v < 16 → slice_index d (16 * k + v) ≤ most_in v * n
 
 pub record Modest (f : Factors) : Type 0 where
   pub heat_le : f.heat ≤ 200000
@@ -129,8 +129,8 @@ pub record Modest (f : Factors) : Type 0 where
 
 pub record Summed (m : ℕ) (s : List ℕ) : Type 0 where
   pub whole : length s ≡ 8
-  pub units_le : (i : ℕ) → i < ledgers → get_or s i 0 ≤ units_each * m
-  pub rest_le : (i : ℕ) → i < ledgers → get_or s (ledgers + i) 0 ≤ rest_each * m
+  pub units_le : (i : ℕ) → i < ledgers → slice_index s i ≤ units_each * m
+  pub rest_le : (i : ℕ) → i < ledgers → slice_index s (ledgers + i) ≤ rest_each * m
 
 pub record Gathered (fs d s : List ℕ) : Type 0 where
   pub few : Summed 64 s

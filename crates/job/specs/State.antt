@@ -16,7 +16,7 @@
 --     sum_to f n              f 0 + .. + f (n - 1)
 --
 -- Laws: proofs/StateLaws.antt. Definitions only.
-use Rattle.std.specs.Prelude.{ℕ, zero, suc, ◌+◌, ◌*◌, List, [], ◌∷◌, ◌++◌, eqb, get_or, replicate}
+use Rattle.std.specs.Prelude.{ℕ, zero, suc, ◌+◌, ◌*◌, List, [], ◌∷◌, ◌++◌, nat_eq, replicate, slice_index}
 use Rattle.choice.specs.Tests.{choose}
 use Rattle.rules.specs.declared.book.Head.{Head}
 use Rattle.rules.specs.declared.entry.Destination.{Destination}
@@ -38,7 +38,7 @@ unfoldable pub ◌plus◌ : List ℕ → List ℕ → List ℕ
 ◌plus◌ (x ∷ a) (y ∷ b) = (x + y) ∷ (a plus b)
 
 abbrev pub mass : List ℕ → ℕ → ℕ
-mass m i = get_or m i 0
+mass m i = slice_index m i
 
 unfoldable pub each : (ℕ → ℕ) → ℕ → List ℕ
 each f zero = []
@@ -87,8 +87,8 @@ unfoldable pub counted : Counts → Outcome → Counts
 counted c (SetAside k) = record {
   done = c.done + 1;
   aside = c.aside + 1;
-  index = choose (eqb c.aside 0) c.done c.index;
-  reason = choose (eqb c.aside 0) k c.reason;
+  index = choose (nat_eq c.aside 0) c.done c.index;
+  reason = choose (nat_eq c.aside 0) k c.reason;
 }
 counted c (Counted e) = record { done = c.done + 1; aside = c.aside; index = c.index; reason = c.reason }
 

@@ -12,7 +12,7 @@
 --     wake_bytes k c b out               the output buffer after it
 --
 -- Laws: proofs/WakeLaws.antt. Definitions only.
-use Rattle.std.specs.Prelude.{ℕ, ◌-◌, min, List, [], ◌∷◌, eqb, length}
+use Rattle.std.specs.Prelude.{ℕ, ◌-◌, min, List, [], ◌∷◌, nat_eq, length}
 use Rattle.choice.specs.Tests.{choose}
 use Rattle.rules.specs.declared.book.Head.{Head}
 use Rattle.rules.specs.Book.{Answer, refused, accepted, opened}
@@ -28,7 +28,7 @@ if_open (accepted h) refuse go = go h
 unfoldable pub fresh_admitted : {A : Type 0} → List ℕ → List ℕ → (ℕ → A) → (Head → A) → A
 fresh_admitted k out refuse go =
     if_open (opened k) refuse (λ h.
-    choose (eqb (length out) checkpoint_size) (go h)
+    choose (nat_eq (length out) checkpoint_size) (go h)
     (refuse 32))
 
 unfoldable pub fresh_reply : List ℕ → List ℕ → Reply
@@ -40,7 +40,7 @@ fresh_bytes k out = fresh_admitted k out (λ n. out) (λ h. encode h fresh)
 -- ---- a checkpoint
 unfoldable pub admitted_for : Head → List ℕ → Answer
 admitted_for h c =
-    choose (eqb (length c) checkpoint_size)
+    choose (nat_eq (length c) checkpoint_size)
     (choose (sound h c) (accepted h)
     (refused 31))
     (refused 30)
@@ -52,7 +52,7 @@ admitted k c = if_open (opened k) refused (λ h. admitted_for h c)
 unfoldable pub wake_admitted : {A : Type 0} → List ℕ → List ℕ → List ℕ → (ℕ → A) → (Head → A) → A
 wake_admitted k c out refuse go =
     if_open (admitted k c) refuse (λ h.
-    choose (eqb (length out) checkpoint_size) (go h)
+    choose (nat_eq (length out) checkpoint_size) (go h)
     (refuse 32))
 
 unfoldable pub moves : Head → List ℕ → ℕ → ℕ

@@ -7,7 +7,7 @@
 --     low_at w i, high_at w i        the digits at place i
 --     unit_at i                      what they count, in ng: µg of CO2, or ng of another gas
 --     mass_at w i                    what the records give to the ledger at place i
---     counts_at p a                  the counts at place p, a saying how many records are set aside, and which is the first
+--     counts_at p a                  the counts at place p, a saying how many records are slice_set aside, and which is the first
 --     state_in c w                   the state with the counts c and the masses of w
 --     added w i x                    w with x more at place i
 --     given w e                      w with all that the entry e gives
@@ -20,7 +20,7 @@
 --     Gone h k f c w                 from the checkpoint f on records are gone through: the counts are c, and they give w
 --
 -- Laws: proofs/WordsLaws.antt, proofs/RunLaws.antt. Definitions only.
-use Rattle.std.specs.Prelude.{ℕ, ◌+◌, ◌-◌, ◌*◌, ◌/◌, ◌<◌, ◌≤◌, List, ◌≡◌, ltb, length, get_or, set, replicate}
+use Rattle.std.specs.Prelude.{ℕ, ◌+◌, ◌-◌, ◌*◌, ◌/◌, ◌<◌, ◌≤◌, List, ◌≡◌, nat_lt, length, slice_set, replicate, slice_index}
 use Rattle.choice.specs.Tests.{choose}
 use Rattle.mass.specs.declared.ledger.Ledger.{Ledger}
 use Rattle.mass.specs.declared.ledger.Ledgers.{Ledgers}
@@ -50,19 +50,19 @@ abbrev pub half : ℕ
 half = 9223372036854775808
 
 abbrev pub low_at : List ℕ → ℕ → ℕ
-low_at w i = get_or w i 0
+low_at w i = slice_index w i
 
 abbrev pub high_at : List ℕ → ℕ → ℕ
-high_at w i = get_or w (ledgers + i) 0
+high_at w i = slice_index w (ledgers + i)
 
 unfoldable pub unit_at : ℕ → ℕ
-unit_at i = choose (ltb i ch4) 1000 1
+unit_at i = choose (nat_lt i ch4) 1000 1
 
 unfoldable pub mass_at : List ℕ → ℕ → ℕ
 mass_at w i = unit_at i * (full * high_at w i + low_at w i)
 
 abbrev pub counts_at : ℕ → List ℕ → Counts
-counts_at p a = record { done = p; aside = get_or a 0 0; index = get_or a 1 0; reason = get_or a 2 0 }
+counts_at p a = record { done = p; aside = slice_index a 0; index = slice_index a 1; reason = slice_index a 2 }
 
 unfoldable pub state_in : Counts → List ℕ → State
 state_in c w = record { counts = c; masses = each (mass_at w) ledgers }
@@ -71,7 +71,7 @@ state_in c w = record { counts = c; masses = each (mass_at w) ledgers }
 unfoldable pub added : List ℕ → ℕ → ℕ → List ℕ
 added w i x =
     let sum = low_at w i + x in
-    choose (ltb sum half) (set w i sum) (set (set w i (sum - full)) (ledgers + i) (high_at w i + 1))
+    choose (nat_lt sum half) (slice_set w i sum) (slice_set (slice_set w i (sum - full)) (ledgers + i) (high_at w i + 1))
 
 abbrev pub co2_place : Destination → ℕ
 co2_place Fossil = fossil

@@ -1,5 +1,5 @@
 // A checkpoint: read, judged and written.
-ghost use Rattle.std.specs.Prelude.{◌++◌, ◌≡◌, ◌+◌, ◌*◌, ◌<◌, length, get_or, take, drop};
+ghost use Rattle.std.specs.Prelude.{◌++◌, ◌≡◌, ◌+◌, ◌*◌, ◌<◌, length, take, drop, slice_index};
 ghost use Rattle.choice.specs.Tests.{◌also◌};
 ghost use Rattle.job.specs.State as state;
 ghost use Rattle.job.specs.Checkpoint.{checkpoint_size, ledger_place, gap_in, first_sound, ledger_sound, every, sound, laid, encode, counts_in};
@@ -158,7 +158,7 @@ pub(crate) fn copy(from: &[u8], out: &mut [u8])
 // bytes the compiler makes one store, of fewer one for each byte.
 pub(crate) fn write(h: Head, place: u32, aside: &[u32; 3], from: &[u8], w: &[u64], out: &mut [u8])
     requires whole { (length from.now ≡ checkpoint_size) × (length w.now ≡ words) × (length out.old ≡ checkpoint_size) }
-    requires fits { (h.length < 4294967296) × (h.year < 65536) × (get_or aside.now 2 0 < 256) }
+    requires fits { (h.length < 4294967296) × (h.year < 65536) × (slice_index aside.now 2 < 256) }
     requires light { Light from.now w.now }
     ensures written { out.new ≡ encode h (state_on (counts_at place aside.now) from.now w.now) }
 {

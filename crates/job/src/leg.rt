@@ -1,6 +1,6 @@
 // A leg of the way through the records of a book: most are taken at one go, by an index of the book's lines, and the few
 // others are judged by these. What fuel gives is kept in shares, which go to the ledgers' words where the leg ends.
-ghost use Rattle.std.specs.Prelude.{◌≡◌, ℕ, ◌+◌, ◌-◌, ◌*◌, ◌<◌, ◌≤◌, get_or};
+ghost use Rattle.std.specs.Prelude.{◌≡◌, ℕ, ◌+◌, ◌-◌, ◌*◌, ◌<◌, ◌≤◌, slice_index};
 ghost use Rattle.rules.specs.Bytes.{line, lines};
 ghost use Rattle.rules.specs.Book.{unit_lines, fuel_lines, opened, accepted};
 ghost use Rattle.rules.specs.Index.{UnitsNoted, FuelsNoted, Small};
@@ -199,7 +199,7 @@ fn take_gas(sorted: Sorted, shares: &mut [u64; 1024], w: &mut [u64]) -> Taken
 }
 
 fn take_weighed(place: u32, weighed: Weighed, aside: &mut [u32; 3], w: &mut [u64]) -> Taken
-    requires room { (get_or aside.old 0 0 < 4294967295) × Kept carries w.old × LightFor weighed }
+    requires room { (slice_index aside.old 0 < 4294967295) × Kept carries w.old × LightFor weighed }
     ensures taken { result ≡ taken_weighed weighed }
     ensures words { (w.new ≡ weighed_by weighed w.old) × AsideBy place weighed aside.old aside.new }
 {
@@ -243,7 +243,7 @@ pub(crate) fn take_slowly(
 
 // One record more is set aside, that at this place. Only the first such is told by its index and its reason.
 pub(crate) fn set_aside(aside: &mut [u32; 3], place: u32, reason: u8)
-    requires room { get_or aside.old 0 0 < 4294967295 }
+    requires room { slice_index aside.old 0 < 4294967295 }
     ensures counted { counts_at (place + 1) aside.new ≡ counted (counts_at place aside.old) (outcome.SetAside reason) }
 {
     if aside[0] == 0 {

@@ -1,6 +1,6 @@
 // What the fuel records of a leg add, in words that it lends: 16 for each fuel line. The factors of a fuel enter once,
 // when all are added, so that a record takes two products and no factor is looked up.
-ghost use Rattle.std.specs.Prelude.{◌≡◌, ℕ, ◌+◌, ◌-◌, ◌*◌, ◌/◌, ◌%◌, ◌<◌, ◌≤◌, get_or, replicate};
+ghost use Rattle.std.specs.Prelude.{◌≡◌, ℕ, ◌+◌, ◌-◌, ◌*◌, ◌/◌, ◌%◌, ◌<◌, ◌≤◌, replicate, slice_index};
 ghost use Rattle.rules.specs.Book.{fuel_lines, opened, accepted};
 ghost use Rattle.job.specs.State as state;
 ghost use Rattle.job.specs.Words.{carries, mass_at, Kept};
@@ -27,7 +27,7 @@ const FULL: u64 = 9_000_000_000_000;
 // One share more.
 pub(crate) fn add(d: &mut [u64; 1024], x: Share)
     requires there { (x.at + 8 < 1024) × (x.way < 4) }
-    requires room { (get_or d.old (x.at + x.way) 0 + x.burned < 18446744073709551616) × (get_or d.old (x.at + 8) 0 + x.carbon < 18446744073709551616) }
+    requires room { (slice_index d.old (x.at + x.way) + x.burned < 18446744073709551616) × (slice_index d.old (x.at + 8) + x.carbon < 18446744073709551616) }
     ensures shared { d.new ≡ shared d.old x }
 {
     let at = x.at + x.way;
@@ -114,7 +114,7 @@ fn find_co2(biomass: bool) -> usize
 // x × factor more at place i, in coarse units and the rest.
 fn weigh(sums: &mut [u64; 8], i: usize, x: u64, factor: u64)
     requires there { i < state.ledgers }
-    requires room { (get_or sums.old i 0 + x / coarse * factor < 18446744073709551616) × (get_or sums.old (state.ledgers + i) 0 + x % coarse * factor < 18446744073709551616) }
+    requires room { (slice_index sums.old i + x / coarse * factor < 18446744073709551616) × (slice_index sums.old (state.ledgers + i) + x % coarse * factor < 18446744073709551616) }
     ensures weighed { sums.new ≡ weighed sums.old i x factor }
 {
     sums[i] = sums[i] + x / COARSE * factor;

@@ -10,7 +10,7 @@
 --     figures_of t w     the five figures and the decision
 --
 -- Laws: proofs/FiguresLaws.antt. Definitions only.
-use Rattle.std.specs.Prelude.{ℕ, ◌+◌, ◌-◌, ◌*◌, ◌≤◌, min, Bool, ltb, leb}
+use Rattle.std.specs.Prelude.{ℕ, ◌+◌, ◌-◌, ◌*◌, ◌≤◌, min, Bool, nat_lt, nat_le}
 use Rattle.choice.specs.Tests.{choose}
 use Rattle.mass.specs.declared.Kg.{Kg}
 use Rattle.mass.specs.declared.ledger.Ledgers.{Ledgers}
@@ -42,10 +42,10 @@ co2e_of t w = total t.fossil + total t.biomass + w.ch4 * total t.ch4 + w.n2o * t
 
 -- Below 25,000 t the biomass CO2 is subtracted, at most 15,000 t of it.
 unfoldable pub decisive : ℕ → ℕ → ℕ
-decisive v b = choose (ltb v (25000 * tonne)) (v - min b (15000 * tonne)) v
+decisive v b = choose (nat_lt v (25000 * tonne)) (v - min b (15000 * tonne)) v
 
 unfoldable pub must_report : ℕ → ℕ → Bool
-must_report v b = leb (10000 * tonne) (decisive v b)
+must_report v b = nat_le (10000 * tonne) (decisive v b)
 
 -- Each figure is rounded once, from its own exact total, and the decision is on exact masses.
 unfoldable pub figures_of : Ledgers → Warming → Figures

@@ -6,14 +6,14 @@
 --
 -- `nearest_to` is the one number that `Nearest` allows: proofs/NearestLaws.antt. Other laws:
 -- proofs/RoundingLaws.antt. Definitions only.
-use Rattle.std.specs.Prelude.{ℕ, ◌+◌, ◌*◌, ◌/◌, ◌%◌, ◌≤◌, ◌≡◌, ltb}
+use Rattle.std.specs.Prelude.{ℕ, ◌+◌, ◌*◌, ◌/◌, ◌%◌, ◌≤◌, ◌≡◌, nat_lt}
 use Rattle.choice.specs.Tests.{choose}
 
 -- It is the quotient where the remainder is below half the divisor, and one more where it is above.
 unfoldable pub nearest_to : ℕ → ℕ → ℕ
 nearest_to n d =
-    choose (ltb (2 * (n % d)) d) (n / d)
-    (choose (ltb d (2 * (n % d))) (n / d + 1)
+    choose (nat_lt (2 * (n % d)) d) (n / d)
+    (choose (nat_lt d (2 * (n % d))) (n / d + 1)
     (n / d + n / d % 2))
 
 -- It is n / d + 1 / 2 without its fraction.

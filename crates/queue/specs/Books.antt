@@ -5,7 +5,7 @@
 --     removed q i        the answer to removing the book in slot i, and the queue after it
 --
 -- Laws: proofs/BooksLaws.antt. Definitions only.
-use Rattle.std.specs.Prelude.{ℕ, ltb}
+use Rattle.std.specs.Prelude.{ℕ, nat_lt}
 use Rattle.choice.specs.Tests.{choose}
 use Rattle.queue.specs.declared.slots.Slot.TheVariants.{Free, Book}
 use Rattle.queue.specs.declared.slots.Queue.{Queue}
@@ -21,7 +21,7 @@ lowest_free q = lowest (free_at q) slot_count
 
 unfoldable pub added : Queue → ℕ → AfterAdd
 added q n =
-    choose (ltb (lowest_free q) slot_count)
+    choose (nat_lt (lowest_free q) slot_count)
     (record { answer = At (lowest_free q); queue = stored q (lowest_free q) (Book n) })
     (record { answer = NotAdded Full; queue = q })
 

@@ -9,7 +9,7 @@
 --     turned q b          the answer to a turn with budget b, and the queue after it
 --
 -- Laws: proofs/RoundLaws.antt. Definitions only.
-use Rattle.std.specs.Prelude.{ℕ, ◌+◌, ◌-◌, ◌%◌, min, Bool, ltb, eqb}
+use Rattle.std.specs.Prelude.{ℕ, ◌+◌, ◌-◌, ◌%◌, min, Bool, nat_lt, nat_eq}
 use Rattle.choice.specs.Tests.{choose}
 use Rattle.queue.specs.declared.slots.Slot.TheVariants.{Book}
 use Rattle.queue.specs.declared.slots.Queue.{Queue}
@@ -22,7 +22,7 @@ unfoldable pub onward : Queue → ℕ → ℕ
 onward q k = (q.last + 1 + k) % slot_count
 
 unfoldable pub due_at : Queue → ℕ → Bool
-due_at q k = ltb 0 (left_in (slot_at q (onward q k)))
+due_at q k = nat_lt 0 (left_in (slot_at q (onward q k)))
 
 unfoldable pub passed_over : Queue → ℕ
 passed_over q = lowest (due_at q) slot_count
@@ -41,6 +41,6 @@ served q i b = record {
 
 unfoldable pub turned : Queue → ℕ → AfterTurn
 turned q b =
-    choose (eqb b 0) (record { answer = NotTurned NoBudget; queue = q })
-    (choose (ltb (passed_over q) slot_count) (served q (next_up q) b)
+    choose (nat_eq b 0) (record { answer = NotTurned NoBudget; queue = q })
+    (choose (nat_lt (passed_over q) slot_count) (served q (next_up q) b)
     (record { answer = NotTurned NothingLeft; queue = q }))

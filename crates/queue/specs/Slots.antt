@@ -10,7 +10,7 @@
 --     lowest p n          the lowest number below n of which p holds; n if there is none
 --
 -- Laws: proofs/SlotsLaws.antt, proofs/LowestLaws.antt. Definitions only.
-use Rattle.std.specs.Prelude.{ℕ, zero, suc, Bool, true, false, ltb, get_or, set, replicate}
+use Rattle.std.specs.Prelude.{ℕ, zero, suc, Bool, true, false, nat_lt, slice_index_or, slice_set, replicate}
 use Rattle.choice.specs.Tests.{choose}
 use Rattle.queue.specs.declared.slots.Slot.{Slot}
 use Rattle.queue.specs.declared.slots.Slot.TheVariants.{Free, Book}
@@ -23,7 +23,7 @@ unfoldable pub empty_queue : Queue
 empty_queue = record { slots = replicate slot_count (record { slot = Free }); last = 15 }
 
 unfoldable pub slot_at : Queue → ℕ → Slot
-slot_at q i = choose (ltb i slot_count) (get_or q.slots i (record { slot = Free })).slot Free
+slot_at q i = choose (nat_lt i slot_count) (slice_index_or q.slots i (record { slot = Free })).slot Free
 
 abbrev pub is_free : Slot → Bool
 is_free Free = true
@@ -37,7 +37,7 @@ unfoldable pub free_at : Queue → ℕ → Bool
 free_at q i = is_free (slot_at q i)
 
 unfoldable pub stored : Queue → ℕ → Slot → Queue
-stored q i s = record { slots = set q.slots i (record { slot = s }); last = q.last }
+stored q i s = record { slots = slice_set q.slots i (record { slot = s }); last = q.last }
 
 unfoldable pub lowest : (ℕ → Bool) → ℕ → ℕ
 lowest p zero = 0

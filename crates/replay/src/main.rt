@@ -78,11 +78,7 @@ fn end_at<R: Complain>(rt: &R, i: u64, x: Answered) -> Ended {
     }
 }
 
-fn answer_next<R: Input + Print + Complain>(
-    rt: &R,
-    long: &mut [u8],
-    short: &mut [u8],
-) -> Answered {
+fn answer_next<R: Input + Print + Complain>(rt: &R, long: &mut [u8], short: &mut [u8]) -> Answered {
     let mut head = [0u8; 24];
     match files::read_input(rt, &mut head) {
         Got::Failed(_) => Answered::Failed,

@@ -6,12 +6,12 @@
 --     same xs ys     xs and ys are the same bytes
 --
 -- Laws: proofs/BytesLaws.antt. Definitions only.
-use Rattle.std.specs.Prelude.{ℕ, suc, Bool, true, false, List, [], ◌∷◌, eqb, take, drop}
+use Rattle.std.specs.Prelude.{ℕ, suc, Bool, true, false, List, [], ◌∷◌, nat_eq, take, drop}
 use Rattle.choice.specs.Tests.{◌also◌, choose}
 
 unfoldable pub span : ℕ → List ℕ → ℕ
 span b [] = 0
-span b (x ∷ xs) = choose (eqb x b) 0 (suc (span b xs))
+span b (x ∷ xs) = choose (nat_eq x b) 0 (suc (span b xs))
 
 unfoldable pub front : ℕ → List ℕ → List ℕ
 front b xs = take (span b xs) xs
@@ -23,4 +23,4 @@ unfoldable pub same : List ℕ → List ℕ → Bool
 same [] [] = true
 same [] (y ∷ ys) = false
 same (x ∷ xs) [] = false
-same (x ∷ xs) (y ∷ ys) = eqb x y also same xs ys
+same (x ∷ xs) (y ∷ ys) = nat_eq x y also same xs ys

@@ -10,7 +10,7 @@
 --     through i t    the first i lines of t with their newlines; all of t, if there are fewer
 --
 -- Laws: proofs/LinesLaws.antt. Definitions only.
-use Rattle.std.specs.Prelude.{ℕ, zero, suc, List, [], ◌∷◌, ◌++◌, eqb, get_or, take}
+use Rattle.std.specs.Prelude.{ℕ, zero, suc, List, [], ◌∷◌, ◌++◌, nat_eq, slice_index_or, take}
 use Rattle.choice.specs.Tests.{choose}
 use Rattle.roster.specs.Bytes.{span, rest}
 
@@ -28,7 +28,7 @@ led x (l ∷ ls) u = record { lines = (x ∷ l) ∷ ls; unended = u }
 unfoldable pub split : List ℕ → Split
 split [] = record { lines = []; unended = [] }
 split (x ∷ t) =
-    choose (eqb x newline)
+    choose (nat_eq x newline)
     (record { lines = [] ∷ (split t).lines; unended = (split t).unended })
     (led x (split t).lines (split t).unended)
 
@@ -36,7 +36,7 @@ abbrev pub lines_of : List ℕ → List (List ℕ)
 lines_of t = (split t).lines
 
 unfoldable pub line_at : ℕ → List ℕ → List ℕ
-line_at i t = get_or (lines_of t) i []
+line_at i t = slice_index_or (lines_of t) i []
 
 unfoldable pub after : ℕ → List ℕ → List ℕ
 after zero t = t

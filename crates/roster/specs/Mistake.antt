@@ -7,7 +7,7 @@
 --     mistake_in l      the first mistake in l that has a name, or Form
 --
 -- Laws: proofs/MistakeLaws.antt. Definitions only.
-use Rattle.std.specs.Prelude.{ℕ, suc, ◌-◌, Bool, List, [], ◌∷◌, eqb, ltb, leb, length, get_or}
+use Rattle.std.specs.Prelude.{ℕ, suc, ◌-◌, Bool, List, [], ◌∷◌, nat_eq, nat_lt, nat_le, length, slice_index}
 use Rattle.choice.specs.Tests.{◌either◌, choose}
 use Rattle.roster.specs.declared.mistake.Mistake.{Mistake}
 use Rattle.roster.specs.declared.mistake.Mistake.TheVariants.{Comment, Return, Space, Long, Form}
@@ -17,19 +17,19 @@ abbrev pub return : ℕ
 return = 13
 
 abbrev pub last_byte : List ℕ → ℕ
-last_byte l = get_or l (length l - 1) 0
+last_byte l = slice_index l (length l - 1)
 
 unfoldable pub spaces : List ℕ → ℕ
 spaces [] = 0
-spaces (b ∷ l) = choose (eqb b space) (suc (spaces l)) (spaces l)
+spaces (b ∷ l) = choose (nat_eq b space) (suc (spaces l)) (spaces l)
 
 unfoldable pub is_long : List ℕ → Bool
-is_long l = ltb longest_book_path (length (book_of l)) either ltb longest_checkpoint_path (length (checkpoint_of l))
+is_long l = nat_lt longest_book_path (length (book_of l)) either nat_lt longest_checkpoint_path (length (checkpoint_of l))
 
 unfoldable pub mistake_in : List ℕ → Mistake
 mistake_in l =
     choose (is_comment l) Comment
-    (choose (eqb (last_byte l) return) Return
-    (choose (leb 2 (spaces l)) Space
+    (choose (nat_eq (last_byte l) return) Return
+    (choose (nat_le 2 (spaces l)) Space
     (choose (is_long l) Long
     Form)))

@@ -18,7 +18,7 @@
 --     verdict_on t                what is told of the list t
 --
 -- Laws: proofs/PlantsLaws.antt, proofs/VerdictLaws.antt, proofs/ToldLaws.antt. Definitions only.
-use Rattle.std.specs.Prelude.{ℕ, suc, Bool, true, not, List, [], ◌∷◌, map, eqb, ltb, leb, length, get_or}
+use Rattle.std.specs.Prelude.{ℕ, suc, Bool, true, not, List, [], ◌∷◌, map, nat_eq, nat_lt, nat_le, length, slice_index}
 use Rattle.choice.specs.Tests.{◌also◌, choose}
 use Rattle.roster.specs.declared.plants.Listed.{Listed}
 use Rattle.roster.specs.declared.plants.Listed.TheVariants.{Plants, Wrong, Again, Many}
@@ -42,10 +42,10 @@ hash = 35
 
 unfoldable pub visible : List ℕ → Bool
 visible [] = true
-visible (b ∷ w) = ltb 32 b also visible w
+visible (b ∷ w) = nat_lt 32 b also visible w
 
 unfoldable pub is_word : ℕ → List ℕ → Bool
-is_word m w = leb 1 (length w) also leb (length w) m also visible w
+is_word m w = nat_le 1 (length w) also nat_le (length w) m also visible w
 
 unfoldable pub book_of : List ℕ → List ℕ
 book_of l = front space l
@@ -54,7 +54,7 @@ unfoldable pub checkpoint_of : List ℕ → List ℕ
 checkpoint_of l = rest space l
 
 unfoldable pub is_comment : List ℕ → Bool
-is_comment l = eqb (get_or l 0 0) hash
+is_comment l = nat_eq (slice_index l 0) hash
 
 -- A line with no space names an empty CHECKPOINT, and one with a second space has it in its CHECKPOINT: neither
 -- is a plant's.
@@ -69,13 +69,13 @@ index_from j n w [] = n
 index_from j n w (x ∷ ws) = choose (same x w) j (index_from (suc j) n w ws)
 
 unfoldable pub named_before : List (List ℕ) → ℕ → List ℕ → Bool
-named_before cs i l = ltb (index_from 0 i (checkpoint_of l) cs) i
+named_before cs i l = nat_lt (index_from 0 i (checkpoint_of l) cs) i
 
 unfoldable pub verdict_from : List (List ℕ) → ℕ → List (List ℕ) → List ℕ → Listed
 verdict_from cs i [] [] = Plants i
-verdict_from cs i [] (x ∷ u) = choose (ltb i most_plants) (Wrong i) Many
+verdict_from cs i [] (x ∷ u) = choose (nat_lt i most_plants) (Wrong i) Many
 verdict_from cs i (l ∷ ls) u =
-    choose (ltb i most_plants)
+    choose (nat_lt i most_plants)
     (choose (is_plant l)
     (choose (named_before cs i l) (Again i) (verdict_from cs (suc i) ls u))
     (Wrong i))

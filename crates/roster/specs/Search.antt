@@ -5,14 +5,14 @@
 --     part_of p l     the whole line l, or its CHECKPOINT
 --
 -- Laws: proofs/BytesLaws.antt, proofs/PlaceLaws.antt. Definitions only.
-use Rattle.std.specs.Prelude.{ℕ, Bool, List, ltb, length}
+use Rattle.std.specs.Prelude.{ℕ, Bool, List, nat_lt, length}
 use Rattle.roster.specs.declared.plants.Part.{Part}
 use Rattle.roster.specs.declared.plants.Part.TheVariants.{Line, Checkpoint}
 use Rattle.roster.specs.Bytes.{span}
 use Rattle.roster.specs.Plants.{checkpoint_of}
 
 unfoldable pub has : ℕ → List ℕ → Bool
-has b xs = ltb (span b xs) (length xs)
+has b xs = nat_lt (span b xs) (length xs)
 
 abbrev pub part_of : Part → List ℕ → List ℕ
 part_of Line l = l

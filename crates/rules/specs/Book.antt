@@ -19,7 +19,7 @@
 --     SetApart s s'              s and s' differ at most in the set of warming values that they name
 --
 -- Laws: proofs/BookLaws.antt, proofs/ApartLaws.antt. Definitions only.
-use Rattle.std.specs.Prelude.{◌≡◌, ℕ, ◌+◌, ◌-◌, ◌/◌, ◌%◌, Bool, true, not, leb, List, [], ◌∷◌, length, ◌==◌, ◌≢◌, nat_eq, nat_le, nat_lt}
+use Rattle.std.specs.Prelude.{◌≡◌, ℕ, ◌+◌, ◌-◌, ◌/◌, ◌%◌, Bool, true, not, nat_le, List, [], ◌∷◌, length, ◌==◌, ◌≢◌, nat_eq, nat_lt}
 use Rattle.choice.specs.Tests.{◌also◌, ◌either◌, choose}
 use Rattle.rules.specs.declared.book.Head.{Head}
 use Rattle.rules.specs.declared.book.Opened.{Opened}
@@ -36,10 +36,10 @@ abbrev pub most_lines : ℕ
 most_lines = 64
 
 unfoldable pub length_ok : List ℕ → Bool
-length_ok s = leb 32 (length s) also leb (length s) longest_book also nat_eq (length s % 32) 0
+length_ok s = nat_le 32 (length s) also nat_le (length s) longest_book also nat_eq (length s % 32) 0
 
 unfoldable pub starts_ok : ℕ → ℕ → ℕ → Bool
-starts_ok u f e = nat_eq (u % 32) 0 also nat_eq (f % 32) 0 also leb u f also leb f e
+starts_ok u f e = nat_eq (u % 32) 0 also nat_eq (f % 32) 0 also nat_le u f also nat_le f e
 
 unfoldable pub trailer_ok : List ℕ → ℕ → Bool
 trailer_ok t e =
@@ -47,10 +47,10 @@ trailer_ok t e =
     also nat_eq (version t) 1
     also trailer_gap t
     also starts_ok (unit_start t) (fuel_start t) e
-    also leb 2000 (year t)
-    also leb (year t) 2099
+    also nat_le 2000 (year t)
+    also nat_le (year t) 2099
     also year_gap t
-    also leb (warming_set t) 1
+    also nat_le (warming_set t) 1
     also trailer_blank t
 
 -- Without a monitor nothing measures dry gas.
@@ -59,8 +59,8 @@ unit_head_ok u =
     nat_le (unit_flags u) 3
     also (monitored u either not (dry u))
     also unit_gap u
-    also leb 1 (rating u)
-    also leb (rating u) 100000
+    also nat_le 1 (rating u)
+    also nat_le (rating u) 100000
 
 unfoldable pub unit_ok : List ℕ → Bool
 unit_ok u = unit_head_ok u also unit_blank u
@@ -69,7 +69,7 @@ unit_ok u = unit_head_ok u also unit_blank u
 unfoldable pub kind_class_ok : ℕ → ℕ → Bool
 kind_class_ok kind class =
     nat_le 1 kind
-    also leb kind 3
+    also nat_le kind 3
     also (class == 0
     either (nat_eq class 1 also nat_eq kind 3)
     either (nat_eq class 2 also nat_eq kind 2)
@@ -77,16 +77,16 @@ kind_class_ok kind class =
 
 -- A fuel of any kind may have one.
 unfoldable pub molar_volume_ok : ℕ → Bool
-molar_volume_ok v = nat_eq v 0 either (leb 20000 v also leb v 27000)
+molar_volume_ok v = nat_eq v 0 either (nat_le 20000 v also nat_le v 27000)
 
 unfoldable pub fuel_head_ok : List ℕ → Bool
 fuel_head_ok f =
     kind_class_ok (fuel_kind f) (fuel_class f)
-    also leb (default_heat f) 200000
-    also leb 1 (co2_factor f)
-    also leb (co2_factor f) 200000
-    also leb (ch4_factor f) 200000
-    also leb (n2o_factor f) 200000
+    also nat_le (default_heat f) 200000
+    also nat_le 1 (co2_factor f)
+    also nat_le (co2_factor f) 200000
+    also nat_le (ch4_factor f) 200000
+    also nat_le (n2o_factor f) 200000
     also molar_volume_ok (molar_volume f)
 
 unfoldable pub fuel_ok : List ℕ → Bool
@@ -98,7 +98,7 @@ lines_ok ok before [] = true
 lines_ok ok before (l ∷ ls) = nat_lt before (number l) also ok l also lines_ok ok (number l) ls
 
 unfoldable pub lines_sound : (List ℕ → Bool) → List ℕ → Bool
-lines_sound ok s = leb (length s / 32) most_lines also lines_ok ok 0 (lines_in s)
+lines_sound ok s = nat_le (length s / 32) most_lines also lines_ok ok 0 (lines_in s)
 
 abbrev pub trailer : List ℕ → List ℕ
 trailer s = part (length s - 32) (length s) s

@@ -29,7 +29,7 @@
 --     outcome_at h s i              what becomes of record i of the book s with the head h
 --
 -- Laws: proofs/RecordLaws.antt. Definitions only.
-use Rattle.std.specs.Prelude.{ℕ, Bool, true, not, ltb, leb, List, [], ◌∷◌, ◌==◌, nat_eq, nat_le, nat_lt}
+use Rattle.std.specs.Prelude.{ℕ, Bool, true, not, nat_lt, nat_le, List, [], ◌∷◌, ◌==◌, nat_eq}
 use Rattle.choice.specs.Tests.{◌also◌, ◌either◌, choose}
 use Rattle.mass.specs.declared.hour.Hour.{Hour}
 use Rattle.mass.specs.declared.hour.Hour.TheVariants.{Usable, Unusable}
@@ -87,7 +87,7 @@ heat_limit l = choose (heat_low l) 180000 200000
 unfoldable pub heat_range : List ℕ → List ℕ → Bool
 heat_range l f =
     choose (heat_measured l)
-    (leb 1 (heat l) also leb (heat l) (heat_limit l) also (nat_eq (fuel_class f) 1 either not (heat_low l)))
+    (nat_le 1 (heat l) also nat_le (heat l) (heat_limit l) also (nat_eq (fuel_class f) 1 either not (heat_low l)))
     true
 
 unfoldable pub carbon_limit : List ℕ → ℕ
@@ -96,10 +96,10 @@ carbon_limit f = choose (fuel_kind f == 3) 4000000 1000000
 unfoldable pub gas_range : List ℕ → List ℕ → Bool
 gas_range l f =
     (fuel_kind f == 3)
-    also ltb 0 (molar_volume f)
-    also leb (carbon l) 1000000
-    also leb 1 (molecular_weight l)
-    also leb (molecular_weight l) 200000
+    also nat_lt 0 (molar_volume f)
+    also nat_le (carbon l) 1000000
+    also nat_le 1 (molecular_weight l)
+    also nat_le (molecular_weight l) 200000
 
 unfoldable pub carbon_range : List ℕ → List ℕ → Bool
 carbon_range l f = choose (analysed l) (gas_range l f) (nat_le (carbon l) (carbon_limit f))
@@ -107,25 +107,25 @@ carbon_range l f = choose (analysed l) (gas_range l f) (nat_le (carbon l) (carbo
 unfoldable pub fuel_ranges : List ℕ → List ℕ → Bool
 fuel_ranges l f =
     nat_le 1 (month l)
-    also leb (month l) 12
-    also leb (amount l) 100000000
+    also nat_le (month l) 12
+    also nat_le (amount l) 100000000
     also heat_range l f
     also carbon_range l f
 
 unfoldable pub hour_range : List ℕ → Bool
-hour_range l = leb 1 (hour l) also leb (hour l) 8784 also leb (moisture l) 1000
+hour_range l = nat_le 1 (hour l) also nat_le (hour l) 8784 also nat_le (moisture l) 1000
 
 -- All of the anodes may be impurities, and no more.
 unfoldable pub anodes_ranges : List ℕ → Bool
 anodes_ranges l =
     nat_le 1 (month l)
-    also leb (month l) 12
-    also leb (metal l) 100000000
-    also leb (anode_use l) 1000
-    also leb (sulphur l) 10000
-    also leb (ash l) 10000
-    also leb (other_impurities l) 10000
-    also leb (impurities l) 10000
+    also nat_le (month l) 12
+    also nat_le (metal l) 100000000
+    also nat_le (anode_use l) 1000
+    also nat_le (sulphur l) 10000
+    also nat_le (ash l) 10000
+    also nat_le (other_impurities l) 10000
+    also nat_le (impurities l) 10000
 
 -- ---- fuel records
 unfoldable pub fuel_judged : List ℕ → List ℕ → List ℕ → Outcome

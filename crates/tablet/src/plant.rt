@@ -61,7 +61,14 @@ fn ask_book<R: Files + Print + RandomSource + Complain>(
     log: Log,
 ) -> Answer {
     let mut room = [0u8; CHECKPOINT_ROOM];
-    match kept::find_place(rt, book, due, whose, plants::take_checkpoint(line), &mut room) {
+    match kept::find_place(
+        rt,
+        book,
+        due,
+        whose,
+        plants::take_checkpoint(line),
+        &mut room,
+    ) {
         Place::Failed => take_none(log::fail(log)),
         Place::Refused(x) => refuse(rt, line, whose, x, log),
         Place::At(n) => {
@@ -151,13 +158,7 @@ fn take_none(log: Log) -> Answer {
 }
 
 // Names a plant that is refused, which has no records to serve.
-fn refuse<R: Print + Complain>(
-    rt: &R,
-    line: &[u8],
-    whose: &[u8],
-    x: Refusal,
-    log: Log,
-) -> Answer {
+fn refuse<R: Print + Complain>(rt: &R, line: &[u8], whose: &[u8], x: Refusal, log: Log) -> Answer {
     let log = log::tell(rt, whose, report::refuse(x), log);
     files::tell_page(rt, whose, plants::take_checkpoint(line), progress::hint(x));
     take_none(log)

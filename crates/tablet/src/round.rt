@@ -168,7 +168,13 @@ fn serve<R: Files + Print + Alloc + RandomSource + Complain>(
     log: Log,
     room: &mut [u8],
 ) -> Round {
-    let t = plant::ask(rt, lines::take_line(list, i), Asked::Turn(budget), log, room);
+    let t = plant::ask(
+        rt,
+        lines::take_line(list, i),
+        Asked::Turn(budget),
+        log,
+        room,
+    );
     let log = t.log;
     let queue = recount(q, i, t.left);
     Round { queue, log }

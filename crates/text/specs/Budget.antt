@@ -8,7 +8,7 @@
 --     budget_in w       the budget that w says: digits alone, at least one, of a number up to the highest
 --
 -- Laws: proofs/BudgetLaws.antt. Definitions only.
-use Rattle.std.specs.Prelude.{ℕ, ◌+◌, ◌-◌, ◌*◌, Bool, true, List, [], ◌∷◌, leb, length}
+use Rattle.std.specs.Prelude.{ℕ, ◌+◌, ◌-◌, ◌*◌, Bool, true, List, [], ◌∷◌, nat_le, length}
 use Rattle.choice.specs.Tests.{choose, ◌also◌}
 use Rattle.text.specs.declared.budget.Budget.{Budget}
 use Rattle.text.specs.declared.budget.Budget.TheVariants.{Records, Wrong}
@@ -17,7 +17,7 @@ abbrev pub highest : ℕ
 highest = 4294967295
 
 unfoldable pub is_digit : ℕ → Bool
-is_digit b = leb 48 b also leb b 57
+is_digit b = nat_le 48 b also nat_le b 57
 
 unfoldable pub all_digits : List ℕ → Bool
 all_digits [] = true
@@ -32,4 +32,4 @@ value_of w = value_from 0 w
 
 unfoldable pub budget_in : List ℕ → Budget
 budget_in w =
-    choose (leb 1 (length w) also all_digits w also leb (value_of w) highest) (Records (value_of w)) Wrong
+    choose (nat_le 1 (length w) also all_digits w also nat_le (value_of w) highest) (Records (value_of w)) Wrong

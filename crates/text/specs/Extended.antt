@@ -5,7 +5,7 @@
 --     extended p t     p with t behind what is on it, as far as there is room
 --
 -- Laws: proofs/PageLaws.antt. Definitions only.
-use Rattle.std.specs.Prelude.{ℕ, ◌+◌, List, [], ◌∷◌, ltb, set}
+use Rattle.std.specs.Prelude.{ℕ, ◌+◌, List, [], ◌∷◌, nat_lt, slice_set}
 use Rattle.choice.specs.Tests.{choose}
 use Rattle.text.specs.declared.page.Page.{Page}
 use Rattle.text.specs.Page.{page_size, page_of}
@@ -15,7 +15,7 @@ blank = page_of []
 
 unfoldable pub with_byte : Page → ℕ → Page
 with_byte p b =
-    choose (ltb p.len page_size) (record { bytes = set p.bytes p.len b; len = p.len + 1 }) p
+    choose (nat_lt p.len page_size) (record { bytes = slice_set p.bytes p.len b; len = p.len + 1 }) p
 
 unfoldable pub extended : Page → List ℕ → Page
 extended p [] = p

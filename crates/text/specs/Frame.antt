@@ -26,7 +26,7 @@
 --     broken_text i x               the line on frame i, counted from 0, at which the answers end
 --
 -- Laws: proofs/FrameLaws.antt. Definitions only.
-use Rattle.std.specs.Prelude.{ℕ, ◌+◌, ◌%◌, Bool, true, false, List, [], ◌∷◌, ◌++◌, leb, eqb, length, get_or}
+use Rattle.std.specs.Prelude.{ℕ, ◌+◌, ◌%◌, Bool, true, false, List, [], ◌∷◌, ◌++◌, nat_le, nat_eq, length, slice_index}
 use Rattle.choice.specs.Tests.{choose, ◌also◌, ◌either◌}
 use Rattle.rules.specs.declared.entry.Destination.{Destination}
 use Rattle.rules.specs.declared.entry.Destination.TheVariants.{Fossil, Biomass, Nowhere}
@@ -71,15 +71,15 @@ abbrev pub blank_in : List ℕ → Bool
 blank_in head = zeros head 20 4
 
 unfoldable pub argument_ok : ℕ → ℕ → Bool
-argument_ok k x = eqb k 2 either eqb k 4 either eqb x 0
+argument_ok k x = nat_eq k 2 either nat_eq k 4 either nat_eq x 0
 
 unfoldable pub head_ok : List ℕ → Bool
 head_ok head =
-    leb 1 (call_in head)
-    also leb (call_in head) 4
+    nat_le 1 (call_in head)
+    also nat_le (call_in head) 4
     also gap_in head
     also argument_ok (call_in head) (argument_in head)
-    also leb (book_in head + checkpoint_in head + out_in head) most_behind
+    also nat_le (book_in head + checkpoint_in head + out_in head) most_behind
     also blank_in head
 
 unfoldable pub frame_in : List ℕ → Frame
@@ -92,7 +92,7 @@ frame_in head = record {
 }
 
 unfoldable pub asked_in : List ℕ → Asked
-asked_in head = choose (eqb (length head) head_size also head_ok head) (Call (frame_in head)) Stop
+asked_in head = choose (nat_eq (length head) head_size also head_ok head) (Call (frame_in head)) Stop
 
 -- ---- the answer to a fresh start or a wake
 unfoldable pub call_answer : ℕ → List ℕ
@@ -103,13 +103,13 @@ abbrev pub number_of : ℕ → ℕ
 number_of w = w % 256
 
 abbrev pub figure : List ℕ → ℕ → ℕ
-figure fs i = get_or fs i 0
+figure fs i = slice_index fs i
 
 unfoldable pub same : List ℕ → List ℕ → Bool
 same [] [] = true
 same [] (y ∷ ys) = false
 same (x ∷ xs) [] = false
-same (x ∷ xs) (y ∷ ys) = eqb x y also same xs ys
+same (x ∷ xs) (y ∷ ys) = nat_eq x y also same xs ys
 
 unfoldable pub figures_part : List ℕ → List ℕ
 figures_part fs =
@@ -125,7 +125,7 @@ unfoldable pub change_part : List ℕ → List ℕ → List ℕ
 change_part before after = bytes_of 41 0 ++ bytes_of 1 (choose (same before after) 0 1)
 
 unfoldable pub report_part : ℕ → List ℕ → List ℕ → List ℕ
-report_part n before after = choose (eqb n 0) (figures_part after) (change_part before after)
+report_part n before after = choose (nat_eq n 0) (figures_part after) (change_part before after)
 
 unfoldable pub report_answer : ℕ → List ℕ → List ℕ → List ℕ
 report_answer w before after = bytes_of 8 w ++ report_part (number_of w) before after ++ bytes_of 14 0

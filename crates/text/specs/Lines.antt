@@ -7,7 +7,7 @@
 --     line_text i k x   what is printed of what was seen at index i, of a record of kind k
 --
 -- Laws: proofs/LinesLaws.antt. Definitions only.
-use Rattle.std.specs.Prelude.{ℕ, List, [], ◌++◌, eqb}
+use Rattle.std.specs.Prelude.{ℕ, List, [], ◌++◌, nat_eq}
 use Rattle.choice.specs.Tests.{choose}
 use Rattle.rules.specs.declared.entry.Destination.{Destination}
 use Rattle.rules.specs.declared.entry.Destination.TheVariants.{Fossil, Biomass, Nowhere}
@@ -21,7 +21,7 @@ use Rattle.text.specs.Report.{refused_text}
 -- Records of no fuel have none, and are told by their kind.
 unfoldable pub method_text : ℕ → ℕ → List ℕ
 method_text k m =
-    choose (eqb m 0) (choose (eqb k 4) (ascii " anodes") (ascii " hour"))
+    choose (nat_eq m 0) (choose (nat_eq k 4) (ascii " anodes") (ascii " hour"))
     (field (ascii " method ") m)
 
 abbrev pub ledger_text : Destination → List ℕ

@@ -10,7 +10,7 @@
 --                               31 ask for
 --
 -- Laws: proofs/ProgressLaws.antt. Definitions only.
-use Rattle.std.specs.Prelude.{ℕ, List, [], ◌++◌, eqb}
+use Rattle.std.specs.Prelude.{ℕ, List, [], ◌++◌, nat_eq}
 use Rattle.choice.specs.Tests.{choose, ◌either◌}
 use Rattle.rules.specs.declared.book.Head.{Head}
 use Rattle.rules.specs.Book.{opened}
@@ -26,8 +26,8 @@ moved_text gap h m d = field (ascii "moved ") m ++ field gap d ++ line (ascii " 
 -- 40 tells how many are done; figures and 41 are given of a finished book alone.
 unfoldable pub progress_by : List ℕ → Head → ℕ → Reply → List ℕ
 progress_by gap h m (reply n vs) =
-    choose (eqb n 40) (moved_text gap h m (value vs 0))
-    (choose (eqb n 0 either eqb n 41) (moved_text gap h m h.n ++ reply_text h (reply n vs))
+    choose (nat_eq n 40) (moved_text gap h m (value vs 0))
+    (choose (nat_eq n 0 either nat_eq n 41) (moved_text gap h m h.n ++ reply_text h (reply n vs))
     (refused_text n vs))
 
 unfoldable pub progress_with : List ℕ → List ℕ → List ℕ → ℕ → List ℕ
@@ -41,6 +41,6 @@ turn_text k c m = progress_with (ascii " done ") k c m
 
 unfoldable pub hint_text : ℕ → List ℕ
 hint_text n =
-    choose (eqb n 30 either eqb n 31)
+    choose (nat_eq n 30 either nat_eq n 31)
     (ascii " isn't this book's checkpoint; wake BOOK CHECKPOINT BUDGET fresh starts anew\n")
     []

@@ -12,7 +12,7 @@
 --     annual_held s more  the same of bytes of which it holds the first, s, if more says whether there are more
 --
 -- Laws: proofs/ReportLaws.antt. Definitions only.
-use Rattle.std.specs.Prelude.{ℕ, Bool, List, [], ◌++◌, eqb, ltb, length, get_or}
+use Rattle.std.specs.Prelude.{ℕ, Bool, List, [], ◌++◌, nat_eq, nat_lt, length, slice_index}
 use Rattle.choice.specs.Tests.{choose}
 use Rattle.rules.specs.declared.book.Head.{Head}
 use Rattle.rules.specs.Book.{opened}
@@ -23,16 +23,16 @@ use Rattle.job.specs.Report.{reply_at}
 use Rattle.text.specs.Words.{ascii, newline, field, line}
 
 abbrev pub value : List ℕ → ℕ → ℕ
-value vs i = get_or vs i 0
+value vs i = slice_index vs i
 
 abbrev pub aside_text : List ℕ → List ℕ
 aside_text vs = field (ascii " record ") (value vs 0) ++ field (ascii " reason ") (value vs 1)
 
 unfoldable pub refused_text : ℕ → List ℕ → List ℕ
-refused_text n vs = field (ascii "refused ") n ++ choose (eqb n 41) (aside_text vs) [] ++ newline
+refused_text n vs = field (ascii "refused ") n ++ choose (nat_eq n 41) (aside_text vs) [] ++ newline
 
 unfoldable pub decision_text : ℕ → List ℕ
-decision_text d = choose (eqb d 1) (ascii "must-report yes\n") (ascii "must-report no\n")
+decision_text d = choose (nat_eq d 1) (ascii "must-report yes\n") (ascii "must-report no\n")
 
 unfoldable pub figures_text : Head → List ℕ → List ℕ
 figures_text h vs =
@@ -46,7 +46,7 @@ figures_text h vs =
     ++ decision_text (value vs 5)
 
 unfoldable pub reply_text : Head → Reply → List ℕ
-reply_text h (reply n vs) = choose (eqb n 0) (figures_text h vs) (refused_text n vs)
+reply_text h (reply n vs) = choose (nat_eq n 0) (figures_text h vs) (refused_text n vs)
 
 unfoldable pub year_text : List ℕ → List ℕ
 year_text k =
@@ -56,7 +56,7 @@ abbrev pub annual_most : ℕ
 annual_most = 65536
 
 unfoldable pub annual_text : List ℕ → List ℕ
-annual_text k = choose (ltb annual_most (length k)) (refused_text 20 []) (year_text k)
+annual_text k = choose (nat_lt annual_most (length k)) (refused_text 20 []) (year_text k)
 
 unfoldable pub annual_held : List ℕ → Bool → List ℕ
 annual_held s more = choose more (refused_text 20 []) (annual_text s)

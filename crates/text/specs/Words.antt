@@ -10,7 +10,7 @@
 --     line s n       the same as a line
 --
 -- Laws: proofs/WordsLaws.antt. Definitions only.
-use Rattle.std.specs.Prelude.{ℕ, suc, zero, ◌+◌, ◌/◌, ◌%◌, List, [], ◌∷◌, ◌++◌, ltb}
+use Rattle.std.specs.Prelude.{ℕ, suc, zero, ◌+◌, ◌/◌, ◌%◌, List, [], ◌∷◌, ◌++◌, nat_lt}
 use Prim.Native.Char.{code}
 use Prim.Native.String.{String, len, char_at}
 use Rattle.choice.specs.Tests.{choose}
@@ -30,7 +30,7 @@ digit d = 48 + d
 
 unfoldable pub digits : ℕ → ℕ → List ℕ
 digits zero n = []
-digits (suc k) n = choose (ltb n 10) (digit n ∷ []) (digits k (n / 10) ++ digit (n % 10) ∷ [])
+digits (suc k) n = choose (nat_lt n 10) (digit n ∷ []) (digits k (n / 10) ++ digit (n % 10) ∷ [])
 
 -- Numbers of 64 bits are below 10^20.
 unfoldable pub decimal : ℕ → List ℕ

@@ -7,7 +7,7 @@
 --     figures_after r fs      the buffer for figures after the reply r, which held fs before
 --
 -- Laws: proofs/FaceLaws.antt. Definitions only.
-use Rattle.std.specs.Prelude.{ℕ, ◌+◌, ◌*◌, List, [], ◌∷◌, eqb, length}
+use Rattle.std.specs.Prelude.{ℕ, ◌+◌, ◌*◌, List, [], ◌∷◌, nat_eq, length}
 use Rattle.choice.specs.Tests.{◌also◌, choose}
 use Rattle.job.specs.Reply.{Reply, reply}
 
@@ -24,4 +24,4 @@ word_of (reply n (a ∷ b ∷ c ∷ vs)) = packed n 0 0 0 0
 
 -- Six figures are written, and nothing else is.
 unfoldable pub figures_after : Reply → List ℕ → List ℕ
-figures_after (reply n vs) fs = choose (eqb (length vs) 6 also eqb n 0) vs fs
+figures_after (reply n vs) fs = choose (nat_eq (length vs) 6 also nat_eq n 0) vs fs

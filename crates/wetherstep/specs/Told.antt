@@ -8,7 +8,7 @@
 --     left_told w             the reply that the word of a count tells
 --
 -- Laws: proofs/ToldLaws.antt. Definitions only.
-use Rattle.std.specs.Prelude.{ℕ, ◌/◌, ◌%◌, List, [], ◌∷◌, eqb}
+use Rattle.std.specs.Prelude.{ℕ, ◌/◌, ◌%◌, List, [], ◌∷◌, nat_eq}
 use Rattle.choice.specs.Tests.{choose}
 use Rattle.job.specs.Reply.{Reply, reply}
 
@@ -25,13 +25,13 @@ unfoldable pub fresh_told : ℕ → Reply
 fresh_told w = reply (told_number w) []
 
 unfoldable pub wake_told : ℕ → Reply
-wake_told w = choose (eqb (told_number w) 0) (reply 0 (told_count w ∷ [])) (reply (told_number w) [])
+wake_told w = choose (nat_eq (told_number w) 0) (reply 0 (told_count w ∷ [])) (reply (told_number w) [])
 
 unfoldable pub report_told : ℕ → List ℕ → Reply
 report_told w fs =
-    choose (eqb (told_number w) 0) (reply 0 fs)
-    (choose (eqb (told_number w) 40) (reply 40 (told_count w ∷ []))
-    (choose (eqb (told_number w) 41) (reply 41 (told_count w ∷ told_reason w ∷ []))
+    choose (nat_eq (told_number w) 0) (reply 0 fs)
+    (choose (nat_eq (told_number w) 40) (reply 40 (told_count w ∷ []))
+    (choose (nat_eq (told_number w) 41) (reply 41 (told_count w ∷ told_reason w ∷ []))
     (reply (told_number w) [])))
 
 -- As of a wake.

@@ -8,7 +8,7 @@
 --     record_told w ms        what the word tells of the record, ms being the masses after it
 --
 -- Laws: proofs/ToldLaws.antt. Definitions only.
-use Rattle.std.specs.Prelude.{ℕ, ◌/◌, ◌%◌, Bool, List, eqb, ltb, get_or}
+use Rattle.std.specs.Prelude.{ℕ, ◌/◌, ◌%◌, Bool, List, nat_eq, nat_lt, slice_index}
 use Rattle.choice.specs.Tests.{◌also◌, choose}
 use Rattle.rules.specs.declared.entry.Destination.{Destination}
 use Rattle.rules.specs.declared.entry.Destination.TheVariants.{Fossil, Biomass, Nowhere}
@@ -25,23 +25,23 @@ unfoldable pub told_ledger : ℕ → ℕ
 told_ledger w = w / 16777216 % 256
 
 unfoldable pub told_counts : ℕ → Bool
-told_counts w = eqb (told_number w) 0 also eqb (told_reason w) 0 also ltb (told_method w) no_record
+told_counts w = nat_eq (told_number w) 0 also nat_eq (told_reason w) 0 also nat_lt (told_method w) no_record
 
 unfoldable pub destination_told : ℕ → Destination
-destination_told d = choose (eqb d 1) Fossil (choose (eqb d 2) Biomass Nowhere)
+destination_told d = choose (nat_eq d 1) Fossil (choose (nat_eq d 2) Biomass Nowhere)
 
 unfoldable pub entry_told : ℕ → List ℕ → Entry
 entry_told w ms = record {
   method = told_method w;
   destination = destination_told (told_ledger w);
-  co2 = record { 0 = get_or ms 0 0 };
-  ch4 = record { 0 = get_or ms 1 0 };
-  n2o = record { 0 = get_or ms 2 0 };
+  co2 = record { 0 = slice_index ms 0 };
+  ch4 = record { 0 = slice_index ms 1 };
+  n2o = record { 0 = slice_index ms 2 };
 }
 
 unfoldable pub record_told : ℕ → List ℕ → Sight
 record_told w ms =
     choose (told_counts w) (shown (Counted (entry_told w ms)))
-    (choose (ltb 0 (told_number w)) (turned_away (told_number w))
-    (choose (ltb 0 (told_reason w)) (shown (SetAside (told_reason w)))
+    (choose (nat_lt 0 (told_number w)) (turned_away (told_number w))
+    (choose (nat_lt 0 (told_reason w)) (shown (SetAside (told_reason w)))
     missing))
