@@ -6,9 +6,9 @@ perhaps with bytes of the new one in a temporary file, or else the new checkpoin
 states is set up, and those with a part of the bytes are reached by a stopped program too: a limit
 on the size of files ends it by a signal within its write, at any byte.
 """
-import os
 import resource
 import signal
+import tempfile
 
 from program_books import CHECKPOINT
 from program_jobs import ALL, COPY, NAME, job_on
@@ -16,6 +16,7 @@ from program_runs import Wrong, ended_by, expect
 
 STALE = NAME + ".aB3xZ9"  # as mkstemp might name it
 EVERY, EDGES = range(CHECKPOINT), (0, 1, CHECKPOINT // 2, CHECKPOINT - 1)
+FULL = 1 << 24  # bytes: more than any book has
 # Where the stopped wake started, and where it would have ended: the first, one between, the last.
 # With one of them each length of a temporary file is tried.
 WAKES = [(None, 50, EDGES), (100, 150, EVERY), (250, 282, EDGES)]
@@ -66,27 +67,32 @@ def left_behind(job):
     return {name: files[name] for name in files if name not in ("book", NAME, COPY)}
 
 
-def expect_stopped(answer, number):
-    """A signal ended it before it told anything. Standard output may be one that nobody reads."""
-    if not ended_by(answer, number) or answer.out:
-        raise Wrong(f"{number.name} didn't stop it: {answer}")
+def expect_stopped(answer):
+    """The limit on the size of files ended it before it told anything."""
+    if not ended_by(answer, signal.SIGXFSZ) or answer.out:
+        raise Wrong(f"the limit didn't stop it: {answer}")
 
 
 def stop_write(job, budget, length):
     """A wake that is ended within a write, after so many bytes of the file."""
     answer = job.wake(budget, preexec_fn=limit_files(length, is_told=False))
-    expect_stopped(answer, signal.SIGXFSZ)
+    expect_stopped(answer)
+    return answer
+
+
+def run_untold(run, budget):
+    """A run that the first byte that it prints stops: its output is a file that has all the bytes
+    that a file may have. What it saves comes nowhere near that limit."""
+    with tempfile.TemporaryFile() as full:
+        full.truncate(FULL)
+        full.seek(FULL)
+        answer = run(budget, stdout=full, preexec_fn=limit_files(FULL, is_told=False))
+    expect_stopped(answer)
     return answer
 
 
 def stop_telling(job, budget):
-    """Its output is a pipe that nobody reads: the first byte that it prints stops it."""
-    reading, writing = os.pipe()
-    os.close(reading)
-    answer = job.wake(budget, stdout=writing)
-    os.close(writing)
-    expect_stopped(answer, signal.SIGPIPE)
-    return answer
+    return run_untold(job.wake, budget)
 
 
 def try_stopped_writes(programs, cases, plan, start, end, lengths):

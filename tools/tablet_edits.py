@@ -1,11 +1,10 @@
 """Books of a tablet that are edited between two runs, and between two turns of one run: the plant
 starts anew in its turn, which is told once, and no figure of the old book is added to the new."""
 import os
-import signal
 import subprocess
 import time
 
-from kill_saves import expect_stopped
+from kill_saves import run_untold
 from program_annual import ONE
 from program_books import book, fuel_record, trailer
 from program_copy import correct, resize
@@ -111,11 +110,7 @@ def try_copies(programs, cases, plans):
             programs, plans) as tablet:
         stand_after(tablet, 6)
         tablet.path("a", "saved.book").unlink()
-        reading, writing = os.pipe()
-        os.close(reading)
-        answer = tablet.run(BUDGET, stdout=writing)
-        os.close(writing)
-        expect_stopped(answer, signal.SIGPIPE)
+        run_untold(tablet.run, BUDGET)
         expect(tablet.copy("a"), plans["a"].book, "the copy")
 
 

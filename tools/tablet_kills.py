@@ -1,16 +1,14 @@
 """A tablet whose runs are killed: fairness and figures survive it.
 
-A run that prints to a pipe that nobody reads ends at the first byte it prints, so exactly one turn
-fits into it. A run under a limit on the size of files ends within the save of a checkpoint or of a
+A run that prints to a file that may not grow ends at the first byte it prints, so exactly one turn
+fits into it. A run under a low limit on the size of files ends within the save of a checkpoint or of a
 copy, which are longer than the kept place of a short list, so its one turn is cut.
 """
-import os
 import re
-import signal
 import subprocess
 import tempfile
 
-from kill_saves import expect_stopped, limit_files
+from kill_saves import expect_stopped, limit_files, run_untold
 from program_copy import correct
 from program_runs import PATIENCE, Wrong, expect, kill
 from tablet_edits import plans_of
@@ -26,17 +24,13 @@ SERVED = re.compile(rb"^(\w+)\.book moved [1-9]", re.M)  # A plant that is done 
 
 def one_turn(tablet, budget=BUDGET):
     """A run in which one turn fits: its first byte ends it."""
-    reading, writing = os.pipe()
-    os.close(reading)
-    answer = tablet.run(budget, stdout=writing)
-    os.close(writing)
-    expect_stopped(answer, signal.SIGPIPE)
+    run_untold(tablet.run, budget)
 
 
 def cut_turn(tablet, budget=BUDGET, length=CUT_AT):
     """A run whose one turn is cut within its save, after so many bytes."""
     answer = tablet.run(budget, preexec_fn=limit_files(length, is_told=False))
-    expect_stopped(answer, signal.SIGXFSZ)
+    expect_stopped(answer)
 
 
 def expect_turn(tablet, turn, name, moved):
