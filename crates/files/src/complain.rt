@@ -19,7 +19,7 @@ impl Complain for LibcRuntime {
 }
 
 // Says what failed at a path, and why, behind the name of whoever it is told of.
-pub fn fail<R: Complain>(rt: &R, whose: &[u8], path: &[u8], why: Error) {
+pub(crate) fn fail<R: Complain>(rt: &R, whose: &[u8], path: &[u8], why: Error) {
     tell(rt, whose, path, b": ");
     let mut words = Words {
         bytes: [0u8; MOST],

@@ -10,7 +10,7 @@ pub mod complain;
 pub mod copy;
 pub mod ended;
 pub mod kept;
-pub mod path;
+mod path;
 mod real;
 pub mod save;
 
@@ -24,7 +24,7 @@ use complain::{Complain, fail, tell};
 use ended::Ended;
 use job::checkpoint;
 use rules::book::LONGEST_BOOK;
-use std::io::{Error, Read};
+use std::io::{Error, ErrorKind, Read};
 use std::rt::Files;
 use text::page::Page;
 use text::refusal;
@@ -101,6 +101,22 @@ pub fn read_file<R: Files + Complain>(rt: &R, whose: &[u8], path: &[u8], buf: &m
     match path::open(rt, path) {
         Ok(file) => read_open(rt, file, whose, path, buf),
         Err(why) => {
+            fail(rt, whose, path, why);
+            Got::Failed(why)
+        }
+    }
+}
+
+// Reads the file at path likewise: where there is none, no bytes.
+pub fn read_if_there<R: Files + Complain>(rt: &R, whose: &[u8], path: &[u8], buf: &mut [u8]) -> Got
+    ensures within { Within result buf.new }
+{
+    match path::open(rt, path) {
+        Ok(file) => read_open(rt, file, whose, path, buf),
+        Err(why) => {
+            if why.kind() == ErrorKind::NotFound {
+                return Got::Bytes(0);
+            }
             fail(rt, whose, path, why);
             Got::Failed(why)
         }

@@ -15,6 +15,6 @@ pub(crate) fn as_text(path: &[u8]) -> Result<&str> {
 }
 
 // Opens the file for reading.
-pub fn open<R: Files>(rt: &R, path: &[u8]) -> Result<R::File> {
+pub(crate) fn open<R: Files>(rt: &R, path: &[u8]) -> Result<R::File> {
     fs::open(rt, as_text(path)?)
 }

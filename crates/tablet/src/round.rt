@@ -4,16 +4,15 @@
 use crate::log::Log;
 use crate::plant::Asked;
 use crate::{LIST_ROOM, log, plant};
-use files::complain::{Complain, fail};
+use files::complain::Complain;
 use files::ended::Ended;
 use files::save::LONGEST_SAVED;
-use files::{BOOK_ROOM, Got, path, save};
+use files::{BOOK_ROOM, Got, save};
 use queue::reply::Turned;
 use queue::slots::{Queue, SLOT_COUNT};
 use queue::{books, round, slots};
 use roster::{lines, place};
 use rules::book::LONGEST_BOOK;
-use std::io::ErrorKind;
 use std::random::RandomSource;
 use std::rt::Files;
 
@@ -80,16 +79,7 @@ fn go_on<R: Files + Print + Alloc + RandomSource + Complain>(
 
 // What is kept of the last run, or nothing where there is no such file.
 fn read_kept<R: Files + Complain>(rt: &R, path: &[u8], kept: &mut [u8]) -> Got {
-    match path::open(rt, path) {
-        Ok(file) => files::read_open(rt, file, b"", path, kept),
-        Err(why) => {
-            if why.kind() == ErrorKind::NotFound {
-                return Got::Bytes(0);
-            }
-            fail(rt, b"", path, why);
-            Got::Failed(why)
-        }
-    }
+    files::read_if_there(rt, b"", path, kept)
 }
 
 fn fill<R: Files + Print + Alloc + RandomSource + Complain>(
