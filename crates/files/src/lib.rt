@@ -16,7 +16,7 @@ pub mod save;
 
 ghost use Rattle.std.specs.Prelude.{◌≡◌};
 ghost use Rattle.io.specs.Counts.{IsPrefixLen};
-ghost use Rattle.files.specs.Got.{Within};
+ghost use Rattle.files.specs.Got.{Within, Took, TookAll};
 ghost use Rattle.files.specs.Put.{front, put_end, put_bytes};
 ghost use Rattle.files.specs.Ended.{Printed};
 
@@ -50,6 +50,7 @@ pub enum Got {
 // Reads until the input ends or buf is full, in as many pieces as the input comes in.
 pub fn read_all<F: Read>(from: &mut F, buf: &mut [u8]) -> Got
     ensures within { Within result buf.new }
+    ensures bytes { TookAll (F.remaining from.old) (F.remaining from.new) result buf.new }
 {
     let mut n = 0;
     while n < buf.len() {
@@ -167,6 +168,7 @@ pub fn read_open<R: Complain, F: Read + Drop>(
 // One read. Only at the end of the input does it come to no bytes, for room isn't empty.
 pub(crate) fn read_some<F: Read>(from: &mut F, room: &mut [u8]) -> Got
     ensures within { Within result room.new }
+    ensures bytes { Took (F.remaining from.old) (F.remaining from.new) result room.new }
 {
     match from.read(room) {
         Ok(n) => Got::Bytes(n),
