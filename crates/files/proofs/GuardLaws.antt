@@ -54,11 +54,11 @@ module _ (k : List ℕ) where
 
 -- ---- how the copy stands to the book
 module _ (c k : List ℕ) where
-  compared_same : same c k ≡ true → compared_with (some c) k ≡ compared.Same
+  pub compared_same : same c k ≡ true → compared_with (some c) k ≡ compared.Same
   unfolding compared_with
   compared_same t = choose_t compared.Other t refl
 
-  compared_other : same c k ≡ false → compared_with (some c) k ≡ compared.Other
+  pub compared_other : same c k ≡ false → compared_with (some c) k ≡ compared.Other
   unfolding compared_with
   compared_other t = choose_f compared.Same t refl
 

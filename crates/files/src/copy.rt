@@ -1,6 +1,9 @@
 // The copy of a book beside its checkpoint: a checkpoint tells a book by its length and year alone,
 // and the copy tells it byte for byte.
+ghost use Rattle.std.specs.Prelude.{◌≡◌, ◌≢◌, length, IfOk};
 ghost use Rattle.io.specs.Counts.{IsPrefixLen};
+ghost use Rattle.files.specs.declared.copy.Compared.TheVariants.{Same, Other};
+ghost use Rattle.files.specs.Look.{Told};
 
 use crate::complain::{Complain, fail};
 use crate::save::LONGEST_PATH;
@@ -59,7 +62,9 @@ fn compare_at<R: Files>(rt: &R, copy: &[u8], book: &[u8]) -> Result<Compared> {
 }
 
 // Piece by piece, so that a copy needs no room of its own.
-fn compare_open<F: Read + Drop>(file: F, book: &[u8]) -> Result<Compared> {
+fn compare_open<F: Read + Drop>(file: F, book: &[u8]) -> Result<Compared>
+    ensures told { IfOk result (Told (F.remaining file) book.now) }
+{
     let mut file = file;
     let mut piece = [0u8; 4096];
     let mut n = 0;
@@ -86,7 +91,10 @@ fn compare_open<F: Read + Drop>(file: F, book: &[u8]) -> Result<Compared> {
 }
 
 // A copy that ends after n bytes of the book, all of them the same.
-fn end_at(n: usize, book: &[u8]) -> Compared {
+fn end_at(n: usize, book: &[u8]) -> Compared
+    ensures same { n ≡ length book.now → result ≡ Same }
+    ensures other { n ≢ length book.now → result ≡ Other }
+{
     if n == book.len() {
         return Compared::Same;
     }
