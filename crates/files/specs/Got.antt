@@ -1,14 +1,13 @@
 -- What a count of the bytes that were read promises.
 --
 --     Within r xs        if r is a count, so many bytes stand at the start of xs
---     Took o n r xs      of an input that had the bytes o and has n left, where these are known: if r is a count, so many
---                        at the start of xs are what it lost, and a count of none in a room for some is its end; a
---                        read that failed took nothing
---     TookAll o n r xs   likewise of reads until the room is full: a count of fewer than there is room for is its end
+--     TookAll o n r xs   of an input that had the bytes o and has n left, where these are known, and of reads until
+--                        the room is full: if r is a count, so many at the start of xs are what it lost, and a
+--                        count of fewer than there is room for is its end
 --
 -- Definitions only.
-use Rattle.std.specs.Prelude.{ℕ, ◌≡◌, ◌<◌, List, length, take, Option}
-use Rattle.std.specs.Io.KnownBytes.{Consumes, Keeps, IsAtEnd}
+use Rattle.std.specs.Prelude.{ℕ, ◌<◌, List, length, take, Option}
+use Rattle.std.specs.Io.KnownBytes.{Consumes, IsAtEnd}
 use Rattle.io.specs.Counts.{IsPrefixLen}
 use Rattle.files.specs.declared.Got.{Got}
 use Rattle.files.specs.declared.Got.TheVariants.{Bytes, Failed}
@@ -16,10 +15,6 @@ use Rattle.files.specs.declared.Got.TheVariants.{Bytes, Failed}
 abbrev pub Within : Got → List ℕ → Type 0
 Within (Bytes n) xs = IsPrefixLen n xs
 Within (Failed why) xs = Unit {0}
-
-abbrev pub Took : Option (List ℕ) → Option (List ℕ) → Got → List ℕ → Type 0
-Took old new (Bytes n) xs = Consumes old new (take n xs) × (n ≡ 0 → 0 < length xs → IsAtEnd new)
-Took old new (Failed why) xs = Keeps old new
 
 abbrev pub TookAll : Option (List ℕ) → Option (List ℕ) → Got → List ℕ → Type 0
 TookAll old new (Bytes n) xs = Consumes old new (take n xs) × (n < length xs → IsAtEnd new)

@@ -16,7 +16,8 @@ pub mod save;
 
 ghost use Rattle.std.specs.Prelude.{◌≡◌};
 ghost use Rattle.io.specs.Counts.{IsPrefixLen};
-ghost use Rattle.files.specs.Got.{Within, Took, TookAll};
+ghost use Rattle.files.specs.Got.{Within, TookAll};
+ghost use Rattle.files.specs.Took.{Took};
 ghost use Rattle.files.specs.Put.{front, put_end, put_bytes};
 ghost use Rattle.files.specs.Ended.{Printed};
 
