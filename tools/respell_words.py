@@ -49,6 +49,8 @@ def turned(text):
     if "set" not in words:
         text = re.sub(r"(?<![\w.'-])set(?![\w'-])", "\0", text)
     text = OURS.sub(lambda m: WORDS[m.group(1)], indexed(text)).replace("\0", "set")
+    # In a comment it is an English word.
+    text = re.sub(r"(?m)^(\s*(?:--|//).*)\bslice_set\b", r"\1set", text)
     return IMPORT.sub(lambda m: f"{m.group(1)}.{{{', '.join(imported(m.group(2), text))}}}", text)
 
 

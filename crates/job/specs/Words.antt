@@ -7,7 +7,7 @@
 --     low_at w i, high_at w i        the digits at place i
 --     unit_at i                      what they count, in ng: µg of CO2, or ng of another gas
 --     mass_at w i                    what the records give to the ledger at place i
---     counts_at p a                  the counts at place p, a saying how many records are slice_set aside, and which is the first
+--     counts_at p a                  the counts at place p, a saying how many records are set aside, and which is the first
 --     state_in c w                   the state with the counts c and the masses of w
 --     added w i x                    w with x more at place i
 --     given w e                      w with all that the entry e gives

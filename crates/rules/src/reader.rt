@@ -172,7 +172,7 @@ pub fn take_step(book: &[u8], at: usize, table: &mut [u64]) -> Step
     }
 }
 
-// Where a reader leads from a place. The parameters are plain, so that no caller is proved by hand.
+// Where a reader leads from a place.
 fn go_past(book: &[u8], at: usize) -> Onward
     ensures after { result.next ≡ place_after book.now at }
     ensures left { result.left ≡ left_from book.now result.next }
