@@ -1,11 +1,9 @@
 -- The rules of a line by its named bytes and its blank, where the first line with a number stands, and
 -- what `listed` makes of it. Assumes nothing.
-use Rattle.std.proofs.Common.{◌≡◌, ℕ, zero, suc, ◌+◌, ◌-◌, ◌*◌, ◌/◌, ◌<◌, ◌≤◌, true, false, List, length, take, drop, sym, refl, ap, ◌∙◌, not-suc-le-zero, mul-zero, mul-one, arith, eq-eqb, ne_eqb}
+use Rattle.std.proofs.Common.{◌≡◌, ℕ, zero, suc, ◌+◌, ◌-◌, ◌*◌, ◌/◌, ◌<◌, ◌≤◌, true, false, List, length, take, drop, sym, refl, ap, ◌∙◌, not-suc-le-zero, mul-zero, mul-one, arith, eq-eqb, ne_eqb, Option, Some, None}
 use Rattle.choice.specs.Tests.{◌also◌}
 use Rattle.choice.proofs.Splitting.{if_lt, if_eq}
 use Rattle.choice.proofs.TestsLaws.{also_t, also_f, choose_t, choose_f}
-use Rattle.rules.specs.declared.listing.Found.{Found}
-use Rattle.rules.specs.declared.listing.Found.TheVariants.{At, Nothing}
 use Rattle.rules.specs.declared.listing.Sort.{Sort}
 use Rattle.rules.specs.declared.listing.Sort.TheVariants.{Unit, Fuel}
 use Rattle.rules.specs.declared.record.Outcome.{Outcome}
@@ -40,14 +38,14 @@ blank_from-le Fuel = omega arith
 -- No line has the number.
 record Absent (x n j : ℕ) (s : List ℕ) : Type 0 where
   lacks : (i : ℕ) → i < n → number_at i s ≡ x → ⊥
-  place_is : place x j (lines n s) ≡ Nothing
+  place_is : place x j (lines n s) ≡ None
   listed_is : (k : ℕ) (rest : List ℕ → Outcome) → listed x (lines n s) k rest ≡ SetAside k
 
 -- Line i is the first that has it.
 record First (x n j i : ℕ) (s : List ℕ) : Type 0 where
   within : i < n
   has : number_at i s ≡ x
-  place_is : place x j (lines n s) ≡ At (j + i)
+  place_is : place x j (lines n s) ≡ Some (j + i)
   listed_is : (k : ℕ) (rest : List ℕ → Outcome) → listed x (lines n s) k rest ≡ rest (line i s)
 
 absent_zero : (x j : ℕ) (s : List ℕ) → Absent x 0 j s
@@ -67,7 +65,7 @@ module _ (x n j : ℕ) (s : List ℕ) where
       record {
         within = omega arith;
         has = e;
-        place_is = choose_t _ same (ap At here);
+        place_is = choose_t _ same (ap Some here);
         listed_is = λ k rest. choose_t _ same refl;
       }
 
@@ -95,7 +93,7 @@ module _ (x n j : ℕ) (s : List ℕ) where
         record {
           within = omega arith;
           has = ap number (line-suc i s) ∙ f.has;
-          place_is = choose_f _ other (f.place_is ∙ ap At there);
+          place_is = choose_f _ other (f.place_is ∙ ap Some there);
           listed_is = λ k rest. choose_f _ other (f.listed_is k rest ∙ ap rest (sym (line-suc i s)));
         }
 
@@ -130,7 +128,7 @@ module _ (s : List ℕ) (x : ℕ) where
   }
 
   -- No line has the number.
-  pub place_none : ((i : ℕ) → i < length s / 32 → number_at i s ≡ x → ⊥) → Nothing ≡ place x 0 (lines_in s)
+  pub place_none : ((i : ℕ) → i < length s / 32 → number_at i s ≡ x → ⊥) → None ≡ place x 0 (lines_in s)
   unfolding lines_in
   place_none none =
       if_listed x (length s / 32) 0 s
@@ -149,14 +147,14 @@ module _ (s : List ℕ) (x : ℕ) where
 
 -- The line in the middle has the number y.
 module _ (s : List ℕ) (x mid y : ℕ) (r : Rising s) (l : mid < length s / 32) (e : y ≡ number_at mid s) where
-  pub place_mid : y ≡ x → At mid ≡ place x 0 (lines_in s)
+  pub place_mid : y ≡ x → Some mid ≡ place x 0 (lines_in s)
   unfolding lines_in
   place_mid p =
       let has : number_at mid s ≡ x = sym e ∙ p in
       if_listed x (length s / 32) 0 s
       (λ a. absurd (a.lacks mid l has))
       (λ i f. let same : 0 + i ≡ mid = omega (arith, rising_inj s i mid r f.within l (f.has ∙ sym has)) in
-      sym (f.place_is ∙ ap At same))
+      sym (f.place_is ∙ ap Some same))
 
   pub between_up : (low high : ℕ) → y ≤ x → Between s x low high → Between s x mid high
   between_up low high p b = record {
@@ -190,11 +188,11 @@ between_half s x low half width y u r l e h lower upper b =
 
 -- ---- what `listed` makes of r, which a search for y gave
 module _ (x k : ℕ) (rest : List ℕ → Outcome) where
-  pub listed_at : {r : Found} {y p : ℕ} (s : List ℕ) → r ≡ place y 0 (lines_in s) → y ≡ x → r ≡ At p
+  pub listed_at : {r : Option ℕ} {y p : ℕ} (s : List ℕ) → r ≡ place y 0 (lines_in s) → y ≡ x → r ≡ Some p
       → (p < length s / 32) × (listed x (lines_in s) k rest ≡ rest (line p s))
   unfolding lines_in
   listed_at {r} {y} {p} s e d q =
-      let found : place x 0 (lines_in s) ≡ At p = cc in
+      let found : place x 0 (lines_in s) ≡ Some p = cc in
       if_listed x (length s / 32) 0 s
       (λ a. let never : ◌≡◌ {A = ℕ} 0 1 = cc in absurd (omega arith))
       (λ i f.
@@ -202,22 +200,22 @@ module _ (x k : ℕ) (rest : List ℕ → Outcome) where
       let same : i ≡ p = omega arith in
       (omega (arith, f.within), f.listed_is k rest ∙ ap (λ (i : ℕ). rest (line i s)) same))
 
-  pub listed_nothing : {r : Found} {y : ℕ} (s : List ℕ) → r ≡ place y 0 (lines_in s) → y ≡ x → r ≡ Nothing
+  pub listed_nothing : {r : Option ℕ} {y : ℕ} (s : List ℕ) → r ≡ place y 0 (lines_in s) → y ≡ x → r ≡ None
       → listed x (lines_in s) k rest ≡ SetAside k
   unfolding lines_in
   listed_nothing {r} {y} s e d q =
-      let found : place x 0 (lines_in s) ≡ Nothing = cc in
+      let found : place x 0 (lines_in s) ≡ None = cc in
       if_listed x (length s / 32) 0 s
       (λ a. a.listed_is k rest)
       (λ i f. let never : ◌≡◌ {A = ℕ} 0 1 = cc in absurd (omega arith))
 
 -- The line that was found is there.
-pub place_lt : {r : Found} {p : ℕ} (x : ℕ) (s : List ℕ) → r ≡ place x 0 (lines_in s) → r ≡ At p
+pub place_lt : {r : Option ℕ} {p : ℕ} (x : ℕ) (s : List ℕ) → r ≡ place x 0 (lines_in s) → r ≡ Some p
     → p < length s / 32
 place_lt x s e q = (listed_at x 0 (λ u. SetAside 0) s e refl q).0
 
 -- The line that was found has the number.
-pub place-number : {r : Found} {p : ℕ} (x : ℕ) (s : List ℕ) → r ≡ place x 0 (lines_in s) → r ≡ At p
+pub place-number : {r : Option ℕ} {p : ℕ} (x : ℕ) (s : List ℕ) → r ≡ place x 0 (lines_in s) → r ≡ Some p
     → number_at p s ≡ x
 unfolding lines_in
 place-number {r} {p} x s e q =

@@ -1,12 +1,10 @@
 -- The table tells a repeat wherever the record would count: its period is in range and its unit listed, and
 -- of those a table shows whether they stand. Assumes nothing.
-use Rattle.std.proofs.Common.{◌≡◌, ℕ, Bool, true, false, not, eqb, List, sym, refl, ap, ◌∙◌, subst, ap₂, arith, eq-eqb, ne_eqb, eqb-true, leb-true}
+use Rattle.std.proofs.Common.{◌≡◌, ℕ, Bool, true, false, not, eqb, List, sym, refl, ap, ◌∙◌, subst, ap₂, arith, eq-eqb, ne_eqb, eqb-true, leb-true, Option, Some, None}
 use mathlib.Core.Bool.{false≢true}
 use Rattle.choice.proofs.Splitting.{if_test}
 use Rattle.choice.proofs.TestsLaws.{also_t, also_f, also_l, also_r, either_t, either_f, choose_t, choose_f, if_choose}
 use Rattle.rules.specs.declared.entry.Entry.{Entry}
-use Rattle.rules.specs.declared.listing.Found.{Found}
-use Rattle.rules.specs.declared.listing.Found.TheVariants.{At, Nothing}
 use Rattle.rules.specs.declared.record.Outcome.{Outcome}
 use Rattle.rules.specs.declared.record.Outcome.TheVariants.{SetAside, Counted}
 use Rattle.rules.specs.Bytes.{line, lines_in}
@@ -65,18 +63,18 @@ aside : {o : Outcome} {k : ℕ} (a b : Bool) → o ≡ SetAside k → unless_rep
 aside a b e = unless_repeated_aside a e ∙ sym (unless_repeated_aside b e)
 
 module _ (l units t : List ℕ) (before : List (List ℕ)) (so_far : Shows before units t) where
-  abbrev found : Found
+  abbrev found : Option ℕ
   found = place (unit_number l) 0 (lines_in units)
 
   abbrev Agree : Outcome → Type 0
   Agree o = unless_repeated (was_noted l units t) o ≡ unless_repeated (repeated l before) o
 
   -- A record of a listed unit, whose period has a bit.
-  was_repeated : {j : ℕ} → repeatable l ≡ true → has_bit (kind l) (period l) ≡ true → found ≡ At j
+  was_repeated : {j : ℕ} → repeatable l ≡ true → has_bit (kind l) (period l) ≡ true → found ≡ Some j
       → was_noted l units t ≡ repeated l before
   unfolding was_noted marked_at repeated stands_among
   was_repeated {j} once has at =
-      also_t has (ap (λ (x : Found). marked_at x (bit_of (kind l) (period l)) t) at)
+      also_t has (ap (λ (x : Option ℕ). marked_at x (bit_of (kind l) (period l)) t) at)
       ∙ so_far.shows (kind l) (period l) j has (place_lt (unit_number l) units refl at)
       ∙ ap (λ (u : ℕ). stands (kind l) u (period l) before) (place-number (unit_number l) units refl at)
       ∙ sym (also_t once refl)
@@ -91,9 +89,9 @@ module _ (l units t : List ℕ) (before : List (List ℕ)) (so_far : Shows befor
       whole : Outcome
       whole = check formed 1 (listed (unit_number l) (lines_in units) 2 rest)
 
-      go : formed ≡ true → (r : Found) → r ≡ found → Agree whole
-      go right Nothing e = aside _ _ (check_t 1 right (listed_nothing (unit_number l) 2 rest units e refl refl))
-      go right (At j) e =
+      go : formed ≡ true → (r : Option ℕ) → r ≡ found → Agree whole
+      go right None e = aside _ _ (check_t 1 right (listed_nothing (unit_number l) 2 rest units e refl refl))
+      go right (Some j) e =
           if_test (has_bit (kind l) (period l))
           (λ has. ap (λ (b : Bool). unless_repeated b whole) (was_repeated once has (sym e)))
           (λ none. subst Agree (sym (check_t 1 right (listed_at (unit_number l) 2 rest units e refl refl).1))

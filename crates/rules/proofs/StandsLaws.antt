@@ -1,8 +1,7 @@
 -- A number that an index finds is that of one line, which a look-up gives: the numbers rise, and no line has that of
 -- an entry without one. So the other columns have what this line says. Assumes nothing.
-use Rattle.std.proofs.Common.{◌≡◌, ℕ, ◌+◌, ◌*◌, ◌/◌, ◌<◌, ◌≤◌, Bool, true, List, length, get_or, sym, refl, ap, ◌∙◌, le_trans, le_of_eq, le_of_lt, zero-add, lit≤}
+use Rattle.std.proofs.Common.{◌≡◌, ℕ, ◌+◌, ◌*◌, ◌/◌, ◌<◌, ◌≤◌, Bool, true, List, length, get_or, sym, refl, ap, ◌∙◌, le_trans, le_of_eq, le_of_lt, zero-add, lit≤, Some}
 use Rattle.rules.specs.declared.book.Head.{Head}
-use Rattle.rules.specs.declared.listing.Found.TheVariants.{At}
 use Rattle.rules.specs.declared.record.Outcome.{Outcome}
 use Rattle.rules.specs.Bytes.{byte, line, lines_in}
 use Rattle.rules.specs.Fields.{number, unit_number, fuel_number}
@@ -25,7 +24,7 @@ pub record Stands (x j : ℕ) (s : List ℕ) : Type 0 where
   pub has : number (line j s) ≡ x
 
 module _ {x j : ℕ} {s : List ℕ} (w : Stands x j s) where
-  pub place-stands : place x 0 (lines_in s) ≡ At j
+  pub place-stands : place x 0 (lines_in s) ≡ Some j
   place-stands = sym (place_mid s x j x w.rising w.there (sym w.has) refl)
 
   pub listed-stands : (k : ℕ) (rest : List ℕ → Outcome) → listed x (lines_in s) k rest ≡ rest (line j s)

@@ -1,13 +1,11 @@
 -- A table of lines shows which unit and period stands among them. Assumes nothing.
-use Rattle.std.proofs.Common.{◌≡◌, ℕ, ◌+◌, ◌-◌, ◌*◌, ◌/◌, ◌%◌, ◌<◌, ◌≤◌, true, false, leb, List, [], ◌∷◌, ◌++◌, length, get_or, drop, replicate, sym, refl, ap, ◌∙◌, subst, ap₂, append_assoc, append-nil, arith, length-take, ne_eqb, le-leb, leb-true}
+use Rattle.std.proofs.Common.{◌≡◌, ℕ, ◌+◌, ◌-◌, ◌*◌, ◌/◌, ◌%◌, ◌<◌, ◌≤◌, true, false, leb, List, [], ◌∷◌, ◌++◌, length, get_or, drop, replicate, sym, refl, ap, ◌∙◌, subst, ap₂, append_assoc, append-nil, arith, length-take, ne_eqb, le-leb, leb-true, Option, Some, None}
 use mathlib.Core.Bool.{false≢true}
 use lib.ListN.{length-replicate, get_or-replicate, get_or-eq_default}
 use Rattle.choice.specs.Tests.{◌also◌}
 use Rattle.choice.proofs.Splitting.{if_test, if_lt}
 use Rattle.choice.proofs.TestsLaws.{also_t, also_l, also_r, either_t, either_f, choose_t, choose_f, if_choose}
 use Rattle.rules.specs.declared.book.Head.{Head}
-use Rattle.rules.specs.declared.listing.Found.{Found}
-use Rattle.rules.specs.declared.listing.Found.TheVariants.{At, Nothing}
 use Rattle.rules.specs.Bytes.{line, lines, lines_in}
 use Rattle.rules.specs.Fields.{kind, unit_number, period}
 use Rattle.rules.specs.Book.{unit_lines}
@@ -47,9 +45,9 @@ length-noted l units t =
     if_choose (λ (x : List ℕ). length x ≡ length t) (has_bit (kind l) (period l))
     (λ has. go (place (unit_number l) 0 (lines_in units))) (λ none. refl)
   where
-    go : (r : Found) → length (with_mark_at r (bit_of (kind l) (period l)) t) ≡ length t
-    go (At j) = length-with_mark t j (bit_of (kind l) (period l))
-    go Nothing = refl
+    go : (r : Option ℕ) → length (with_mark_at r (bit_of (kind l) (period l)) t) ≡ length t
+    go (Some j) = length-with_mark t j (bit_of (kind l) (period l))
+    go None = refl
 
 module _ (units : List ℕ) (rising : Rising units) where
   module _ (l t : List ℕ) (ls : List (List ℕ)) (so_far : Shows ls units t) where
@@ -58,11 +56,11 @@ module _ (units : List ℕ) (rising : Rising units) where
       set_now : Is k (number_at j units) w l → marked (noted l units t) j (bit_of k w) ≡ true
       unfolding noted with_mark_at
       set_now is =
-          let at : At j ≡ place (unit_number l) 0 (lines_in units) =
+          let at : Some j ≡ place (unit_number l) 0 (lines_in units) =
           place_mid units (unit_number l) j (number_at j units) rising there refl (sym is.unit_is) in
           let has-l : has_bit (kind l) (period l) ≡ true = ap₂ has_bit is.kind_is is.period_is ∙ has in
           ap (λ (x : List ℕ). marked x j (bit_of k w))
-          (choose_t _ has-l (ap₂ (λ (r : Found) (c : ℕ). with_mark_at r c t) (sym at) (ap₂ bit_of is.kind_is is.period_is)))
+          (choose_t _ has-l (ap₂ (λ (r : Option ℕ) (c : ℕ). with_mark_at r c t) (sym at) (ap₂ bit_of is.kind_is is.period_is)))
           ∙ marked-same t j (bit_of k w) (row_there _ _ j (bit_of k w) so_far.rows there (bit_of-lt k w has))
 
       -- It isn't: the bit is as it was.
@@ -72,10 +70,10 @@ module _ (units : List ℕ) (rising : Rising units) where
           if_choose (λ (x : List ℕ). marked x j (bit_of k w) ≡ marked t j (bit_of k w)) (has_bit (kind l) (period l))
           (λ has-l. go has-l (place (unit_number l) 0 (lines_in units)) refl) (λ none. refl)
         where
-          go : has_bit (kind l) (period l) ≡ true → (r : Found) → r ≡ place (unit_number l) 0 (lines_in units)
+          go : has_bit (kind l) (period l) ≡ true → (r : Option ℕ) → r ≡ place (unit_number l) 0 (lines_in units)
               → marked (with_mark_at r (bit_of (kind l) (period l)) t) j (bit_of k w) ≡ marked t j (bit_of k w)
-          go has-l Nothing e = refl
-          go has-l (At p) e =
+          go has-l None e = refl
+          go has-l (Some p) e =
               let mine = bit_of (kind l) (period l) in
               marked_other t p mine j (bit_of k w) (bit_of-lt _ _ has-l) (bit_of-lt k w has) (λ same_row same_bit.
               let same = bit_of_inj k w (kind l) (period l) has has-l (sym same_bit) in

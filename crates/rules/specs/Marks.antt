@@ -7,10 +7,8 @@
 --     told l units t        t is a table, and they are
 --
 -- Laws: proofs/BitLaws.antt, proofs/NotedLaws.antt. Definitions only.
-use Rattle.std.specs.Prelude.{ℕ, ◌+◌, ◌*◌, ◌/◌, ◌%◌, ◌^◌, Bool, false, List, ◌==◌, slice_index}
+use Rattle.std.specs.Prelude.{ℕ, ◌+◌, ◌*◌, ◌/◌, ◌%◌, ◌^◌, Bool, false, List, ◌==◌, slice_index, Option, Some, None}
 use Rattle.choice.specs.Tests.{◌also◌}
-use Rattle.rules.specs.declared.listing.Found.{Found}
-use Rattle.rules.specs.declared.listing.Found.TheVariants.{At, Nothing}
 use Rattle.rules.specs.Bytes.{lines_in}
 use Rattle.rules.specs.Fields.{kind, unit_number, period}
 use Rattle.rules.specs.Place.{place}
@@ -22,9 +20,9 @@ bit_at v b = v / 2 ^ b % 2
 unfoldable pub marked : List ℕ → ℕ → ℕ → Bool
 marked t j c = bit_at (slice_index t (row_words * j + c / 64)) (c % 64) == 1
 
-unfoldable pub marked_at : Found → ℕ → List ℕ → Bool
-marked_at (At j) c t = marked t j c
-marked_at Nothing c t = false
+unfoldable pub marked_at : Option ℕ → ℕ → List ℕ → Bool
+marked_at (Some j) c t = marked t j c
+marked_at None c t = false
 
 unfoldable pub was_noted : List ℕ → List ℕ → List ℕ → Bool
 was_noted l units t =

@@ -18,11 +18,9 @@
 --     KnownAt s i t         if s is a book and has i records, t is known of these
 --
 -- Laws: proofs/TableLaws.antt. Definitions only.
-use Rattle.std.specs.Prelude.{◌≡◌, ℕ, ◌+◌, ◌-◌, ◌*◌, ◌/◌, ◌%◌, ◌^◌, ◌≤◌, Bool, true, List, [], ◌∷◌, length, replicate, ◌==◌, bit_or, nat_le, nat_lt, slice_index, slice_set}
+use Rattle.std.specs.Prelude.{◌≡◌, ℕ, ◌+◌, ◌-◌, ◌*◌, ◌/◌, ◌%◌, ◌^◌, ◌≤◌, Bool, true, List, [], ◌∷◌, length, replicate, ◌==◌, bit_or, nat_le, nat_lt, slice_index, slice_set, Option, Some, None}
 use Rattle.choice.specs.Tests.{◌also◌, choose}
 use Rattle.rules.specs.declared.book.Head.{Head}
-use Rattle.rules.specs.declared.listing.Found.{Found}
-use Rattle.rules.specs.declared.listing.Found.TheVariants.{At, Nothing}
 use Rattle.rules.specs.Bytes.{line, lines, lines_in}
 use Rattle.rules.specs.Fields.{kind, unit_number, period}
 use Rattle.rules.specs.Book.{unit_lines, Answer, refused, accepted, opened}
@@ -44,9 +42,9 @@ has_bit k w = nat_le 1 w also nat_le w (last_period k)
 unfoldable pub bit_of : ℕ → ℕ → ℕ
 bit_of k w = choose (k == 4) (8784 + w - 1) (w - 1)
 
-unfoldable pub with_mark_at : Found → ℕ → List ℕ → List ℕ
-with_mark_at (At j) c t = with_mark t j c
-with_mark_at Nothing c t = t
+unfoldable pub with_mark_at : Option ℕ → ℕ → List ℕ → List ℕ
+with_mark_at (Some j) c t = with_mark t j c
+with_mark_at None c t = t
 
 unfoldable pub noted : List ℕ → List ℕ → List ℕ → List ℕ
 noted l units t =

@@ -110,15 +110,9 @@ fn do_agree(kind: u8, class: u8) -> bool
     known & ((class == 0) | (kind as u32 + class as u32 == 4))
 }
 
-#[derive(Clone, Copy)]
-pub enum Found {
-    At(usize),
-    Nothing,
-}
-
 // The place of the line with this number. By the last ten bits of a number the hints say where its
 // line may stand. A hint is held against the line and never trusted, so that any bytes serve.
-pub(crate) fn find(s: &[u8], hints: &[u8], x: u64) -> Found
+pub(crate) fn find(s: &[u8], hints: &[u8], x: u64) -> Option<usize>
     requires rising { Rising s.now }
     ensures place { result ≡ place x 0 (lines_in s.now) }
 {
@@ -127,7 +121,7 @@ pub(crate) fn find(s: &[u8], hints: &[u8], x: u64) -> Found
         let hint = hints[last] as usize;
         if hint < s.len() / 32 {
             if listed::number(bytes::take_line(s, hint)) == x {
-                return Found::At(hint);
+                return Some(hint);
             }
         }
     }
@@ -136,13 +130,13 @@ pub(crate) fn find(s: &[u8], hints: &[u8], x: u64) -> Found
 
 // The place of the line with this number. Of 64 lines seven are looked at: each turn leaves half of those from `low` on,
 // and the line that is left is held against the number.
-fn halve(s: &[u8], x: u64) -> Found
+fn halve(s: &[u8], x: u64) -> Option<usize>
     requires rising { Rising s.now }
     ensures place { result ≡ place x 0 (lines_in s.now) }
 {
     let mut width = s.len() / 32;
     if width == 0 {
-        return Found::Nothing;
+        return None;
     }
     let above = 65536 + x % 65536;
     let mut low = 0;
@@ -155,7 +149,7 @@ fn halve(s: &[u8], x: u64) -> Found
         width = width - half;
     }
     if listed::number(bytes::take_line(s, low)) == x {
-        return Found::At(low);
+        return Some(low);
     }
-    Found::Nothing
+    None
 }

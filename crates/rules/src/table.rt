@@ -10,7 +10,6 @@ ghost use Rattle.rules.specs.Table as spec;
 ghost use Rattle.rules.specs.Marks as marks;
 
 use crate::book::Head;
-use crate::listing::Found;
 use crate::{bytes, field, listing};
 
 // How many words a row has: 138 × 64 bits for 8,784 hours and 12 months.
@@ -78,7 +77,7 @@ fn note_line(l: &[u8], units: &[u8], hints: &[u8], table: &mut [u64])
 
 // Notes the unit and period of the record l, the unit's place being found, and tells whether they were
 // noted before.
-pub(crate) fn note(l: &[u8], units: &[u8], unit: Found, table: &mut [u64]) -> bool
+pub(crate) fn note(l: &[u8], units: &[u8], unit: Option<usize>, table: &mut [u64]) -> bool
     requires whole { 32 ≤ length l.now }
     requires found { unit ≡ place (unit_number l.now) 0 (lines_in units.now) }
     requires table { spec.is_table units.now table.old ≡ true }
@@ -90,7 +89,7 @@ pub(crate) fn note(l: &[u8], units: &[u8], unit: Found, table: &mut [u64]) -> bo
     if !has_bit(kind, period) {
         return false;
     }
-    let Found::At(j) = unit else {
+    let Some(j) = unit else {
         return false;
     };
     let bit = find_bit(kind, period);
@@ -100,7 +99,7 @@ pub(crate) fn note(l: &[u8], units: &[u8], unit: Found, table: &mut [u64]) -> bo
 }
 
 // The same of any words: what is no table tells nothing, and is left alone.
-pub(crate) fn ask(l: &[u8], units: &[u8], unit: Found, table: &mut [u64]) -> bool
+pub(crate) fn ask(l: &[u8], units: &[u8], unit: Option<usize>, table: &mut [u64]) -> bool
     requires whole { 32 ≤ length l.now }
     requires few { length units.now / 32 ≤ 64 }
     requires found { unit ≡ place (unit_number l.now) 0 (lines_in units.now) }

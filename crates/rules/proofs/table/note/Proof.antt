@@ -38,12 +38,12 @@ bit_is c =
 
 there : (c : tie.After-find_bit-bit) →
     let passed = c in
-    row_words * c.in-At.j + c.find_bit-bit.result / 64 < length (start passed.before.before).args.table.now
+    row_words * c.in-Some.j + c.find_bit-bit.result / 64 < length (start passed.before.before).args.table.now
 there c =
     let passed = c in
     let begun = start passed.before.before in
     row_there _ _ _ _ (roomy _ _ begun.requires.1.1).rows
-    (place_lt _ _ begun.requires.1.0 c.in-At.is)
+    (place_lt _ _ begun.requires.1.0 c.in-Some.is)
     (subst (λ (b : ℕ). b < 8832) (sym (bit_is c)) (bit_of-lt _ _ (has passed.before.before)))
 
 kind-requires : tie.Need-kind-kind-requires
@@ -93,7 +93,7 @@ returns-3 c =
     let bit = asked_of in
     let passed = bit in
     let now-set = noted_at _ _ _ (has passed.before.before.before.before.before.before.before) (start passed.before.before.before.before.before.before.before).requires.1.0 refl
-    (bit_is bit.before.before.before.before.before) bit.in-At.is asked_of.is_marked-was.ensures set.mark.ensures in
+    (bit_is bit.before.before.before.before.before) bit.in-Some.is asked_of.is_marked-was.ensures set.mark.ensures in
     (now-set.was_noted_then, now-set.now_noted)
 
 pub note_spec : {M : Type 1} → statement M
