@@ -5,12 +5,12 @@ use mathlib.Core.Path.{◌≡◌, refl, sym, ap, ◌∙◌, subst}
 use native.Mathlib.Nat.{add-zero, mul-zero, zero-mul, lt_of_lt_of_le}
 use native.Mathlib.Omega.{arith}
 use lib.ListN.{length, get_or, replicate}
+use Rattle.std.specs.Prelude.{Ok, Err}
 use Rattle.choice.proofs.Splitting.{if_eq}
 use Rattle.mass.specs.Ledger.{records_foreseen}
 use Rattle.rules.specs.declared.book.Head.{Head}
 use Rattle.rules.specs.declared.entry.Entry.{Entry}
-use Rattle.rules.specs.declared.record.Outcome.{Outcome}
-use Rattle.rules.specs.declared.record.Outcome.TheVariants.{SetAside, Counted}
+use Rattle.rules.specs.Outcome.{Outcome}
 use Rattle.rules.specs.Bytes.{line}
 use Rattle.rules.specs.Book.{fuel_lines}
 use Rattle.rules.specs.Record.{outcome_at}
@@ -35,19 +35,19 @@ pub reason_lt : (h : Head) (c : Counts) → CountsFit h c → c.reason < 256
 reason_lt h c f = if_eq c.aside 0 (λ z. omega (arith, (f.none_first z).1)) (λ z. omega (arith, (f.some_first z).2))
 
 -- ---- a record that is judged by the book's lines
-pub took_aside : (h : Head) (k : List ℕ) (p : ℕ) (a w b : List ℕ) (r : ℕ) → outcome_at h k p ≡ SetAside r
-    → counts_at (p + 1) b ≡ counted (counts_at p a) (SetAside r) → Took h k p a w b w
+pub took_aside : (h : Head) (k : List ℕ) (p : ℕ) (a w b : List ℕ) (r : ℕ) → outcome_at h k p ≡ Err r
+    → counts_at (p + 1) b ≡ counted (counts_at p a) (Err r) → Took h k p a w b w
 took_aside h k p a w b r o c = record {
   counts = c ∙ ap (counted (counts_at p a)) (sym o);
   masses = λ i l. sym (add-zero _) ∙ ap (λ (x : Outcome). mass_at w i + mass (gives x) i) (sym o);
   kept = λ m g. kept_more w (omega arith) g;
 }
 
-pub counts-counted : (p : ℕ) (a : List ℕ) (e : Entry) → counts_at (p + 1) a ≡ counted (counts_at p a) (Counted e)
+pub counts-counted : (p : ℕ) (a : List ℕ) (e : Entry) → counts_at (p + 1) a ≡ counted (counts_at p a) (Ok e)
 unfolding counted
 counts-counted p a e = refl
 
-pub took_given : (h : Head) (k : List ℕ) (p : ℕ) (a w : List ℕ) (e : Entry) {m : ℕ} → outcome_at h k p ≡ Counted e → Bounded (Counted e)
+pub took_given : (h : Head) (k : List ℕ) (p : ℕ) (a w : List ℕ) (e : Entry) {m : ℕ} → outcome_at h k p ≡ Ok e → Bounded (Ok e)
     → Kept m w → Took h k p a w a (given w e)
 took_given h k p a w e o b g = record {
   counts = counts-counted p a e ∙ ap (counted (counts_at p a)) (sym o);

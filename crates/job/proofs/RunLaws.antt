@@ -6,7 +6,7 @@ use native.Mathlib.Numerals.{add-one}
 use native.Mathlib.Omega.{arith}
 use lib.ListN.{replicate}
 use Rattle.rules.specs.declared.book.Head.{Head}
-use Rattle.rules.specs.declared.record.Outcome.{Outcome}
+use Rattle.rules.specs.Outcome.{Outcome}
 use Rattle.rules.specs.Book.{opened, accepted}
 use Rattle.rules.specs.Record.{outcome_at}
 use Rattle.rules.proofs.BookLaws.{accepted_facts}

@@ -12,7 +12,7 @@ use Rattle.choice.proofs.Splitting.{if_test, if_lt, if_eq}
 use Rattle.choice.proofs.TestsLaws.{choose_t, choose_f}
 use Rattle.rules.specs.declared.entry.Destination.{Destination}
 use Rattle.rules.specs.declared.entry.Destination.TheVariants.{Fossil, Biomass, Nowhere}
-use Rattle.rules.specs.declared.record.Outcome.{Outcome}
+use Rattle.rules.specs.Outcome.{Outcome}
 use Rattle.rules.specs.declared.sorting.Share.{Share}
 use Rattle.rules.specs.Bytes.{line}
 use Rattle.rules.specs.Fields.{fuel_class, ch4_factor, n2o_factor}

@@ -7,6 +7,7 @@ use native.Mathlib.Nat.{add-zero, add-suc, not-suc-le-zero}
 use native.Mathlib.Omega.{arith}
 use lib.ListN.{length}
 use borrow.Author.Tests.{eq-eqb, ne_eqb}
+use Rattle.std.specs.Prelude.{Ok, Err}
 use Rattle.choice.proofs.Splitting.{if_lt, if_eq}
 use Rattle.choice.proofs.TestsLaws.{choose_t, choose_f}
 use Rattle.mass.specs.Ledger.{tonne, tonnes_each}
@@ -14,8 +15,7 @@ use Rattle.rules.specs.declared.book.Head.{Head}
 use Rattle.rules.specs.declared.entry.Destination.{Destination}
 use Rattle.rules.specs.declared.entry.Destination.TheVariants.{Fossil, Biomass, Nowhere}
 use Rattle.rules.specs.declared.entry.Entry.{Entry}
-use Rattle.rules.specs.declared.record.Outcome.{Outcome}
-use Rattle.rules.specs.declared.record.Outcome.TheVariants.{SetAside, Counted}
+use Rattle.rules.specs.Outcome.{Outcome}
 use Rattle.rules.specs.Book.{opened, accepted}
 use Rattle.rules.specs.Record.{last_reason, outcome_at}
 use Rattle.rules.specs.Bounds.{Bounded}
@@ -28,8 +28,8 @@ use Rattle.job.proofs.PlacesLaws.{to_other, to_le, length_to, get_d_plus, length
 -- ---- how far a state is
 pub counted_done : (c : Counts) (o : Outcome) → (counted c o).done ≡ c.done + 1
 unfolding counted
-counted_done c (SetAside k) = refl
-counted_done c (Counted e) = refl
+counted_done c (Err k) = refl
+counted_done c (Ok e) = refl
 
 pub after_done : (s : State) (o : Outcome) → (after s o).counts.done ≡ s.counts.done + 1
 unfolding after
@@ -62,14 +62,14 @@ run-first h k p (suc n) =
 
 -- ---- the first record set aside is told, and a later one changes nothing
 pub counted-first : (c : Counts) (r : ℕ) → c.aside ≡ 0
-    → ((counted c (SetAside r)).index ≡ c.done) × ((counted c (SetAside r)).reason ≡ r)
+    → ((counted c (Err r)).index ≡ c.done) × ((counted c (Err r)).reason ≡ r)
 unfolding counted
 counted-first c r e =
     let none = eq-eqb c.aside 0 e in
     (choose_t c.index none refl, choose_t c.reason none refl)
 
 pub counted_later : (c : Counts) (r : ℕ) → (c.aside ≡ 0 → ⊥)
-    → ((counted c (SetAside r)).index ≡ c.index) × ((counted c (SetAside r)).reason ≡ c.reason)
+    → ((counted c (Err r)).index ≡ c.index) × ((counted c (Err r)).reason ≡ c.reason)
 unfolding counted
 counted_later c r e =
     let some = ne_eqb c.aside 0 e in
@@ -77,7 +77,7 @@ counted_later c r e =
 
 -- ---- what an outcome gives to a ledger
 pub given_parts : (e : Entry) (i : ℕ) →
-    mass (gives (Counted e)) i
+    mass (gives (Ok e)) i
     ≡ mass (co2_to e.destination (1000 * e.co2.0)) i + mass (e.ch4.0 to ch4) i + mass (e.n2o.0 to n2o) i
 given_parts e i =
     let co2 = co2_to e.destination (1000 * e.co2.0) in
@@ -100,16 +100,16 @@ length-co2_to Biomass v = omega (arith, length_to v 1)
 length-co2_to Nowhere v = zero-le
 
 pub length-gives : (o : Outcome) → length (gives o) ≤ ledgers
-length-gives (SetAside k) = zero-le
-length-gives (Counted e) =
+length-gives (Err k) = zero-le
+length-gives (Ok e) =
     let co2 = length-co2_to e.destination (1000 * e.co2.0) in
     let with-ch4 = length_plus_le (co2_to e.destination (1000 * e.co2.0)) (e.ch4.0 to ch4) co2 (omega (arith, length_to e.ch4.0 ch4)) in
     length_plus_le _ (e.n2o.0 to n2o) with-ch4 (omega (arith, length_to e.n2o.0 n2o))
 
 -- At any place all of the three masses but one are 0.
 pub given-le : (o : Outcome) → Bounded o → (i : ℕ) → mass (gives o) i ≤ tonnes_each * tonne
-given-le (SetAside k) b i = zero-le
-given-le (Counted e) b i =
+given-le (Err k) b i = zero-le
+given-le (Ok e) b i =
     let parts = given_parts e i in
     let co2 = co2_to-le e.destination (1000 * e.co2.0) i in
     let by_ch4 = to_le e.ch4.0 ch4 i in
@@ -129,22 +129,22 @@ given-le (Counted e) b i =
 module _ {h : Head} {c : Counts} (f : CountsFit h c) where
   none_after : (o : Outcome) → (counted c o).aside ≡ 0 → ((counted c o).index ≡ 0) × ((counted c o).reason ≡ 0)
   unfolding counted
-  none_after (SetAside r) e = absurd (omega arith)
-  none_after (Counted e) z = f.none_first z
+  none_after (Err r) e = absurd (omega arith)
+  none_after (Ok e) z = f.none_first z
 
   some_after : (o : Outcome) → Bounded o → ((counted c o).aside ≡ 0 → ⊥)
       → ((counted c o).index < (counted c o).done) × (1 ≤ (counted c o).reason) × ((counted c o).reason ≤ last_reason)
   unfolding counted
-  some_after (SetAside r) b e =
+  some_after (Err r) b e =
       if_eq c.aside 0
       (λ z. let told = counted-first c r z in omega arith)
       (λ z. let told = counted_later c r z in let before = f.some_first z in omega arith)
-  some_after (Counted e) b z = let before = f.some_first z in omega arith
+  some_after (Ok e) b z = let before = f.some_first z in omega arith
 
   aside_after : (o : Outcome) → (counted c o).aside ≤ (counted c o).done
   unfolding counted
-  aside_after (SetAside r) = let l = f.aside_le in omega arith
-  aside_after (Counted e) = let l = f.aside_le in omega arith
+  aside_after (Err r) = let l = f.aside_le in omega arith
+  aside_after (Ok e) = let l = f.aside_le in omega arith
 
   counts_fit_counted : (o : Outcome) → c.done < h.n → Bounded o → CountsFit h (counted c o)
   counts_fit_counted o l b = record {
@@ -215,8 +215,8 @@ first-mass h k (suc n) i =
 
 counted_aside : (c : Counts) (o : Outcome) → (counted c o).aside ≡ c.aside + aside_of o
 unfolding counted
-counted_aside c (SetAside k) = refl
-counted_aside c (Counted e) = sym (add-zero c.aside)
+counted_aside c (Err k) = refl
+counted_aside c (Ok e) = sym (add-zero c.aside)
 
 pub first_aside : (h : Head) (k : List ℕ) (n : ℕ) → (first h k n).counts.aside ≡ sum_to (λ j. aside_of (outcome_at h k j)) n
 unfolding first fresh after sum_to
@@ -228,7 +228,7 @@ first_aside h k (suc n) =
 -- ---- of the first n records, the first that is set aside is record i, for the reason r
 pub record FirstAside (h : Head) (k : List ℕ) (n i r : ℕ) : Type 0 where
   pub index_lt : i < n
-  pub set_aside : outcome_at h k i ≡ SetAside r
+  pub set_aside : outcome_at h k i ≡ Err r
   pub none_before : (j : ℕ) → j < i → aside_of (outcome_at h k j) ≡ 0
 
 sum_to-zero : (f : ℕ → ℕ) (n j : ℕ) → sum_to f n ≡ 0 → j < n → f j ≡ 0
@@ -256,7 +256,7 @@ module _ (h : Head) (k : List ℕ) where
       → 0 < (counted (first h k n).counts o).aside
       → FirstAside h k (suc n) (counted (first h k n).counts o).index (counted (first h k n).counts o).reason
   unfolding counted
-  first_aside_after n (SetAside r) e past l =
+  first_aside_after n (Err r) e past l =
       let c = (first h k n).counts in
       if_eq c.aside 0
       (λ z.
@@ -270,7 +270,7 @@ module _ (h : Head) (k : List ℕ) where
       (λ z.
       let told = counted_later c r z in
       first_aside_as (sym told.0) (sym told.1) (first_aside_suc (past (omega arith))))
-  first_aside_after n (Counted x) e past l = first_aside_suc (past (omega arith))
+  first_aside_after n (Ok x) e past l = first_aside_suc (past (omega arith))
 
   pub first_index : (n : ℕ) → 0 < (first h k n).counts.aside
       → FirstAside h k n (first h k n).counts.index (first h k n).counts.reason

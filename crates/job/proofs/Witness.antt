@@ -13,7 +13,7 @@ use Rattle.mass.specs.declared.figures.Warming.{Warming}
 use Rattle.mass.specs.Figures.{kg_of, must_report}
 use Rattle.mass.proofs.Cases as cases
 use Rattle.rules.specs.declared.book.Head.{Head}
-use Rattle.rules.specs.declared.record.Outcome.{Outcome}
+use Rattle.rules.specs.Outcome.{Outcome}
 use Rattle.rules.specs.Book.{accepted, opened}
 use Rattle.rules.specs.Record.{outcome_at}
 use Rattle.rules.proofs.Cases.{counted}

@@ -8,13 +8,13 @@ use lib.Dec.{ltb, lit<}
 use lib.ListN.{length, get_or, set, replicate, length-set, length-replicate, get_or-replicate}
 use lib.Seq.{get_or-set_same, get_or-set_other}
 use borrow.Author.Tests.{ltb-true, ltb-false, lt-ltb, le-ltb}
+use Rattle.std.specs.Prelude.{Ok}
 use Rattle.choice.proofs.Splitting.{if_eq}
 use Rattle.choice.proofs.TestsLaws.{choose_t, choose_f, if_choose}
 use Rattle.mass.proofs.FuelLaws.{most_each}
 use Rattle.rules.specs.declared.entry.Destination.{Destination}
 use Rattle.rules.specs.declared.entry.Destination.TheVariants.{Fossil, Biomass, Nowhere}
 use Rattle.rules.specs.declared.entry.Entry.{Entry}
-use Rattle.rules.specs.declared.record.Outcome.TheVariants.{Counted}
 use Rattle.rules.specs.Bounds.{Bounded}
 use Rattle.rules.specs.Entry.{co2_alone}
 use Rattle.rules.proofs.Co2Laws.{co2_alone-fossil, co2_alone-ch4, co2_alone-n2o}
@@ -172,7 +172,7 @@ module _ {m : ℕ} (w : List ℕ) (kept : Kept m w) where
       mass_at-added w k x n kept h i p
       ∙ ap (λ (y : ℕ). mass_at w i + mass (y to k) i) (ap (λ (u : ℕ). u * x) (unit_at_trace k l) ∙ one)
 
-module _ {m : ℕ} (w : List ℕ) (kept : Kept m w) (e : Entry) (b : Bounded (Counted e)) where
+module _ {m : ℕ} (w : List ℕ) (kept : Kept m w) (e : Entry) (b : Bounded (Ok e)) where
   abbrev co2 : ℕ
   co2 = co2_kept e.destination e.co2.0
 
@@ -207,7 +207,7 @@ module _ {m : ℕ} (w : List ℕ) (kept : Kept m w) (e : Entry) (b : Bounded (Co
     pub room_n2o : Room twice n2o e.n2o.0
     room_n2o = room twice n2o e.n2o.0 (lit< tt) kept_twice (omega arith) (mass-lt b.3)
 
-  pub mass_at-given : (i : ℕ) → i < ledgers → mass_at (given w e) i ≡ mass_at w i + mass (gives (Counted e)) i
+  pub mass_at-given : (i : ℕ) → i < ledgers → mass_at (given w e) i ≡ mass_at w i + mass (gives (Ok e)) i
   mass_at-given i p =
       let by_co2 = mass_at_co2 w kept (co2_place e.destination) co2 (co2_place-lt e.destination) co2_lt i p in
       let by_ch4 = mass_at_trace once kept_once ch4 e.ch4.0 (omega arith) (lit< tt) (omega (arith, b.2)) i p in
@@ -216,7 +216,7 @@ module _ {m : ℕ} (w : List ℕ) (kept : Kept m w) (e : Entry) (b : Bounded (Co
 
   -- Its CO2 alone, where it gives nothing else.
   pub mass_at_alone : e ≡ co2_alone e.co2 → (i : ℕ) → i < ledgers
-      → mass_at (added w fossil e.co2.0) i ≡ mass_at w i + mass (gives (Counted e)) i
+      → mass_at (added w fossil e.co2.0) i ≡ mass_at w i + mass (gives (Ok e)) i
   mass_at_alone alone i p =
       let to-fossil = ap (λ (x : Entry). x.destination) alone ∙ co2_alone-fossil e.co2 in
       let by_co2 = ap (λ (d : Destination). mass (co2_to d (1000 * e.co2.0)) i) to-fossil in

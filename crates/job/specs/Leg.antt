@@ -23,9 +23,8 @@
 --     weighed_by x w, AsideBy p x a b    the words once x is taken, and what is then said of records set aside
 --
 -- Laws: proofs/LegLaws.antt, proofs/WentLaws.antt. Definitions only.
-use Rattle.std.specs.Prelude.{ℕ, ◌+◌, ◌-◌, ◌*◌, ◌<◌, ◌≤◌, Bool, true, false, List, ◌≡◌, slice_index}
+use Rattle.std.specs.Prelude.{ℕ, ◌+◌, ◌-◌, ◌*◌, ◌<◌, ◌≤◌, Bool, true, false, List, ◌≡◌, slice_index, Err}
 use Rattle.rules.specs.declared.book.Head.{Head}
-use Rattle.rules.specs.declared.record.Outcome.TheVariants.{SetAside}
 use Rattle.rules.specs.declared.sorting.Sorted.{Sorted}
 use Rattle.rules.specs.declared.sorting.Sorted.TheVariants as sorted
 use Rattle.rules.specs.declared.weighing.Weighed.{Weighed}
@@ -125,5 +124,5 @@ weighed_by (weighed.Fossil x) w = added w fossil x.0
 
 abbrev pub AsideBy : ℕ → Weighed → List ℕ → List ℕ → Type 0
 AsideBy p weighed.Unsure a b = b ≡ a
-AsideBy p weighed.Repeated a b = counts_at (p + 1) b ≡ counted (counts_at p a) (SetAside 8)
+AsideBy p weighed.Repeated a b = counts_at (p + 1) b ≡ counted (counts_at p a) (Err 8)
 AsideBy p (weighed.Fossil x) a b = b ≡ a

@@ -16,13 +16,12 @@
 --     sum_to f n              f 0 + .. + f (n - 1)
 --
 -- Laws: proofs/StateLaws.antt. Definitions only.
-use Rattle.std.specs.Prelude.{ℕ, zero, suc, ◌+◌, ◌*◌, List, [], ◌∷◌, ◌++◌, nat_eq, replicate, slice_index}
+use Rattle.std.specs.Prelude.{ℕ, zero, suc, ◌+◌, ◌*◌, List, [], ◌∷◌, ◌++◌, nat_eq, replicate, slice_index, Ok, Err}
 use Rattle.choice.specs.Tests.{choose}
 use Rattle.rules.specs.declared.book.Head.{Head}
 use Rattle.rules.specs.declared.entry.Destination.{Destination}
 use Rattle.rules.specs.declared.entry.Destination.TheVariants.{Fossil, Biomass, Nowhere}
-use Rattle.rules.specs.declared.record.Outcome.{Outcome}
-use Rattle.rules.specs.declared.record.Outcome.TheVariants.{SetAside, Counted}
+use Rattle.rules.specs.Outcome.{Outcome}
 use Rattle.rules.specs.Record.{outcome_at}
 use Rattle.job.specs.declared.counts.Counts.{Counts}
 
@@ -67,12 +66,12 @@ co2_to Biomass v = v to biomass
 co2_to Nowhere v = []
 
 abbrev pub gives : Outcome → List ℕ
-gives (SetAside k) = []
-gives (Counted e) = co2_to e.destination (1000 * e.co2.0) plus e.ch4.0 to ch4 plus e.n2o.0 to n2o
+gives (Err k) = []
+gives (Ok e) = co2_to e.destination (1000 * e.co2.0) plus e.ch4.0 to ch4 plus e.n2o.0 to n2o
 
 abbrev pub aside_of : Outcome → ℕ
-aside_of (SetAside k) = 1
-aside_of (Counted e) = 0
+aside_of (Err k) = 1
+aside_of (Ok e) = 0
 
 -- ---- states
 pub record State : Type 0 where
@@ -84,13 +83,13 @@ fresh = record { counts = record { done = 0; aside = 0; index = 0; reason = 0 };
 
 -- The first record set aside is told by its index and its reason; a later one changes neither.
 unfoldable pub counted : Counts → Outcome → Counts
-counted c (SetAside k) = record {
+counted c (Err k) = record {
   done = c.done + 1;
   aside = c.aside + 1;
   index = choose (nat_eq c.aside 0) c.done c.index;
   reason = choose (nat_eq c.aside 0) k c.reason;
 }
-counted c (Counted e) = record { done = c.done + 1; aside = c.aside; index = c.index; reason = c.reason }
+counted c (Ok e) = record { done = c.done + 1; aside = c.aside; index = c.index; reason = c.reason }
 
 unfoldable pub after : State → Outcome → State
 after s o = record { counts = counted s.counts o; masses = s.masses plus gives o }

@@ -1,9 +1,8 @@
 // What the records of a wake give to the ledgers, in words that it lends: for each place a number of two digits, in
 // µg of CO2 or in ng of another gas, first the low digits of all places and then the high ones. To add to a ledger
 // takes divisions, and the masses of many records fit 64 bits: so they are summed, and a ledger gets them once.
-ghost use Rattle.std.specs.Prelude.{◌≡◌, ◌+◌, ◌*◌, ◌/◌, ◌<◌, ◌≤◌, length};
+ghost use Rattle.std.specs.Prelude.{◌≡◌, ◌+◌, ◌*◌, ◌/◌, ◌<◌, ◌≤◌, length, Ok};
 ghost use Rattle.mass.specs.Ledger.{tonne, most_tonnes, total, Canonical, Sound, ledger_of};
-ghost use Rattle.rules.specs.declared.record.Outcome.TheVariants.{Counted};
 ghost use Rattle.rules.specs.Bounds.{Bounded};
 ghost use Rattle.job.specs.State as state;
 ghost use Rattle.job.specs.Words.{words, carries, full, half, low_at, high_at, mass_at, added, given, co2_place, co2_kept, Kept};
@@ -42,7 +41,7 @@ const HALF: u64 = 0x8000_0000_0000_0000;
 // All that an entry gives.
 pub(crate) fn give(w: &mut [u64], e: Entry)
     requires kept { Kept carries w.old }
-    requires bounded { Bounded (Counted e) }
+    requires bounded { Bounded (Ok e) }
     ensures given { w.new ≡ given w.old e }
 {
     let destination = e.destination;

@@ -1,12 +1,11 @@
 // A leg of the way through the records of a book: most are taken at one go, by an index of the book's lines, and the few
 // others are judged by these. What fuel gives is kept in shares, which go to the ledgers' words where the leg ends.
-ghost use Rattle.std.specs.Prelude.{◌≡◌, ℕ, ◌+◌, ◌-◌, ◌*◌, ◌<◌, ◌≤◌, slice_index};
+ghost use Rattle.std.specs.Prelude.{◌≡◌, ℕ, ◌+◌, ◌-◌, ◌*◌, ◌<◌, ◌≤◌, slice_index, Err};
 ghost use Rattle.rules.specs.Bytes.{line, lines};
 ghost use Rattle.rules.specs.Book.{unit_lines, fuel_lines, opened, accepted};
 ghost use Rattle.rules.specs.Index.{UnitsNoted, FuelsNoted, Small};
 ghost use Rattle.rules.specs.Sorting.{heat_limits};
 ghost use Rattle.rules.specs.Table.{noting, Known};
-ghost use Rattle.rules.specs.declared.record.Outcome.TheVariants as outcome;
 ghost use Rattle.job.specs.State.{counted};
 ghost use Rattle.job.specs.State as state;
 ghost use Rattle.job.specs.Bounds.{CountsFit};
@@ -236,15 +235,15 @@ pub(crate) fn take_slowly(
 {
     let judged = record::judge_next(book, h, place as usize, by_unit, by_fuel, table);
     match judged {
-        Outcome::SetAside(reason) => set_aside(aside, place, reason),
-        Outcome::Counted(e) => ledgers::give(w, e),
+        Err(reason) => set_aside(aside, place, reason),
+        Ok(e) => ledgers::give(w, e),
     }
 }
 
 // One record more is set aside, that at this place. Only the first such is told by its index and its reason.
 pub(crate) fn set_aside(aside: &mut [u32; 3], place: u32, reason: u8)
     requires room { slice_index aside.old 0 < 4294967295 }
-    ensures counted { counts_at (place + 1) aside.new ≡ counted (counts_at place aside.old) (outcome.SetAside reason) }
+    ensures counted { counts_at (place + 1) aside.new ≡ counted (counts_at place aside.old) (Err reason) }
 {
     if aside[0] == 0 {
         *aside = [1, place, reason as u32];

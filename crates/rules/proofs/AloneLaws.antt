@@ -1,6 +1,6 @@
 -- By a record's own line, every reason but the last is decided: the tests are made in the order of their
 -- reasons, and a test that is passed shows that its reason doesn't apply. Assumes nothing.
-use Rattle.std.proofs.Common.{◌≡◌, ℕ, ◌+◌, ◌<◌, ◌≤◌, Bool, true, false, T, eqb, ltb, List, sym, refl, ap, ◌∙◌, subst, ap₂, arith, lit≤, ltb-false, ltb-true, eqb-true}
+use Rattle.std.proofs.Common.{◌≡◌, ℕ, ◌+◌, ◌<◌, ◌≤◌, Bool, true, false, T, eqb, ltb, List, sym, refl, ap, ◌∙◌, subst, ap₂, arith, lit≤, ltb-false, ltb-true, eqb-true, Ok, Err}
 use lib.Ieee.{Float}
 use borrow.Author.Tests.{eqb-false}
 use Rattle.choice.proofs.TestsLaws.{if_choose}
@@ -10,8 +10,7 @@ use Rattle.mass.specs.declared.hour.Hour.{Hour}
 use Rattle.mass.specs.declared.hour.Hour.TheVariants.{Usable, Unusable}
 use Rattle.mass.specs.Hour.{hour_of}
 use Rattle.rules.specs.declared.entry.Entry.{Entry}
-use Rattle.rules.specs.declared.record.Outcome.{Outcome}
-use Rattle.rules.specs.declared.record.Outcome.TheVariants.{SetAside, Counted}
+use Rattle.rules.specs.Outcome.{Outcome}
 use Rattle.rules.specs.Fields.{monitored, kind, unit_number, fuel_number, fuelled, percent_bits, flow_bits}
 use Rattle.rules.specs.Method.{method_of}
 use Rattle.rules.specs.Entry.{heat_in_use, fuel_entry, hour_entry, anodes_entry}
@@ -70,8 +69,8 @@ module _ (before : List (List ℕ)) (l : List ℕ) (units fuels : List (List ℕ
     pub by_anodes : Anodes l → e ≡ anodes_entry l
 
   abbrev pub Decided : ℕ → Outcome → Type 0
-  Decided m (SetAside k) = Applies before l units fuels k × Clear k
-  Decided m (Counted e) = Due m e
+  Decided m (Err k) = Applies before l units fuels k × Clear k
+  Decided m (Ok e) = Due m e
 
   -- By the record's own line, every reason but the last.
   abbrev pub Alone : Outcome → Type 0

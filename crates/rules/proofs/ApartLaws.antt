@@ -5,7 +5,7 @@ use Rattle.choice.specs.Tests.{◌also◌, choose}
 use Rattle.choice.proofs.TestsLaws.{also_t, also_l, also_r, choose_f}
 use Rattle.choice.proofs.Splitting.{if_lt}
 use Rattle.rules.specs.declared.book.Head.{Head}
-use Rattle.rules.specs.declared.record.Outcome.{Outcome}
+use Rattle.rules.specs.Outcome.{Outcome}
 use Rattle.rules.specs.Bytes.{byte, word, part, lines, lines_in}
 use Rattle.rules.specs.Fields.{unit_start, fuel_start, year, warming_set_at, warming_set}
 use Rattle.rules.specs.Book.{longest_book, length_ok, starts_ok, trailer_ok, unit_ok, fuel_ok, lines_sound, trailer, head_of, unit_lines, fuel_lines, Answer, accepted, opened, SetApart}

@@ -1,6 +1,6 @@
 -- The sums worked by hand, P1 to P12, as one table under one claim: fuel 1 is a gas of 38,000 kJ, 50,000
 -- mg CO2, 900 µg CH4 and 90 µg N2O a MJ, and 1,000 m3 of it are burned in unit 1. Assumes nothing.
-use Rattle.std.proofs.Common.{◌≡◌, ℕ, ◌*◌, true, false, List, [], ◌∷◌, ◌++◌, replicate, refl, ap, ◌∙◌}
+use Rattle.std.proofs.Common.{◌≡◌, ℕ, ◌*◌, true, false, List, [], ◌∷◌, ◌++◌, replicate, refl, ap, ◌∙◌, Ok, Err}
 use Rattle.choice.proofs.TestsLaws.{choose-true, worked-out}
 use Rattle.mass.specs.declared.Ug.{Ug}
 use Rattle.mass.specs.declared.Ng.{Ng}
@@ -12,8 +12,7 @@ use Rattle.mass.specs.Ledger.{tonne}
 use Rattle.mass.specs.Figures.{decisive, must_report}
 use Rattle.mass.proofs.Cases as mass
 use Rattle.rules.specs.declared.entry.Destination.TheVariants.{Fossil}
-use Rattle.rules.specs.declared.record.Outcome.{Outcome}
-use Rattle.rules.specs.declared.record.Outcome.TheVariants.{SetAside, Counted}
+use Rattle.rules.specs.Outcome.{Outcome}
 use Rattle.rules.specs.Bytes.{word, bytes_of}
 use Rattle.rules.specs.Fields.{moisture}
 use Rattle.rules.specs.Method.{method_of}
@@ -51,7 +50,7 @@ measured percent flow =
 
 -- an entry to the fossil ledger: CO2 in µg, CH4 and N2O in ng
 abbrev pub counted : ℕ → ℕ → ℕ → ℕ → Outcome
-counted method co2 ch4 n2o = Counted (record {
+counted method co2 ch4 n2o = Ok (record {
   method = method;
   destination = Fossil;
   co2 = record { 0 = co2 };
@@ -65,9 +64,9 @@ pub record WorkedSums : Type 0 where
   pub p1 : burned 2500 1 0 0 0 ≡ counted 1 1900000000000 34200000000 3420000000
   pub p2 : burned 2500 1 1 39000 0 ≡ counted 2 1950000000000 35100000000 3510000000
   pub p3 : burned 2500 1 2 0 520000 ≡ counted 3 1905280000000 34200000000 3420000000
-  pub p4 : burned 2501 1 0 0 0 ≡ SetAside 6
+  pub p4 : burned 2501 1 0 0 0 ≡ Err 6
   pub p5 : burned 2501 1 1 39000 0 ≡ counted 2 1950000000000 35100000000 3510000000
-  pub p6 : burned 2501 0 1 39000 0 ≡ SetAside 6
+  pub p6 : burned 2501 0 1 39000 0 ≡ Err 6
   -- 12.5 and 2,000,000
   pub p7 : measured 0x4148_0000 0x49F4_2400 ≡ counted 0 12950000000000 0 0
   -- 0.25 and 0.25
@@ -84,8 +83,8 @@ pub record WorkedSums : Type 0 where
 
 -- An entry by its masses, and an hour by its readings.
 fuelled : {m co2 ch4 n2o : ℕ} {x : Ug} {y z : Ng} → x ≡ record { 0 = co2 } → y ≡ record { 0 = ch4 } → z ≡ record { 0 = n2o }
-    → Counted (record { method = m; destination = Fossil; co2 = x; ch4 = y; n2o = z }) ≡ counted m co2 ch4 n2o
-fuelled {m} p q r = λ i. Counted (record { method = m; destination = Fossil; co2 = p i; ch4 = q i; n2o = r i })
+    → Ok (record { method = m; destination = Fossil; co2 = x; ch4 = y; n2o = z }) ≡ counted m co2 ch4 n2o
+fuelled {m} p q r = λ i. Ok (record { method = m; destination = Fossil; co2 = p i; ch4 = q i; n2o = r i })
 
 metered : (l : List ℕ) {x : Hour} {r : Readings} {co2 : ℕ} → x ≡ Usable r
     → hour_mass (record { 0 = moisture l }) r ≡ record { 0 = co2 } → hour_read l (unit 1 2500) x ≡ counted 0 co2 0 0

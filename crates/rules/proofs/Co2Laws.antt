@@ -1,13 +1,12 @@
 -- What a record of no fuel gives is CO2 alone. Assumes nothing.
-use Rattle.std.proofs.Common.{◌≡◌, ℕ, Bool, false, not, eqb, List, [], ◌∷◌, sym, refl, subst}
+use Rattle.std.proofs.Common.{◌≡◌, ℕ, Bool, false, not, eqb, List, [], ◌∷◌, sym, refl, subst, Ok, Err}
 use Rattle.choice.proofs.TestsLaws.{if_choose}
 use Rattle.mass.specs.declared.Ug.{Ug}
 use Rattle.mass.specs.declared.hour.Hour.{Hour}
 use Rattle.mass.specs.declared.hour.Hour.TheVariants.{Usable, Unusable}
 use Rattle.rules.specs.declared.book.Head.{Head}
 use Rattle.rules.specs.declared.entry.Destination.TheVariants.{Fossil}
-use Rattle.rules.specs.declared.record.Outcome.{Outcome}
-use Rattle.rules.specs.declared.record.Outcome.TheVariants.{SetAside, Counted}
+use Rattle.rules.specs.Outcome.{Outcome}
 use Rattle.rules.specs.Bytes.{line}
 use Rattle.rules.specs.Fields.{number, monitored, kind, unit_number, fuelled}
 use Rattle.rules.specs.Entry.{co2_alone, hour_entry, anodes_entry}
@@ -72,8 +71,8 @@ module _ (l : List ℕ) (units : List (List ℕ)) where
 
 co2_unless_repeated : (b : Bool) (o : Outcome) → Co2Alone o → Co2Alone (unless_repeated b o)
 unfolding unless_repeated
-co2_unless_repeated b (SetAside k) p = tt
-co2_unless_repeated b (Counted e) p = co2_check (not b) 8 (Counted e) p
+co2_unless_repeated b (Err k) p = tt
+co2_unless_repeated b (Ok e) p = co2_check (not b) 8 (Ok e) p
 
 pub co2_outcome_at : (h : Head) (s : List ℕ) (i : ℕ) → fuelled (line i s) ≡ false → Co2Alone (outcome_at h s i)
 unfolding outcome_at

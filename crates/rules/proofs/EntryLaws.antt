@@ -1,6 +1,6 @@
 -- What the tests of a record and of its fuel line say of the numbers that masses are made of, and how
 -- large an entry's numbers get. Assumes nothing.
-use Rattle.std.proofs.Common.{◌≡◌, ℕ, ◌<◌, ◌≤◌, Bool, true, false, eqb, leb, List, sym, refl, ◌∙◌, zero-le, le_trans, le_of_eq, arith, lit≤, ltb-true, ne_eqb, le-leb, leb-true}
+use Rattle.std.proofs.Common.{◌≡◌, ℕ, ◌<◌, ◌≤◌, Bool, true, false, eqb, leb, List, sym, refl, ◌∙◌, zero-le, le_trans, le_of_eq, arith, lit≤, ltb-true, ne_eqb, le-leb, leb-true, Ok}
 use mathlib.Core.Bool.{false≢true}
 use Rattle.choice.specs.Tests.{◌also◌}
 use Rattle.choice.proofs.Splitting.{if_test}
@@ -16,7 +16,6 @@ use Rattle.mass.proofs.FuelLaws.{most_each, co2_of_heat-le, co2_of_carbon-le, tr
 use Rattle.mass.proofs.GasLaws.{co2_of_gas-le}
 use Rattle.mass.proofs.HourLaws.{hour_mass-le}
 use Rattle.mass.proofs.AnodeLaws.{co2_of_anodes-le}
-use Rattle.rules.specs.declared.record.Outcome.TheVariants.{Counted}
 use Rattle.rules.specs.Fields.{fuel_kind, default_heat, co2_factor, ch4_factor, n2o_factor, molar_volume, analysed, heat_measured, heat_low, amount, heat, carbon, molecular_weight, moisture, month, metal, anode_use, sulphur, ash, other_impurities}
 use Rattle.rules.specs.Book.{molar_volume_ok, fuel_head_ok, fuel_ok}
 use Rattle.rules.specs.Method.{method_of}
@@ -193,7 +192,7 @@ co2_by-le m l f r =
     co2_of_heat-le _ _ _ r.by_co2))
 
 pub bounded_fuel_entry : (l u f : List ℕ) → fuel_ranges l f ≡ true → fuel_ok f ≡ true
-    → Bounded (Counted (fuel_entry l u f))
+    → Bounded (Ok (fuel_entry l u f))
 unfolding fuel_entry entry_by
 bounded_fuel_entry l u f h k =
     let r = reach l f h k in (
@@ -203,14 +202,14 @@ bounded_fuel_entry l u f h k =
       trace_of_heat-le _ _ _ r.by_n2o,
     )
 
-bounded_co2_alone : (x : Ug) → x.0 ≤ most_each → Bounded (Counted (co2_alone x))
+bounded_co2_alone : (x : Ug) → x.0 ≤ most_each → Bounded (Ok (co2_alone x))
 unfolding co2_alone
 bounded_co2_alone x h = (zero-le, h, zero-le, zero-le)
 
-pub bounded_hour_entry : (l : List ℕ) (r : Readings) → InRange r → Bounded (Counted (hour_entry l r))
+pub bounded_hour_entry : (l : List ℕ) (r : Readings) → InRange r → Bounded (Ok (hour_entry l r))
 unfolding hour_entry
 bounded_hour_entry l r h = bounded_co2_alone _ (le_trans (hour_mass-le _ r h) (lit≤ tt))
 
-pub bounded_anodes_entry : (l : List ℕ) → anodes_ranges l ≡ true → Bounded (Counted (anodes_entry l))
+pub bounded_anodes_entry : (l : List ℕ) → anodes_ranges l ≡ true → Bounded (Ok (anodes_entry l))
 unfolding anodes_entry
 bounded_anodes_entry l h = bounded_co2_alone _ (co2_of_anodes-le _ _ _ (anodes_reach l h))

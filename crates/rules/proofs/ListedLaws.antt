@@ -1,12 +1,11 @@
 -- A look-up gives a listed line where there is one, and a number is listed once at most: the numbers of
 -- lines that break no rule rise. Assumes nothing.
-use Rattle.std.proofs.Common.{◌≡◌, ℕ, ◌<◌, Bool, true, eqb, List, [], ◌∷◌, sym, refl, ap, ◌∙◌, subst, ⊎_elim, arith, ltb-true, eqb-true}
+use Rattle.std.proofs.Common.{◌≡◌, ℕ, ◌<◌, Bool, true, eqb, List, [], ◌∷◌, sym, refl, ap, ◌∙◌, subst, ⊎_elim, arith, ltb-true, eqb-true, Err}
 use mathlib.Core.List.Memᴰ
 use mathlib.Core.List.{Memᴰ}
 use borrow.Author.Tests.{eqb-false}
 use Rattle.choice.proofs.TestsLaws.{also_l, also_r, if_choose}
-use Rattle.rules.specs.declared.record.Outcome.{Outcome}
-use Rattle.rules.specs.declared.record.Outcome.TheVariants.{SetAside}
+use Rattle.rules.specs.Outcome.{Outcome}
 use Rattle.rules.specs.Fields.{number}
 use Rattle.rules.specs.Book.{lines_ok}
 use Rattle.rules.specs.Record.{listed}
@@ -26,7 +25,7 @@ module _ (x : ℕ) (y : List ℕ) (ls : List (List ℕ)) where
 
 -- What holds if there is none, and if any is found, holds of the outcome.
 pub if_listed : (G : Outcome → Type 0) (x k : ℕ) (ls : List (List ℕ)) (rest : List ℕ → Outcome)
-    → (Lacks x ls → G (SetAside k)) → ((a : List ℕ) → Listed x ls a → G (rest a)) → G (listed x ls k rest)
+    → (Lacks x ls → G (Err k)) → ((a : List ℕ) → Listed x ls a → G (rest a)) → G (listed x ls k rest)
 unfolding listed
 if_listed G x k [] rest none found = none (λ a i. Memᴰ.not-nil i.among)
 if_listed G x k (y ∷ ls) rest none found =

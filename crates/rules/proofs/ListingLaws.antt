@@ -1,13 +1,12 @@
 -- The rules of a line by its named bytes and its blank, where the first line with a number stands, and
 -- what `listed` makes of it. Assumes nothing.
-use Rattle.std.proofs.Common.{◌≡◌, ℕ, zero, suc, ◌+◌, ◌-◌, ◌*◌, ◌/◌, ◌<◌, ◌≤◌, true, false, List, length, take, drop, sym, refl, ap, ◌∙◌, not-suc-le-zero, mul-zero, mul-one, arith, eq-eqb, ne_eqb, Option, Some, None}
+use Rattle.std.proofs.Common.{◌≡◌, ℕ, zero, suc, ◌+◌, ◌-◌, ◌*◌, ◌/◌, ◌<◌, ◌≤◌, true, false, List, length, take, drop, sym, refl, ap, ◌∙◌, not-suc-le-zero, mul-zero, mul-one, arith, eq-eqb, ne_eqb, Option, Some, None, Err}
 use Rattle.choice.specs.Tests.{◌also◌}
 use Rattle.choice.proofs.Splitting.{if_lt, if_eq}
 use Rattle.choice.proofs.TestsLaws.{also_t, also_f, choose_t, choose_f}
 use Rattle.rules.specs.declared.listing.Sort.{Sort}
 use Rattle.rules.specs.declared.listing.Sort.TheVariants.{Unit, Fuel}
-use Rattle.rules.specs.declared.record.Outcome.{Outcome}
-use Rattle.rules.specs.declared.record.Outcome.TheVariants.{SetAside}
+use Rattle.rules.specs.Outcome.{Outcome}
 use Rattle.rules.specs.Bytes.{zeros, line, lines, lines_in}
 use Rattle.rules.specs.Fields.{number}
 use Rattle.rules.specs.Book.{unit_ok, fuel_ok}
@@ -39,7 +38,7 @@ blank_from-le Fuel = omega arith
 record Absent (x n j : ℕ) (s : List ℕ) : Type 0 where
   lacks : (i : ℕ) → i < n → number_at i s ≡ x → ⊥
   place_is : place x j (lines n s) ≡ None
-  listed_is : (k : ℕ) (rest : List ℕ → Outcome) → listed x (lines n s) k rest ≡ SetAside k
+  listed_is : (k : ℕ) (rest : List ℕ → Outcome) → listed x (lines n s) k rest ≡ Err k
 
 -- Line i is the first that has it.
 record First (x n j i : ℕ) (s : List ℕ) : Type 0 where
@@ -201,7 +200,7 @@ module _ (x k : ℕ) (rest : List ℕ → Outcome) where
       (omega (arith, f.within), f.listed_is k rest ∙ ap (λ (i : ℕ). rest (line i s)) same))
 
   pub listed_nothing : {r : Option ℕ} {y : ℕ} (s : List ℕ) → r ≡ place y 0 (lines_in s) → y ≡ x → r ≡ None
-      → listed x (lines_in s) k rest ≡ SetAside k
+      → listed x (lines_in s) k rest ≡ Err k
   unfolding lines_in
   listed_nothing {r} {y} s e d q =
       let found : place x 0 (lines_in s) ≡ None = cc in
@@ -212,7 +211,7 @@ module _ (x k : ℕ) (rest : List ℕ → Outcome) where
 -- The line that was found is there.
 pub place_lt : {r : Option ℕ} {p : ℕ} (x : ℕ) (s : List ℕ) → r ≡ place x 0 (lines_in s) → r ≡ Some p
     → p < length s / 32
-place_lt x s e q = (listed_at x 0 (λ u. SetAside 0) s e refl q).0
+place_lt x s e q = (listed_at x 0 (λ u. Err 0) s e refl q).0
 
 -- The line that was found has the number.
 pub place-number : {r : Option ℕ} {p : ℕ} (x : ℕ) (s : List ℕ) → r ≡ place x 0 (lines_in s) → r ≡ Some p

@@ -1,12 +1,11 @@
 -- The table tells a repeat wherever the record would count: its period is in range and its unit listed, and
 -- of those a table shows whether they stand. Assumes nothing.
-use Rattle.std.proofs.Common.{◌≡◌, ℕ, Bool, true, false, not, eqb, List, sym, refl, ap, ◌∙◌, subst, ap₂, arith, eq-eqb, ne_eqb, eqb-true, leb-true, Option, Some, None}
+use Rattle.std.proofs.Common.{◌≡◌, ℕ, Bool, true, false, not, eqb, List, sym, refl, ap, ◌∙◌, subst, ap₂, arith, eq-eqb, ne_eqb, eqb-true, leb-true, Option, Some, None, Ok, Err}
 use mathlib.Core.Bool.{false≢true}
 use Rattle.choice.proofs.Splitting.{if_test}
 use Rattle.choice.proofs.TestsLaws.{also_t, also_f, also_l, also_r, either_t, either_f, choose_t, choose_f, if_choose}
 use Rattle.rules.specs.declared.entry.Entry.{Entry}
-use Rattle.rules.specs.declared.record.Outcome.{Outcome}
-use Rattle.rules.specs.declared.record.Outcome.TheVariants.{SetAside, Counted}
+use Rattle.rules.specs.Outcome.{Outcome}
 use Rattle.rules.specs.Bytes.{line, lines_in}
 use Rattle.rules.specs.Fields.{kind, unit_number, period, fuelled}
 use Rattle.rules.specs.Repeat.{stands, stands_among, repeatable, repeated}
@@ -45,21 +44,21 @@ unfit t none has = if_test t (λ yes. absurd (false≢true (sym none ∙ has yes
 
 -- ---- one test more
 -- What is set aside already stays so.
-pub unless_repeated_aside : {o : Outcome} {k : ℕ} (b : Bool) → o ≡ SetAside k → unless_repeated b o ≡ SetAside k
+pub unless_repeated_aside : {o : Outcome} {k : ℕ} (b : Bool) → o ≡ Err k → unless_repeated b o ≡ Err k
 unfolding unless_repeated
 unless_repeated_aside b e = ap (unless_repeated b) e
 
-pub unless_repeated_again : {b : Bool} {o : Outcome} {e : Entry} → b ≡ true → o ≡ Counted e
-    → unless_repeated b o ≡ SetAside 8
+pub unless_repeated_again : {b : Bool} {o : Outcome} {e : Entry} → b ≡ true → o ≡ Ok e
+    → unless_repeated b o ≡ Err 8
 unfolding unless_repeated
 unless_repeated_again {b} again counts = ap (unless_repeated b) counts ∙ check_f 8 _ (ap not again)
 
 pub unless_repeated-first : {b : Bool} (o : Outcome) → b ≡ false → unless_repeated b o ≡ o
 unfolding unless_repeated
-unless_repeated-first (SetAside k) first = refl
-unless_repeated-first (Counted e) first = check_t 8 (ap not first) refl
+unless_repeated-first (Err k) first = refl
+unless_repeated-first (Ok e) first = check_t 8 (ap not first) refl
 
-aside : {o : Outcome} {k : ℕ} (a b : Bool) → o ≡ SetAside k → unless_repeated a o ≡ unless_repeated b o
+aside : {o : Outcome} {k : ℕ} (a b : Bool) → o ≡ Err k → unless_repeated a o ≡ unless_repeated b o
 aside a b e = unless_repeated_aside a e ∙ sym (unless_repeated_aside b e)
 
 module _ (l units t : List ℕ) (before : List (List ℕ)) (so_far : Shows before units t) where

@@ -1,13 +1,12 @@
 -- A record is set aside for the first reason that applies, and counts if none does: its own line decides
 -- every reason but the last, and the lines before it decide that one. Assumes nothing.
-use Rattle.std.proofs.Common.{◌≡◌, ℕ, ◌+◌, true, not, List, sym, refl, ap, ◌∙◌, subst, arith}
+use Rattle.std.proofs.Common.{◌≡◌, ℕ, ◌+◌, true, not, List, sym, refl, ap, ◌∙◌, subst, arith, Ok, Err}
 use borrow.Author.Tests.{not-true, not-false}
 use Rattle.choice.proofs.Splitting.{if_lt}
 use Rattle.choice.proofs.TestsLaws.{also_t, also_l, also_r, if_choose}
 use Rattle.rules.specs.declared.book.Head.{Head}
 use Rattle.rules.specs.declared.entry.Entry.{Entry}
-use Rattle.rules.specs.declared.record.Outcome.{Outcome}
-use Rattle.rules.specs.declared.record.Outcome.TheVariants.{SetAside, Counted}
+use Rattle.rules.specs.Outcome.{Outcome}
 use Rattle.rules.specs.Bytes.{line, lines, lines_in}
 use Rattle.rules.specs.Fields.{kind, unit_number, period}
 use Rattle.rules.specs.Book.{unit_ok, fuel_ok, lines_sound, unit_lines, fuel_lines, opened, accepted}
@@ -19,7 +18,7 @@ use Rattle.rules.proofs.RepeatLaws.{stands-among, if_stands}
 use Rattle.rules.proofs.ListedLaws.{once_lines_ok}
 use Rattle.rules.proofs.AloneLaws.{clash, applies_within, Clear, clear_next, Decided, Alone, alone_outcome_of}
 
-unlike : (k : ℕ) (e : Entry) → SetAside k ≡ Counted e → ⊥
+unlike : (k : ℕ) (e : Entry) → Err k ≡ Ok e → ⊥
 unlike k e q = let never : ◌≡◌ {A = ℕ} 0 1 = cc in absurd (omega arith)
 
 -- ---- one record
@@ -39,8 +38,8 @@ module _ (before : List (List ℕ)) (l : List ℕ) (units fuels : List (List ℕ
   decided_unless_repeated : (o : Outcome) → Alone before l units fuels o
       → Decided before l units fuels (last_reason + 1) (unless_repeated (repeated l before) o)
   unfolding unless_repeated check
-  decided_unless_repeated (SetAside k) d = d
-  decided_unless_repeated (Counted e) d =
+  decided_unless_repeated (Err k) d = d
+  decided_unless_repeated (Ok e) d =
       if_choose (Decided before l units fuels (last_reason + 1)) (not (repeated l before))
       (λ first. record {
         clear = clear_next before l units fuels last_reason d.clear
@@ -57,20 +56,20 @@ module _ (before : List (List ℕ)) (l : List ℕ) (units fuels : List (List ℕ
 
   reasons_decided : (o : Outcome) → Decided before l units fuels (last_reason + 1) o
       → Reasons before l units fuels o
-  reasons_decided (SetAside m) d = record {
+  reasons_decided (Err m) d = record {
     set_aside = λ k. (
       λ q. let same : m ≡ k = cc in subst (λ (k : ℕ). Applies before l units fuels k × Clear before l units fuels k) same d,
       λ a.
           if_lt m k (λ less. absurd (a.1 m less d.0))
           (λ up. if_lt k m (λ less. absurd (d.1 k less a.0))
-          (λ down. let same : m ≡ k = omega arith in ap SetAside same)),
+          (λ down. let same : m ≡ k = omega arith in ap Err same)),
     );
     counts = (λ q. absurd (unlike m q.0 q.1), λ none. absurd (none m d.0));
     gives_fuel = λ e u f q. absurd (unlike m e q);
     gives_hour = λ e r q. absurd (unlike m e q);
     gives_anodes = λ e q. absurd (unlike m e q);
   }
-  reasons_decided (Counted x) d = record {
+  reasons_decided (Ok x) d = record {
     set_aside = λ k. (λ q. absurd (unlike k x (sym q)), λ a. absurd (none_clear d.clear k a.0));
     counts = (λ q. none_clear d.clear, λ none. (x, refl));
     gives_fuel = λ e u f q p i j. let same : x ≡ e = cc in sym same ∙ d.by_fuel u f p i j;

@@ -1,5 +1,5 @@
 -- What becomes of a record, test by test, and that it is a reason or a bounded entry. Assumes nothing.
-use Rattle.std.proofs.Common.{◌≡◌, ℕ, ◌≤◌, Bool, true, false, not, eqb, ltb, List, [], ◌∷◌, refl, lit≤}
+use Rattle.std.proofs.Common.{◌≡◌, ℕ, ◌≤◌, Bool, true, false, not, eqb, ltb, List, [], ◌∷◌, refl, lit≤, Ok, Err}
 use Rattle.choice.specs.Tests.{choose}
 use Rattle.choice.proofs.TestsLaws.{also_l, also_r, choose_t, choose_f, if_choose}
 use Rattle.mass.specs.declared.hour.Hour.{Hour}
@@ -7,8 +7,7 @@ use Rattle.mass.specs.declared.hour.Hour.TheVariants.{Usable, Unusable}
 use Rattle.mass.specs.Hour.{hour_of}
 use Rattle.mass.proofs.HourLaws.{in_range_of_hour_of}
 use Rattle.rules.specs.declared.book.Head.{Head}
-use Rattle.rules.specs.declared.record.Outcome.{Outcome}
-use Rattle.rules.specs.declared.record.Outcome.TheVariants.{SetAside, Counted}
+use Rattle.rules.specs.Outcome.{Outcome}
 use Rattle.rules.specs.Bytes.{line, lines_in}
 use Rattle.rules.specs.Fields.{number, monitored, kind, unit_number, fuel_number, fuelled, percent_bits, flow_bits}
 use Rattle.rules.specs.Book.{unit_ok, fuel_ok, lines_ok, lines_sound, unit_lines, fuel_lines, opened, accepted}
@@ -24,7 +23,7 @@ pub check_t : {t : Bool} {x r : Outcome} (k : ℕ) → t ≡ true → x ≡ r �
 unfolding check
 check_t k p q = choose_t _ p q
 
-pub check_f : {t : Bool} (k : ℕ) (x : Outcome) → t ≡ false → check t k x ≡ SetAside k
+pub check_f : {t : Bool} (k : ℕ) (x : Outcome) → t ≡ false → check t k x ≡ Err k
 unfolding check
 check_f k x p = choose_f _ p refl
 
@@ -101,8 +100,8 @@ module _ (l units fuels : List ℕ) (U : lines_sound unit_ok units ≡ true) (F 
 
 bounded_unless_repeated : (b : Bool) (o : Outcome) → Bounded o → Bounded (unless_repeated b o)
 unfolding unless_repeated
-bounded_unless_repeated b (SetAside k) w = w
-bounded_unless_repeated b (Counted e) w = bounded_check (not b) 8 (Counted e) (lit≤ tt) (lit≤ tt) (λ first. w)
+bounded_unless_repeated b (Err k) w = w
+bounded_unless_repeated b (Ok e) w = bounded_check (not b) 8 (Ok e) (lit≤ tt) (lit≤ tt) (λ first. w)
 
 pub bounded_outcome_at : (h : Head) (s : List ℕ) (i : ℕ) → opened s ≡ accepted h → Bounded (outcome_at h s i)
 unfolding outcome_at outcome_after

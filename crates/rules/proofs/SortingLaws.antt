@@ -1,6 +1,6 @@
 -- What a fuel record that passes the tests at one go gives, before the factors of its fuel enter: the heat in use is
 -- the measured one or the fuel's default, and only one of the two hangs on the record. Assumes nothing.
-use Rattle.std.proofs.Common.{◌≡◌, ℕ, ◌+◌, ◌-◌, ◌*◌, ◌/◌, ◌%◌, ◌<◌, ◌≤◌, true, false, eqb, List, length, get_or, sym, refl, ap, ◌∙◌, ap₂, le_trans, le_of_eq, mul_assoc, mul_comm, mul-le-mul, mul-zero, mul-one, arith, lit≤, ltb-true, lt-ltb, eq-eqb, ne_eqb, eqb-true, le-leb, leb-true}
+use Rattle.std.proofs.Common.{◌≡◌, ℕ, ◌+◌, ◌-◌, ◌*◌, ◌/◌, ◌%◌, ◌<◌, ◌≤◌, true, false, eqb, List, length, get_or, sym, refl, ap, ◌∙◌, ap₂, le_trans, le_of_eq, mul_assoc, mul_comm, mul-le-mul, mul-zero, mul-one, arith, lit≤, ltb-true, lt-ltb, eq-eqb, ne_eqb, eqb-true, le-leb, leb-true, Ok}
 use borrow.Author.Tests.{eqb-false, not-true}
 use Rattle.choice.proofs.Splitting.{if_test}
 use Rattle.choice.proofs.TestsLaws.{also_t, also_l, also_r, either_t, either_f, choose_t, choose_f, if_choose}
@@ -9,8 +9,7 @@ use Rattle.mass.specs.Fuel.{trace_of_heat}
 use Rattle.mass.proofs.FuelLaws.{trace_of_heat_is, high_of-above}
 use Rattle.rules.specs.declared.book.Head.{Head}
 use Rattle.rules.specs.declared.entry.Destination.TheVariants.{Fossil}
-use Rattle.rules.specs.declared.record.Outcome.{Outcome}
-use Rattle.rules.specs.declared.record.Outcome.TheVariants.{Counted}
+use Rattle.rules.specs.Outcome.{Outcome}
 use Rattle.rules.specs.declared.sorting.Share.{Share}
 use Rattle.rules.specs.Bytes.{line}
 use Rattle.rules.specs.Fields.{monitored, default_heat, ch4_factor, n2o_factor, flags, fuelled, heat_measured, heat_low, month, amount, heat}
@@ -212,7 +211,7 @@ pub record Monitored (l u f : List ℕ) (x : Share) (m : ℕ) : Type 0 where
   pub fossil_co2 : (destination_by (method_of l u f) f ≡ Fossil → ⊥) → x.co2.0 ≡ 0
 
 shared : {o : Outcome} {l u fs : List ℕ} {k m : ℕ} {x : Share} → heat_right l ≡ true → Heated l (line k fs)
-    → k < length fs / 32 → o ≡ Counted (fuel_entry l u (line k fs)) → Told l u k x → Monitored l u (line k fs) x m
+    → k < length fs / 32 → o ≡ Ok (fuel_entry l u (line k fs)) → Told l u k x → Monitored l u (line k fs) x m
     → Shared o fs x
 unfolding fuel_entry entry_by
 shared {o} {l} {u} {fs} {k} {m} {x} h heated there counts t w = record {
@@ -249,7 +248,7 @@ pub record Passes (l u f : List ℕ) : Type 0 where
   pub ranges : fuel_ranges l f ≡ true
   pub permitted : 0 < method_of l u f
 
-judged : {l u f : List ℕ} → Passes l u f → fuel_judged l u f ≡ Counted (fuel_entry l u f)
+judged : {l u f : List ℕ} → Passes l u f → fuel_judged l u f ≡ Ok (fuel_entry l u f)
 unfolding fuel_judged
 judged {l} {u} {f} t =
     let used = heat_in_use-above l t.heats f t.heated in
@@ -257,7 +256,7 @@ judged {l} {u} {f} t =
 
 module _ {h : Head} {s : List ℕ} {i : ℕ} {m us fs : List ℕ} {j k : ℕ} (w : Found h s i m us fs j k)
     (t : Passes (line i s) (line j (unit_lines h s)) (line k (fuel_lines h s))) where
-  counts : outcome_at h s i ≡ Counted (fuel_entry (line i s) (line j (unit_lines h s)) (line k (fuel_lines h s)))
+  counts : outcome_at h s i ≡ Ok (fuel_entry (line i s) (line j (unit_lines h s)) (line k (fuel_lines h s)))
   unfolding outcome_at fuel_outcome
   counts =
       outcome_after-fuel _ _ _ _ t.fuel

@@ -2,7 +2,7 @@
 -- an entry without one. So the other columns have what this line says. Assumes nothing.
 use Rattle.std.proofs.Common.{◌≡◌, ℕ, ◌+◌, ◌*◌, ◌/◌, ◌<◌, ◌≤◌, Bool, true, List, length, get_or, sym, refl, ap, ◌∙◌, le_trans, le_of_eq, le_of_lt, zero-add, lit≤, Some}
 use Rattle.rules.specs.declared.book.Head.{Head}
-use Rattle.rules.specs.declared.record.Outcome.{Outcome}
+use Rattle.rules.specs.Outcome.{Outcome}
 use Rattle.rules.specs.Bytes.{byte, line, lines_in}
 use Rattle.rules.specs.Fields.{number, unit_number, fuel_number}
 use Rattle.rules.specs.Book.{unit_ok, fuel_ok, lines_sound, unit_lines, fuel_lines, opened, accepted}

@@ -4,14 +4,13 @@
 --                   no more than one record can: 4,000,000 t of CO2 in µg, and as many ng of CH4 and of N2O
 --
 -- Laws: proofs/RecordLaws.antt. Definitions only.
-use Rattle.std.specs.Prelude.{◌*◌, ◌/◌, ◌≤◌}
+use Rattle.std.specs.Prelude.{◌*◌, ◌/◌, ◌≤◌, Ok, Err}
 use Rattle.mass.specs.Ledger.{tonne, tonnes_each}
-use Rattle.rules.specs.declared.record.Outcome.{Outcome}
-use Rattle.rules.specs.declared.record.Outcome.TheVariants.{SetAside, Counted}
+use Rattle.rules.specs.Outcome.{Outcome}
 use Rattle.rules.specs.Record.{last_reason}
 
 abbrev pub Bounded : Outcome → Type 0
-Bounded (SetAside k) = (1 ≤ k) × (k ≤ last_reason)
-Bounded (Counted e) =
+Bounded (Err k) = (1 ≤ k) × (k ≤ last_reason)
+Bounded (Ok e) =
     let most = tonnes_each * (tonne / 1000) in
     (e.method ≤ 4) × (e.co2.0 ≤ most) × (e.ch4.0 ≤ most) × (e.n2o.0 ≤ most)

@@ -4,11 +4,10 @@
 --     Co2Alone o   what counts gives CO2 alone, to the fossil ledger
 --
 -- Laws: proofs/Co2Laws.antt. Definitions only.
-use Rattle.std.specs.Prelude.{◌≡◌}
-use Rattle.rules.specs.declared.record.Outcome.{Outcome}
-use Rattle.rules.specs.declared.record.Outcome.TheVariants.{SetAside, Counted}
+use Rattle.std.specs.Prelude.{◌≡◌, Ok, Err}
+use Rattle.rules.specs.Outcome.{Outcome}
 use Rattle.rules.specs.Entry.{co2_alone}
 
 abbrev pub Co2Alone : Outcome → Type 0
-Co2Alone (SetAside k) = Unit {0}
-Co2Alone (Counted e) = e ≡ co2_alone e.co2
+Co2Alone (Err k) = Unit {0}
+Co2Alone (Ok e) = e ≡ co2_alone e.co2

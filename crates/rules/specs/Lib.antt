@@ -7,6 +7,7 @@ pub mod Right
 pub mod Method
 pub mod Entry
 pub mod Repeat
+pub mod Outcome
 pub mod Record
 pub mod Reason
 pub mod Reader

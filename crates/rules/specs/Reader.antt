@@ -15,7 +15,7 @@ use Rattle.choice.specs.Tests.{choose}
 use Rattle.rules.specs.declared.reader.Reader.{Reader}
 use Rattle.rules.specs.declared.reader.Seen.{Seen}
 use Rattle.rules.specs.declared.reader.Seen.TheVariants.{Refused, Missing, Record}
-use Rattle.rules.specs.declared.record.Outcome.{Outcome}
+use Rattle.rules.specs.Outcome.{Outcome}
 use Rattle.rules.specs.Bytes.{line}
 use Rattle.rules.specs.Fields.{kind}
 use Rattle.rules.specs.Book.{Answer, refused, accepted, opened, fault_number}

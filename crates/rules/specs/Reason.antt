@@ -12,14 +12,13 @@
 -- A ground that asks for the record's unit or fuel goes by its listed line. Numbers of listed lines rise,
 -- so that there is one such line at most.
 -- Laws: proofs/ReasonLaws.antt. Definitions only.
-use Rattle.std.specs.Prelude.{◌≡◌, ℕ, ◌<◌, true, false, ◌↔◌, List, Float}
+use Rattle.std.specs.Prelude.{◌≡◌, ℕ, ◌<◌, true, false, ◌↔◌, List, Float, Ok, Err}
 use mathlib.Core.List.{Memᴰ}
 use Rattle.mass.specs.declared.hour.Readings.{Readings}
 use Rattle.mass.specs.declared.hour.Hour.TheVariants.{Usable, Unusable}
 use Rattle.mass.specs.Hour.{hour_of}
 use Rattle.rules.specs.declared.entry.Entry.{Entry}
-use Rattle.rules.specs.declared.record.Outcome.{Outcome}
-use Rattle.rules.specs.declared.record.Outcome.TheVariants.{SetAside, Counted}
+use Rattle.rules.specs.Outcome.{Outcome}
 use Rattle.rules.specs.Fields.{number, monitored, kind, unit_number, fuel_number, period, fuelled, percent_bits, flow_bits}
 use Rattle.rules.specs.Method.{method_of}
 use Rattle.rules.specs.Entry.{heat_in_use, fuel_entry, hour_entry, anodes_entry}
@@ -83,15 +82,15 @@ pub data Applies (before : List (List ℕ)) (l : List ℕ) (units fuels : List (
 
 pub record Reasons (before : List (List ℕ)) (l : List ℕ) (units fuels : List (List ℕ)) (o : Outcome) : Type 0 where
   -- It is set aside with reason k exactly when k applies and none before it does.
-  pub set_aside : (k : ℕ) → (o ≡ SetAside k)
+  pub set_aside : (k : ℕ) → (o ≡ Err k)
       ↔ (Applies before l units fuels k × ((j : ℕ) → j < k → Applies before l units fuels j → ⊥))
   -- It counts exactly when none applies.
-  pub counts : ((e : Entry) × (o ≡ Counted e)) ↔ ((k : ℕ) → Applies before l units fuels k → ⊥)
+  pub counts : ((e : Entry) × (o ≡ Ok e)) ↔ ((k : ℕ) → Applies before l units fuels k → ⊥)
   -- A fuel record that counts gives what it is worth by the listed lines of its unit and its fuel,
-  pub gives_fuel : (e : Entry) (u f : List ℕ) → o ≡ Counted e → FuelRecord l → Listed (unit_number l) units u
+  pub gives_fuel : (e : Entry) (u f : List ℕ) → o ≡ Ok e → FuelRecord l → Listed (unit_number l) units u
       → Listed (fuel_number l) fuels f → e ≡ fuel_entry l u f
   -- an hour what its readings are worth with its moisture,
-  pub gives_hour : (e : Entry) (r : Readings) → o ≡ Counted e → MonitorHour l
+  pub gives_hour : (e : Entry) (r : Readings) → o ≡ Ok e → MonitorHour l
       → hour_of (percent_bits l) (flow_bits l) ≡ Usable r → e ≡ hour_entry l r
   -- and anodes what their numbers are worth.
-  pub gives_anodes : (e : Entry) → o ≡ Counted e → Anodes l → e ≡ anodes_entry l
+  pub gives_anodes : (e : Entry) → o ≡ Ok e → Anodes l → e ≡ anodes_entry l

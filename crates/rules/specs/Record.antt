@@ -29,14 +29,13 @@
 --     outcome_at h s i              what becomes of record i of the book s with the head h
 --
 -- Laws: proofs/RecordLaws.antt. Definitions only.
-use Rattle.std.specs.Prelude.{ℕ, Bool, true, not, nat_lt, nat_le, List, [], ◌∷◌, ◌==◌, nat_eq}
+use Rattle.std.specs.Prelude.{ℕ, Bool, true, not, nat_lt, nat_le, List, [], ◌∷◌, ◌==◌, nat_eq, Ok, Err}
 use Rattle.choice.specs.Tests.{◌also◌, ◌either◌, choose}
 use Rattle.mass.specs.declared.hour.Hour.{Hour}
 use Rattle.mass.specs.declared.hour.Hour.TheVariants.{Usable, Unusable}
 use Rattle.mass.specs.Hour.{hour_of}
 use Rattle.rules.specs.declared.book.Head.{Head}
-use Rattle.rules.specs.declared.record.Outcome.{Outcome}
-use Rattle.rules.specs.declared.record.Outcome.TheVariants.{SetAside, Counted}
+use Rattle.rules.specs.Outcome.{Outcome}
 use Rattle.rules.specs.Bytes.{line, lines, lines_in}
 use Rattle.rules.specs.Fields.{number, monitored, dry, fuel_kind, fuel_class, molar_volume, kind, flags, unit_number, fuel_number, fuelled, analysed, heat_measured, carbon_flagged, heat_low, month, amount, heat, carbon, fuel_record_blank, molecular_weight, gas_blank, hour, percent_bits, flow_bits, moisture, hour_blank, metal, anode_use, sulphur, ash, other_impurities, anodes_blank}
 use Rattle.rules.specs.Book.{unit_lines, fuel_lines}
@@ -48,10 +47,10 @@ abbrev pub last_reason : ℕ
 last_reason = 8
 
 unfoldable pub check : Bool → ℕ → Outcome → Outcome
-check t k rest = choose t rest (SetAside k)
+check t k rest = choose t rest (Err k)
 
 unfoldable pub listed : ℕ → List (List ℕ) → ℕ → (List ℕ → Outcome) → Outcome
-listed x [] k rest = SetAside k
+listed x [] k rest = Err k
 listed x (l ∷ ls) k rest = choose (number l == x) (rest l) (listed x ls k rest)
 
 -- ---- reason 1: flags, and bytes that must be 0
@@ -133,7 +132,7 @@ fuel_judged l u f =
     check (fuel_ranges l f) 4
     (check (nat_lt 0 (method_of l u f)) 6
     (check (nat_lt 0 (heat_in_use l f).0) 7
-    (Counted (fuel_entry l u f))))
+    (Ok (fuel_entry l u f))))
 
 unfoldable pub fuel_outcome : List ℕ → List (List ℕ) → List (List ℕ) → Outcome
 fuel_outcome l units fuels =
@@ -144,8 +143,8 @@ fuel_outcome l units fuels =
 
 -- ---- monitor hours
 unfoldable pub hour_read : List ℕ → List ℕ → Hour → Outcome
-hour_read l u (Usable r) = check (monitored u) 5 (Counted (hour_entry l r))
-hour_read l u (Unusable x) = SetAside 4
+hour_read l u (Usable r) = check (monitored u) 5 (Ok (hour_entry l r))
+hour_read l u (Unusable x) = Err 4
 
 unfoldable pub hour_judged : List ℕ → List ℕ → Outcome
 hour_judged l u =
@@ -166,7 +165,7 @@ anodes_outcome l units =
     check (anodes_form l) 1
     (listed (unit_number l) units 2 (λ u.
     check (anodes_ranges l) 4
-    (Counted (anodes_entry l))))
+    (Ok (anodes_entry l))))
 
 -- ---- a record by itself
 unfoldable pub unfuelled_outcome : List ℕ → List (List ℕ) → Outcome
@@ -179,8 +178,8 @@ outcome_of l units fuels = choose (fuelled l) (fuel_outcome l units fuels) (unfu
 
 -- ---- reason 8: the same hour or month twice
 unfoldable pub unless_repeated : Bool → Outcome → Outcome
-unless_repeated b (SetAside k) = SetAside k
-unless_repeated b (Counted e) = check (not b) 8 (Counted e)
+unless_repeated b (Err k) = Err k
+unless_repeated b (Ok e) = check (not b) 8 (Ok e)
 
 unfoldable pub outcome_after : List (List ℕ) → List ℕ → List (List ℕ) → List (List ℕ) → Outcome
 outcome_after before l units fuels = unless_repeated (repeated l before) (outcome_of l units fuels)

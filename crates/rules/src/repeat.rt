@@ -17,8 +17,8 @@ pub(crate) fn look_back(book: &[u8], i: usize, o: Outcome) -> Outcome
     ensures outcome { result ≡ unless_repeated (repeated (line i book.now) (lines i book.now)) o }
 {
     match o {
-        Outcome::SetAside(_) => o,
-        Outcome::Counted(_) => withhold(o, is_repeated(book, i)),
+        Err(_) => o,
+        Ok(_) => withhold(o, is_repeated(book, i)),
     }
 }
 
@@ -26,10 +26,10 @@ pub(crate) fn withhold(o: Outcome, repeated: bool) -> Outcome
     ensures outcome { result ≡ unless_repeated repeated o }
 {
     match o {
-        Outcome::SetAside(_) => o,
-        Outcome::Counted(_) => {
+        Err(_) => o,
+        Ok(_) => {
             if repeated {
-                return Outcome::SetAside(8);
+                return Err(8);
             }
             o
         }

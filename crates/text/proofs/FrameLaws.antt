@@ -14,7 +14,7 @@ use Rattle.choice.proofs.Splitting.{if_eq}
 use Rattle.choice.proofs.TestsLaws.{also_t, also_f, choose_t, choose_f}
 use Rattle.rules.specs.declared.book.Fault.{Fault}
 use Rattle.rules.specs.declared.reader.Seen.TheVariants.{Refused, Missing, Record}
-use Rattle.rules.specs.declared.record.Outcome.{Outcome}
+use Rattle.rules.specs.Outcome.{Outcome}
 use Rattle.rules.specs.Bytes.{bytes_of}
 use Rattle.rules.specs.Book.{fault_number}
 use Rattle.rules.specs.Reader.{shown, sight}

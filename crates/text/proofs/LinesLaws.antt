@@ -5,6 +5,7 @@ use mathlib.Core.Path.{◌≡◌, refl, ap, ◌∙◌}
 use native.Mathlib.Omega.{arith}
 use lib.Dec.{eqb}
 use borrow.Author.Tests.{eq-eqb, ne_eqb}
+use Rattle.std.specs.Prelude.{Ok, Err}
 use Rattle.choice.proofs.TestsLaws.{choose_t, choose_f}
 use Rattle.rules.specs.declared.book.Fault.{Fault}
 use Rattle.rules.specs.declared.entry.Destination.{Destination}
@@ -12,8 +13,7 @@ use Rattle.rules.specs.declared.entry.Destination.TheVariants.{Fossil, Biomass, 
 use Rattle.rules.specs.declared.entry.Entry.{Entry}
 use Rattle.rules.specs.declared.reader.Seen.{Seen}
 use Rattle.rules.specs.declared.reader.Seen.TheVariants.{Refused, Missing, Record}
-use Rattle.rules.specs.declared.record.Outcome.{Outcome}
-use Rattle.rules.specs.declared.record.Outcome.TheVariants.{SetAside, Counted}
+use Rattle.rules.specs.Outcome.{Outcome}
 use Rattle.rules.specs.Book.{fault_number}
 use Rattle.rules.specs.Reader.{Sight, turned_away, missing, shown, sight}
 use Rattle.rules.proofs.ReaderLaws.{sight-refused, sight-missing, sight_record}
@@ -36,7 +36,7 @@ module _ (k m : ℕ) where
   unfolding method_text
   method_text-hour e other = choose_t _ (eq-eqb m 0 e) (choose_f _ (ne_eqb k 4 other) refl)
 
-pub outcome_text_set_aside : {o : Outcome} (k r : ℕ) → o ≡ SetAside r → outcome_text k o ≡ field (ascii " reason ") r
+pub outcome_text_set_aside : {o : Outcome} (k r : ℕ) → o ≡ Err r → outcome_text k o ≡ field (ascii " reason ") r
 unfolding outcome_text
 outcome_text_set_aside k r e = ap (outcome_text k) e
 
@@ -76,8 +76,8 @@ masses_text-le e =
 
 outcome_text-le : (k : ℕ) (o : Outcome) → AtMost 120 (outcome_text k o)
 unfolding outcome_text
-outcome_text-le k (SetAside r) = wider (field-le (ascii " reason ") r) (omega arith)
-outcome_text-le k (Counted e) =
+outcome_text-le k (Err r) = wider (field-le (ascii " reason ") r) (omega arith)
+outcome_text-le k (Ok e) =
     append-le (append-le (method_text-le k e.method) (ledger_text-le e.destination)) (masses_text-le e)
 
 pub line_text-le : (i k : ℕ) (x : Sight) → AtMost 148 (line_text i k x)

@@ -5,6 +5,7 @@ use mathlib.Core.List.{List, [], ◌++◌, append_assoc}
 use mathlib.Core.Path.{◌≡◌, refl, sym, ap, ◌∙◌}
 use lib.Dec.{eqb, ltb}
 use lib.ListN.{length}
+use Rattle.std.specs.Prelude.{Ok, Err}
 use Rattle.choice.specs.Tests.{◌either◌, choose}
 use Rattle.choice.proofs.Splitting.{if_test}
 use Rattle.choice.proofs.TestsLaws.{worked-out, either_t, either_f, choose_t, choose_f, if_choose}
@@ -12,8 +13,7 @@ use Rattle.rules.specs.declared.book.Head.{Head}
 use Rattle.rules.specs.declared.entry.Destination.{Destination}
 use Rattle.rules.specs.declared.entry.Destination.TheVariants.{Fossil, Biomass, Nowhere}
 use Rattle.rules.specs.declared.entry.Entry.{Entry}
-use Rattle.rules.specs.declared.record.Outcome.{Outcome}
-use Rattle.rules.specs.declared.record.Outcome.TheVariants.{SetAside, Counted}
+use Rattle.rules.specs.Outcome.{Outcome}
 use Rattle.rules.specs.Book.{Answer, refused, accepted, opened}
 use Rattle.rules.specs.Reader.{Sight, turned_away, missing, shown}
 use Rattle.job.specs.State.{first}
@@ -186,8 +186,8 @@ plain_masses_text e =
 
 plain_outcome_text : (k : ℕ) (o : Outcome) → Plain (outcome_text k o)
 unfolding outcome_text
-plain_outcome_text k (SetAside r) = plain_field (ascii " reason ") r (simp worked-out)
-plain_outcome_text k (Counted e) =
+plain_outcome_text k (Err r) = plain_field (ascii " reason ") r (simp worked-out)
+plain_outcome_text k (Ok e) =
     plain_append (plain_append (plain_method_text k e.method) (plain_ledger_text e.destination)) (plain_masses_text e)
 
 has_refusal-nil : has_refusal [] ≡ false

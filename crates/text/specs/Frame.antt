@@ -26,11 +26,10 @@
 --     broken_text i x               the line on frame i, counted from 0, at which the answers end
 --
 -- Laws: proofs/FrameLaws.antt. Definitions only.
-use Rattle.std.specs.Prelude.{ℕ, ◌+◌, ◌%◌, Bool, true, false, List, [], ◌∷◌, ◌++◌, nat_le, nat_eq, length, slice_index}
+use Rattle.std.specs.Prelude.{ℕ, ◌+◌, ◌%◌, Bool, true, false, List, [], ◌∷◌, ◌++◌, nat_le, nat_eq, length, slice_index, Ok, Err}
 use Rattle.choice.specs.Tests.{choose, ◌also◌, ◌either◌}
 use Rattle.rules.specs.declared.entry.Destination.{Destination}
 use Rattle.rules.specs.declared.entry.Destination.TheVariants.{Fossil, Biomass, Nowhere}
-use Rattle.rules.specs.declared.record.Outcome.TheVariants.{SetAside, Counted}
 use Rattle.rules.specs.Bytes.{word, zeros, bytes_of}
 use Rattle.rules.specs.Reader.{Sight, turned_away, missing, shown}
 use Rattle.text.specs.declared.frame.Frame.{Frame}
@@ -151,8 +150,8 @@ uncounted number reason method = record {
 unfoldable pub told_of : Sight → Told
 told_of (turned_away n) = uncounted n 0 0
 told_of missing = uncounted 0 0 255
-told_of (shown (SetAside k)) = uncounted 0 k 0
-told_of (shown (Counted e)) = record {
+told_of (shown (Err k)) = uncounted 0 k 0
+told_of (shown (Ok e)) = record {
   number = 0;
   reason = 0;
   method = e.method;

@@ -7,13 +7,12 @@
 --     line_text i k x   what is printed of what was seen at index i, of a record of kind k
 --
 -- Laws: proofs/LinesLaws.antt. Definitions only.
-use Rattle.std.specs.Prelude.{ℕ, List, [], ◌++◌, nat_eq}
+use Rattle.std.specs.Prelude.{ℕ, List, [], ◌++◌, nat_eq, Ok, Err}
 use Rattle.choice.specs.Tests.{choose}
 use Rattle.rules.specs.declared.entry.Destination.{Destination}
 use Rattle.rules.specs.declared.entry.Destination.TheVariants.{Fossil, Biomass, Nowhere}
 use Rattle.rules.specs.declared.entry.Entry.{Entry}
-use Rattle.rules.specs.declared.record.Outcome.{Outcome}
-use Rattle.rules.specs.declared.record.Outcome.TheVariants.{SetAside, Counted}
+use Rattle.rules.specs.Outcome.{Outcome}
 use Rattle.rules.specs.Reader.{Sight, turned_away, missing, shown}
 use Rattle.text.specs.Words.{ascii, newline, field}
 use Rattle.text.specs.Report.{refused_text}
@@ -36,8 +35,8 @@ masses_text e =
     ++ field (ascii " n2o-ng ") e.n2o.0
 
 unfoldable pub outcome_text : ℕ → Outcome → List ℕ
-outcome_text k (SetAside r) = field (ascii " reason ") r
-outcome_text k (Counted e) = method_text k e.method ++ ledger_text e.destination ++ masses_text e
+outcome_text k (Err r) = field (ascii " reason ") r
+outcome_text k (Ok e) = method_text k e.method ++ ledger_text e.destination ++ masses_text e
 
 unfoldable pub line_text : ℕ → ℕ → Sight → List ℕ
 line_text i k (turned_away n) = refused_text n []

@@ -1,5 +1,5 @@
 // Frames of `replay`: the head of a call is read, and its answer written.
-ghost use Rattle.std.specs.Prelude.{◌≡◌, length};
+ghost use Rattle.std.specs.Prelude.{◌≡◌, length, Ok};
 ghost use Rattle.choice.specs.Tests.{choose};
 ghost use Rattle.rules.specs.Reader.{shown, sight};
 ghost use Rattle.text.specs.Page.{page_of};
@@ -231,8 +231,8 @@ fn tell_outcome(o: Outcome) -> Told
     ensures told { result ≡ told_of (shown o) }
 {
     match o {
-        Outcome::SetAside(reason) => tell_uncounted(0, reason as u64, 0),
-        Outcome::Counted(e) => tell_counted(e),
+        Err(reason) => tell_uncounted(0, reason as u64, 0),
+        Ok(e) => tell_counted(e),
     }
 }
 
@@ -251,7 +251,7 @@ fn tell_uncounted(number: u64, reason: u64, method: u64) -> Told
 }
 
 fn tell_counted(e: Entry) -> Told
-    ensures told { result ≡ told_of (shown (Outcome.Counted e)) }
+    ensures told { result ≡ told_of (shown (Ok e)) }
 {
     let destination = e.destination;
     let ledger = number_ledger(destination);

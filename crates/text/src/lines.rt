@@ -1,5 +1,5 @@
 // Every record of a book as a line: its method and masses, or its reason.
-ghost use Rattle.std.specs.Prelude.{◌++◌, ◌≡◌};
+ghost use Rattle.std.specs.Prelude.{◌++◌, ◌≡◌, Ok};
 ghost use Rattle.rules.specs.Reader.{sight};
 ghost use Rattle.text.specs.Page.{page_of};
 ghost use Rattle.text.specs.Extended.{extended};
@@ -45,13 +45,13 @@ fn say_outcome(p: Page, kind: u8, o: Outcome) -> Page
     ensures said { result ≡ extended p (outcome_text kind o) }
 {
     match o {
-        Outcome::SetAside(reason) => number::say_field(p, b" reason ", reason as u64),
-        Outcome::Counted(e) => say_entry(p, kind, e),
+        Err(reason) => number::say_field(p, b" reason ", reason as u64),
+        Ok(e) => say_entry(p, kind, e),
     }
 }
 
 fn say_entry(p: Page, kind: u8, e: Entry) -> Page
-    ensures said { result ≡ extended p (outcome_text kind (Outcome.Counted e)) }
+    ensures said { result ≡ extended p (outcome_text kind (Ok e)) }
 {
     let destination = e.destination;
     let q = say_method(p, kind, e.method);

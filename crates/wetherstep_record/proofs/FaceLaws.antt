@@ -2,8 +2,8 @@
 use Prim.Native.Nat.{ℕ}
 use mathlib.Core.List.{List}
 use mathlib.Core.Path.{◌≡◌, sym, ap, ◌∙◌}
+use Rattle.std.specs.Prelude.{Ok, Err}
 use Rattle.rules.specs.declared.entry.Entry.{Entry}
-use Rattle.rules.specs.declared.record.Outcome.TheVariants.{SetAside, Counted}
 use Rattle.rules.specs.Reader.{Sight, turned_away, missing, shown}
 use Rattle.wetherstep.specs.Face.{packed}
 use Rattle.wetherstep_record.specs.Face.{no_record, ledger_number, record_word, masses_of, masses_after}
@@ -26,7 +26,7 @@ module _ {x : Sight} (e : x ≡ missing) where
   unfolding masses_after
   masses_after-missing ms = ap (λ (x : Sight). masses_after x ms) e
 
-module _ {x : Sight} {k : ℕ} (e : x ≡ shown (SetAside k)) where
+module _ {x : Sight} {k : ℕ} (e : x ≡ shown (Err k)) where
   pub record_word_aside : {w : ℕ} → w ≡ packed 0 k 0 0 0 → w ≡ record_word x
   unfolding record_word
   record_word_aside p = p ∙ ap record_word (sym e)
@@ -35,7 +35,7 @@ module _ {x : Sight} {k : ℕ} (e : x ≡ shown (SetAside k)) where
   unfolding masses_after
   masses_after_aside ms = ap (λ (x : Sight). masses_after x ms) e
 
-module _ {x : Sight} {f : Entry} (e : x ≡ shown (Counted f)) where
+module _ {x : Sight} {f : Entry} (e : x ≡ shown (Ok f)) where
   pub record_word-counted : {w d : ℕ} → d ≡ ledger_number f.destination → w ≡ packed 0 0 f.method d 0
       → w ≡ record_word x
   unfolding record_word

@@ -7,13 +7,13 @@ use mathlib.Core.Path.{◌≡◌, refl, sym, ap, ◌∙◌, subst}
 use native.Mathlib.Omega.{arith}
 use lib.Dec.{T, eqb, ltb, lit<}
 use borrow.Author.Tests.{lt-ltb, ne_eqb}
+use Rattle.std.specs.Prelude.{Ok, Err}
 use Rattle.choice.specs.Tests.{◌also◌}
 use Rattle.choice.proofs.TestsLaws.{also_t, also_f, choose_t, choose_f}
 use Rattle.rules.specs.declared.entry.Destination.{Destination}
 use Rattle.rules.specs.declared.entry.Destination.TheVariants.{Fossil, Biomass, Nowhere}
 use Rattle.rules.specs.declared.entry.Entry.{Entry}
-use Rattle.rules.specs.declared.record.Outcome.{Outcome}
-use Rattle.rules.specs.declared.record.Outcome.TheVariants.{SetAside, Counted}
+use Rattle.rules.specs.Outcome.{Outcome}
 use Rattle.rules.specs.Reader.{turned_away, missing, shown, sight_at}
 use Rattle.rules.specs.Bounds.{Bounded}
 use Rattle.rules.proofs.ReaderLaws.{sight_at-each}
@@ -56,13 +56,13 @@ told_counts-missing =
     told_counts-packed 0 0 no_record 0 (lit< tt) (lit< tt) (lit< tt)
     ∙ also_t (also_t refl refl) refl
 
-told_counts_aside : (k : ℕ) → 1 ≤ k → k ≤ last_reason → told_counts (record_word (shown (SetAside k))) ≡ false
+told_counts_aside : (k : ℕ) → 1 ≤ k → k ≤ last_reason → told_counts (record_word (shown (Err k))) ≡ false
 unfolding record_word
 told_counts_aside k l m =
     told_counts-packed 0 k 0 0 (lit< tt) (omega arith) (lit< tt)
     ∙ also_f _ (also_t refl (ne_eqb k 0 (λ z. omega arith)))
 
-told_counts-counted : (e : Entry) → e.method ≤ 4 → told_counts (record_word (shown (Counted e))) ≡ true
+told_counts-counted : (e : Entry) → e.method ≤ 4 → told_counts (record_word (shown (Ok e))) ≡ true
 unfolding record_word
 told_counts-counted e l =
     told_counts-packed 0 0 e.method (ledger_number e.destination) (lit< tt) (lit< tt) (omega arith)
@@ -109,17 +109,17 @@ record_told-record_word k i ms =
     at
   where
     at : (o : Outcome) → Bounded o → record_told (record_word (shown o)) (masses_after (shown o) ms) ≡ shown o
-    at (SetAside r) w =
+    at (Err r) w =
         let least = w.0 in
         let most = w.1 in
         let told = told_reason-packed 0 r 0 0 0 (lit< tt) (omega arith) in
         choose_f _ (told_counts_aside r least most)
         (choose_f _ (ap (ltb 0) (told_number-packed 0 r 0 0 0 (lit< tt)))
         (choose_t _ (ap (ltb 0) told ∙ lt-ltb 0 r (omega arith))
-        (ap (λ (x : ℕ). shown (SetAside x)) told)))
-    at (Counted e) w =
+        (ap (λ (x : ℕ). shown (Err x)) told)))
+    at (Ok e) w =
         choose_t _ (told_counts-counted e w.0)
-        (ap (λ (x : Entry). shown (Counted x)) (entry_told-counted e w.0))
+        (ap (λ (x : Entry). shown (Ok x)) (entry_told-counted e w.0))
 
 -- ---- a record that doesn't count leaves the masses as they were
 pub masses_after-told : (k : List ℕ) (i : ℕ) (ms : List ℕ) → told_counts (record_word (sight_at k i)) ≡ false
@@ -132,5 +132,5 @@ masses_after-told k i ms =
     at
   where
     at : (o : Outcome) → Bounded o → told_counts (record_word (shown o)) ≡ false → masses_after (shown o) ms ≡ ms
-    at (SetAside r) w p = refl
-    at (Counted e) w p = absurd (subst T (sym (told_counts-counted e w.0) ∙ p) tt)
+    at (Err r) w p = refl
+    at (Ok e) w p = absurd (subst T (sym (told_counts-counted e w.0) ∙ p) tt)

@@ -8,11 +8,10 @@
 --     masses_after x ms       the buffer for masses after x was seen, which held ms before
 --
 -- Laws: proofs/FaceLaws.antt. Definitions only.
-use Rattle.std.specs.Prelude.{ℕ, List, [], ◌∷◌}
+use Rattle.std.specs.Prelude.{ℕ, List, [], ◌∷◌, Ok, Err}
 use Rattle.rules.specs.declared.entry.Destination.{Destination}
 use Rattle.rules.specs.declared.entry.Destination.TheVariants.{Fossil, Biomass, Nowhere}
 use Rattle.rules.specs.declared.entry.Entry.{Entry}
-use Rattle.rules.specs.declared.record.Outcome.TheVariants.{SetAside, Counted}
 use Rattle.rules.specs.Reader.{Sight, turned_away, missing, shown}
 use Rattle.wetherstep.specs.Face.{packed}
 
@@ -28,8 +27,8 @@ ledger_number Nowhere = 0
 unfoldable pub record_word : Sight → ℕ
 record_word (turned_away n) = packed n 0 0 0 0
 record_word missing = packed 0 0 no_record 0 0
-record_word (shown (SetAside k)) = packed 0 k 0 0 0
-record_word (shown (Counted e)) = packed 0 0 e.method (ledger_number e.destination) 0
+record_word (shown (Err k)) = packed 0 k 0 0 0
+record_word (shown (Ok e)) = packed 0 0 e.method (ledger_number e.destination) 0
 
 abbrev pub masses_of : Entry → List ℕ
 masses_of e = e.co2.0 ∷ e.ch4.0 ∷ e.n2o.0 ∷ []
@@ -38,5 +37,5 @@ masses_of e = e.co2.0 ∷ e.ch4.0 ∷ e.n2o.0 ∷ []
 unfoldable pub masses_after : Sight → List ℕ → List ℕ
 masses_after (turned_away n) ms = ms
 masses_after missing ms = ms
-masses_after (shown (SetAside k)) ms = ms
-masses_after (shown (Counted e)) ms = masses_of e
+masses_after (shown (Err k)) ms = ms
+masses_after (shown (Ok e)) ms = masses_of e

@@ -8,12 +8,11 @@
 --     record_told w ms        what the word tells of the record, ms being the masses after it
 --
 -- Laws: proofs/ToldLaws.antt. Definitions only.
-use Rattle.std.specs.Prelude.{ℕ, ◌/◌, ◌%◌, Bool, List, nat_eq, nat_lt, slice_index}
+use Rattle.std.specs.Prelude.{ℕ, ◌/◌, ◌%◌, Bool, List, nat_eq, nat_lt, slice_index, Ok, Err}
 use Rattle.choice.specs.Tests.{◌also◌, choose}
 use Rattle.rules.specs.declared.entry.Destination.{Destination}
 use Rattle.rules.specs.declared.entry.Destination.TheVariants.{Fossil, Biomass, Nowhere}
 use Rattle.rules.specs.declared.entry.Entry.{Entry}
-use Rattle.rules.specs.declared.record.Outcome.TheVariants.{SetAside, Counted}
 use Rattle.rules.specs.Reader.{Sight, turned_away, missing, shown}
 use Rattle.wetherstep.specs.Told.{told_number, told_reason}
 use Rattle.wetherstep_record.specs.Face.{no_record}
@@ -41,7 +40,7 @@ entry_told w ms = record {
 
 unfoldable pub record_told : ℕ → List ℕ → Sight
 record_told w ms =
-    choose (told_counts w) (shown (Counted (entry_told w ms)))
+    choose (told_counts w) (shown (Ok (entry_told w ms)))
     (choose (nat_lt 0 (told_number w)) (turned_away (told_number w))
-    (choose (nat_lt 0 (told_reason w)) (shown (SetAside (told_reason w)))
+    (choose (nat_lt 0 (told_reason w)) (shown (Err (told_reason w)))
     missing))

@@ -1,6 +1,6 @@
 // The look at a record for C: a reply is one word, and masses go to a buffer that the caller lends.
 // include/wetherstep.h declares it, and `wetherstep_record_c` exports it.
-ghost use Rattle.std.specs.Prelude.{◌≡◌};
+ghost use Rattle.std.specs.Prelude.{◌≡◌, Ok};
 ghost use Rattle.rules.specs.Reader.{shown, sight_at, sight};
 ghost use Rattle.wetherstep.specs.Face.{packed};
 ghost use Rattle.wetherstep_record.specs.Face.{ledger_number, record_word, masses_of, masses_after};
@@ -45,13 +45,13 @@ fn tell_outcome(o: Outcome, masses: &mut [u64; 3]) -> u64
     ensures masses { masses.new ≡ masses_after (shown o) masses.old }
 {
     match o {
-        Outcome::SetAside(reason) => pack(ACCEPTED, reason, 0, 0),
-        Outcome::Counted(e) => tell_counted(e, masses),
+        Err(reason) => pack(ACCEPTED, reason, 0, 0),
+        Ok(e) => tell_counted(e, masses),
     }
 }
 
 fn tell_counted(e: Entry, masses: &mut [u64; 3]) -> u64
-    ensures word { result ≡ record_word (shown (Outcome.Counted e)) }
+    ensures word { result ≡ record_word (shown (Ok e)) }
     ensures masses { masses.new ≡ masses_of e }
 {
     let destination = e.destination;

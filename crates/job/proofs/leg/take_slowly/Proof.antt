@@ -3,7 +3,7 @@ use mathlib.Core.List.{List}
 use mathlib.Core.Path.{◌≡◌, sym, ◌∙◌, subst}
 use Prim.Native.Nat.{ℕ}
 use borrow.Author.Rules.{rules}
-use Rattle.rules.specs.declared.record.Outcome.TheVariants.{Counted}
+use Rattle.std.specs.Prelude.{Ok}
 use Rattle.rules.specs.Record.{outcome_at}
 use Rattle.rules.specs.Bounds.{Bounded}
 use Rattle.rules.proofs.RecordLaws.{bounded_outcome_at}
@@ -23,13 +23,13 @@ set-aside-requires c κs =
     aside_lt there.1.aside_le there.0 (records_le s.args.book.now s.args.h s.requires.0)
 
 -- What a record gives that counts is bounded.
-few : (c : tie.In-Counted) →
+few : (c : tie.In-Ok) →
     let s = start c.before.before.before in
-    let e = c.in-Counted.e in
-    (outcome_at s.args.h s.args.book.now s.args.place ≡ Counted e) × Bounded (Counted e)
+    let e = c.in-Ok.e in
+    (outcome_at s.args.h s.args.book.now s.args.place ≡ Ok e) × Bounded (Ok e)
 few c =
     let judge = c in
-    let is = sym judge.judge_next-judged.ensures.0 ∙ c.in-Counted.is in
+    let is = sym judge.judge_next-judged.ensures.0 ∙ c.in-Ok.is in
     (is, subst Bounded is (bounded_outcome_at _ _ _ (start judge.before.before.before).requires.0))
 
 give-requires : tie.Need-give-requires
@@ -37,15 +37,15 @@ give-requires c κs =
     let at = c in
     ((start at.before.before.before.before).requires.1.1.1, (few at.before).1)
 
-returns : tie.Need-returns-in-SetAside
+returns : tie.Need-returns-in-Err
 returns c =
     let at = c in
     let judge = at in (
-      took_aside _ _ _ _ _ _ _ (sym judge.judge_next-judged.ensures.0 ∙ at.in-SetAside.is) c.set_aside.ensures,
+      took_aside _ _ _ _ _ _ _ (sym judge.judge_next-judged.ensures.0 ∙ at.in-Err.is) c.set_aside.ensures,
       judge.judge_next-judged.ensures.1,
     )
 
-returns-2 : tie.Need-returns-in-Counted
+returns-2 : tie.Need-returns-in-Ok
 returns-2 c =
     let give = c in
     let at = give in

@@ -8,7 +8,7 @@ use Rattle.rules.proofs.repeat.look_back.Tie as tie
 enum_told : tie.Need-enum_told-1
 enum_told c = search rules
 
-enum-told-2 : tie.Need-enum_told-in-Counted
+enum-told-2 : tie.Need-enum_told-in-Ok
 enum-told-2 c = search rules
 
 is-repeated-requires : tie.Need-is_repeated-requires
@@ -17,11 +17,11 @@ is-repeated-requires c κs = search rules
 withhold-requires : tie.Need-withhold-requires
 withhold-requires c κs = search rules
 
-returns : tie.Need-returns-in-SetAside
+returns : tie.Need-returns-in-Err
 unfolding unless_repeated
-returns c = rw c.in-SetAside.is refl
+returns c = rw c.in-Err.is refl
 
-returns-2 : tie.Need-returns-in-Counted
+returns-2 : tie.Need-returns-in-Ok
 returns-2 c =
     c.withhold.ensures
     ∙ ap (λ (b : Bool). unless_repeated b c.args.o) c.is_repeated.ensures

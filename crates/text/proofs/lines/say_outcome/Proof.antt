@@ -16,19 +16,19 @@ cast-say-field c = search rules
 say-field-requires : tie.Need-say_field-requires
 say-field-requires c κs = search rules
 
-enum-known-o-2 : tie.Need-enum_known-o-in-Counted-1
+enum-known-o-2 : tie.Need-enum_known-o-in-Ok-1
 enum-known-o-2 c = search rules
 
 say-entry-requires : tie.Need-say_entry-requires
 say-entry-requires c κs = search rules
 
-returns : tie.Need-returns-in-SetAside
+returns : tie.Need-returns-in-Err
 returns c =
     c.say_field.ensures
-    ∙ ap (extended _) (sym (outcome_text_set_aside _ _ c.in-SetAside.is))
+    ∙ ap (extended _) (sym (outcome_text_set_aside _ _ c.in-Err.is))
 
-returns-2 : tie.Need-returns-in-Counted
-returns-2 c = c.say_entry.ensures ∙ ap (extended _) (sym (ap (outcome_text _) c.in-Counted.is))
+returns-2 : tie.Need-returns-in-Ok
+returns-2 c = c.say_entry.ensures ∙ ap (extended _) (sym (ap (outcome_text _) c.in-Ok.is))
 
 pub say_outcome_spec : {M : Type 1} → statement M
 say_outcome_spec =

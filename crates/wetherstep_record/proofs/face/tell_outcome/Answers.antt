@@ -4,12 +4,12 @@ use Rattle.rules.specs.Reader.{shown}
 use Rattle.wetherstep_record.proofs.FaceLaws.{record_word_aside, masses_after_aside, masses_after-counted}
 use Rattle.wetherstep_record.proofs.face.tell_outcome.Goals as goal
 
-pub returns-in-SetAside-clause-word : goal.returns-in-SetAside-clause-word
-returns-in-SetAside-clause-word c = record_word_aside (ap shown c.in-SetAside.is) c.pack.ensures.word
+pub returns-in-Err-clause-word : goal.returns-in-Err-clause-word
+returns-in-Err-clause-word c = record_word_aside (ap shown c.in-Err.is) c.pack.ensures.word
 
-pub returns-in-SetAside-clause-masses : goal.returns-in-SetAside-clause-masses
-returns-in-SetAside-clause-masses c = sym (masses_after_aside (ap shown c.in-SetAside.is) _)
+pub returns-in-Err-clause-masses : goal.returns-in-Err-clause-masses
+returns-in-Err-clause-masses c = sym (masses_after_aside (ap shown c.in-Err.is) _)
 
-pub returns-in-Counted-clause-masses : goal.returns-in-Counted-clause-masses
-returns-in-Counted-clause-masses c =
-    c.tell_counted.ensures.masses ∙ sym (masses_after-counted (ap shown c.in-Counted.is) _)
+pub returns-in-Ok-clause-masses : goal.returns-in-Ok-clause-masses
+returns-in-Ok-clause-masses c =
+    c.tell_counted.ensures.masses ∙ sym (masses_after-counted (ap shown c.in-Ok.is) _)
