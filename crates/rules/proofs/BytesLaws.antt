@@ -15,13 +15,6 @@ module _ (s : List ℕ) (at n : ℕ) where
   unfolding word
   word_none = let none : n - n ≡ 0 = omega arith in rw none (refl, lit< tt)
 
-  pub word-all : (v i : ℕ) → i ≡ 0 → v ≡ word s (at + i) (n - i) → v < 256 ^ (n - i) →
-      (v ≡ word s at n) × (v < 256 ^ n)
-  word-all v i z e l =
-      let start : at + i ≡ at = omega arith in
-      let length : n - i ≡ n = omega arith in
-      (e ∙ ap₂ (word s) start length, subst (λ (k : ℕ). v < 256 ^ k) length l)
-
   module _ (i : ℕ) (some : 0 < i) (left : i ≤ n) where
     longer : word s (at + (i - 1)) (n - (i - 1)) ≡ byte s (at + (i - 1)) + 256 * word s (at + i) (n - i)
     unfolding word

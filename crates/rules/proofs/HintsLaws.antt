@@ -1,13 +1,8 @@
--- Hints keep their room, and a line more is a hint more. Assumes nothing.
-use Rattle.std.proofs.Common.{◌≡◌, ℕ, zero, suc, ◌+◌, ◌/◌, ◌%◌, List, length, set, sym, refl, ap, ◌∙◌, ap₂, add-one, length-set}
+-- A line more is a hint more. Assumes nothing.
+use Rattle.std.proofs.Common.{◌≡◌, ℕ, ◌+◌, ◌/◌, ◌%◌, List, length, set, sym, refl, ap, ◌∙◌, ap₂, add-one}
 use Rattle.rules.specs.Bytes.{line}
 use Rattle.rules.specs.Fields.{number}
 use Rattle.rules.specs.Hints.{hinted, hints_in}
-
-pub length-hinted : (n : ℕ) (s t : List ℕ) → length (hinted n s t) ≡ length t
-unfolding hinted
-length-hinted zero s t = refl
-length-hinted (suc n) s t = length-set (hinted n s t) (number (line n s) % 1024) n ∙ length-hinted n s t
 
 pub hinted-zero : (s t : List ℕ) → t ≡ hinted 0 s t
 unfolding hinted

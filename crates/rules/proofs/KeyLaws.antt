@@ -1,6 +1,7 @@
 -- A key tells kind, unit and period, and a mask makes it of a record's first eight bytes; what stands among
 -- lines is found by a scan for a key. Assumes nothing.
 use Rattle.std.proofs.Common.{◌≡◌, ℕ, zero, suc, ◌+◌, ◌-◌, ◌*◌, ◌<◌, ◌≤◌, Bool, true, false, ◌||◌, eqb, List, take, drop, sym, refl, ap, ◌∙◌, ap₂, suc-add, zero-add, arith, lit<, drop-drop, eq-eqb, ne_eqb}
+use Rattle.std.specs.List.{list_any, range_with_len}
 use lib.Bits.{bit_and, and_block, and_mask, and_zero_r}
 use Rattle.choice.specs.Tests.{◌either◌}
 use Rattle.choice.proofs.Splitting.{if_test, if_eq}
@@ -9,7 +10,7 @@ use Rattle.rules.specs.Bytes.{line, lines}
 use Rattle.rules.specs.Fields.{kind, flags, unit_number, fuel_number, period}
 use Rattle.rules.specs.Repeat.{is_of, stands, stands_among}
 use Rattle.rules.specs.Key.{key, Start, Keyed, stands_in}
-use Rattle.rules.proofs.BytesLaws.{line-take, lines_start, lines_end}
+use Rattle.rules.proofs.BytesLaws.{line-take, lines_start}
 use Rattle.rules.proofs.RepeatLaws.{is_of_is, is_is_of}
 
 masked : (k g u f w : ℕ) → k < 256 → g < 256 → u < 65536 → f < 65536 → w < 65536
@@ -119,14 +120,20 @@ module _ (l : List ℕ) where
       ∙ ap (is_of (kind l) (unit_number l) (period l)) (line-take j s)
       ∙ sym (either_none _)
 
+  -- The code's test of each of n lines.
+  pub stands_in-any : (j n : ℕ) (s : List ℕ) → list_any (λ i. stands_in l i 1 s) (range_with_len j n) ≡ stands_in l j n s
+  unfolding stands_among stands lines
+  stands_in-any j zero s = refl
+  stands_in-any j (suc n) s =
+      let more : 1 + n ≡ suc n = omega arith in
+      any refl (stands_in-any (j + 1) n s)
+      ∙ sym (stands_in-add j 1 n s)
+      ∙ ap (λ (k : ℕ). stands_in l j k s) more
+
 -- What is left of the first n lines of s, from line j on.
 module _ (l s : List ℕ) (n : ℕ) where
   pub scan_start : stands_among l (lines n s) ≡ stands_in l 0 (n - 0) s
   scan_start = ap (stands_among l) (lines_start n s)
-
-  pub scan_end : (j : ℕ) → n ≤ j → stands_in l j (n - j) s ≡ false
-  unfolding stands_among stands
-  scan_end j h = ap (stands_among l) (lines_end n j (drop (32 * j) s) h)
 
   module _ (j m : ℕ) {r : Bool} (h : j + m ≤ n) (e : r ≡ stands_in l j m s) where
     left : stands_in l j (n - j) s ≡ (r either stands_in l (j + m) (n - (j + m)) s)

@@ -28,9 +28,7 @@ fn read_bytes(s: &[u8], at: usize, n: usize) -> u64
     ensures value { (result ≡ spec.word s.now at n) × (result < 256 ^ n) }
 {
     let mut v: u64 = 0;
-    let mut i = n;
-    while 0 < i {
-        i -= 1;
+    for i in (0..n).rev() {
         v = v * 256 + widen(s[at + i]);
     }
     v
@@ -77,10 +75,8 @@ pub fn are_zero(s: &[u8], from: usize, to: usize) -> bool
 {
     let start = from + (to - from) % 8;
     let mut seen = gather_few(s, from, start);
-    let mut at = start;
-    while at < to {
-        seen = seen | read_word(s, at, 8);
-        at += 8;
+    for at in (start..to).step_by(8) {
+        seen |= read_word(s, at, 8);
     }
     seen == 0
 }

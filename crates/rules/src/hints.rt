@@ -38,11 +38,8 @@ fn note(s: &[u8], places: &mut [u8])
     requires room { 1024 ≤ length places.old }
     ensures noted { places.new ≡ hints_in s.now places.old }
 {
-    let n = s.len() / 32;
-    let mut i = 0;
-    while i < n {
+    for i in 0..s.len() / 32 {
         let last = (listed::number(bytes::take_line(s, i)) % 1024) as usize;
         places[last] = i as u8;
-        i += 1;
     }
 }

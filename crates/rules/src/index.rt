@@ -48,9 +48,7 @@ fn note_unit_lines(s: &[u8], units: &mut [u32; 256], hints: &mut [u8; 1024])
     requires blank { (units.old ≡ replicate 256 no_number) × (hints.old ≡ replicate 1024 0) }
     ensures noted { UnitsNoted s.now units.new × Small hints.new }
 {
-    let n = s.len() / 32;
-    let mut j = 0;
-    while j < n {
+    for j in 0..s.len() / 32 {
         let u = bytes::take_line(s, j);
         let number = listed::number(u);
         hints[(number % 1024) as usize] = j as u8;
@@ -58,7 +56,6 @@ fn note_unit_lines(s: &[u8], units: &mut [u32; 256], hints: &mut [u8; 1024])
         units[COLUMNS + j] = find_column(u);
         units[WAYS + j] = find_way(u);
         units[MOIST + j] = find_moist(u);
-        j += 1;
     }
 }
 
@@ -118,9 +115,7 @@ fn note_fuel_lines(s: &[u8], fuels: &mut [u32; 320], hints: &mut [u8; 1024])
     requires blank { (fuels.old ≡ replicate 320 no_number) × (hints.old ≡ replicate 1024 0) }
     ensures noted { FuelsNoted s.now fuels.new × Small hints.new }
 {
-    let n = s.len() / 32;
-    let mut j = 0;
-    while j < n {
+    for j in 0..s.len() / 32 {
         let f = bytes::take_line(s, j);
         let number = listed::number(f);
         hints[(number % 1024) as usize] = j as u8;
@@ -129,7 +124,6 @@ fn note_fuel_lines(s: &[u8], fuels: &mut [u32; 320], hints: &mut [u8; 1024])
         fuels[ALLOWED + j] = find_allowed(f);
         fuels[CARBON + j] = range::find_carbon_limit(f);
         fuels[VOLUMES + j] = find_volume(f);
-        j += 1;
     }
 }
 

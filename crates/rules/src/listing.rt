@@ -26,8 +26,7 @@ pub(crate) fn are_sound(s: &[u8], sort: Sort) -> bool
     }
     let mut ok = true;
     let mut before: u64 = 0;
-    let mut i = 0;
-    'lines: while i < n {
+    'lines: for i in 0..n {
         let l = bytes::take_line(s, i);
         let number = listed::number(l);
         if number <= before {
@@ -43,7 +42,6 @@ pub(crate) fn are_sound(s: &[u8], sort: Sort) -> bool
             break 'lines;
         }
         before = number;
-        i += 1;
     }
     ok
 }

@@ -63,14 +63,13 @@ fn does_stand(book: &[u8], i: usize) -> bool
     ensures stands { result ≡ stands_among (line i book.now) (lines i book.now) }
 {
     let key = read_key(bytes::take_line(book, i));
-    let mut j = 0;
-    while j + 4 <= i {
+    let fours = i - i % 4;
+    for j in (0..fours).step_by(4) {
         if is_one_of_four(book, j, key) {
             return true;
         }
-        j += 4;
     }
-    is_one_of(book, j, i, key)
+    is_one_of(book, fours, i, key)
 }
 
 // Whether one of the four records from j on has this key.
@@ -90,14 +89,7 @@ fn is_one_of(book: &[u8], from: usize, to: usize, key: u64) -> bool
     requires there { to ≤ length book.now / 32 }
     ensures one { (l : List ℕ) → Keyed l key → result ≡ stands_in l from (to - from) book.now }
 {
-    let mut j = from;
-    while j < to {
-        if has_key(book, j, key) {
-            return true;
-        }
-        j += 1;
-    }
-    false
+    (from..to).any(|j| has_key(book, j, key))
 }
 
 fn has_key(book: &[u8], j: usize, key: u64) -> bool

@@ -54,10 +54,8 @@ fn note_lines(book: &[u8], n: usize, units: &[u8], hints: &[u8], table: &mut [u6
     requires table { spec.is_table units.now table.old ≡ true }
     ensures noted { table.new ≡ spec.noted_all (lines n book.now) units.now table.old }
 {
-    let mut i = 0;
-    while i < n {
+    for i in 0..n {
         note_line(bytes::take_line(book, i), units, hints, table);
-        i += 1;
     }
 }
 

@@ -1,0 +1,7 @@
+-- After j turns the columns hold the first j lines, and a hint is the place of one of these few.
+use Rattle.rules.specs.Index.{Small}
+use Rattle.rules.proofs.IndexLaws.{Columns, fuel_columns}
+use Rattle.rules.proofs.index.note_fuel_lines.Given as goal
+
+abbrev pub invariant-loop-j : goal.invariant-loop-j
+invariant-loop-j l = record { columns : Columns l.s l.j l.fuels fuel_columns 0; hints : Small l.hints }

@@ -1,0 +1,29 @@
+use Rattle.std.proofs.Common.{◌<◌, arith, lit≤}
+use Rattle.rules.proofs.IndexLaws.{unit_columns, columns-blank, unit_columns_next, units_noted_all, small-blank, small-set, number-line-lt}
+use Rattle.rules.proofs.index.note_unit_lines.Goals as goal
+
+pub loop-j-init : goal.loop-j-init
+loop-j-init c =
+    let blank = c.requires.blank in
+    record { columns = columns-blank unit_columns _ 0 256 (lit≤ tt) blank.0; hints = small-blank blank.1 }
+
+pub overflow_cast-units : goal.overflow_cast-units
+overflow_cast-units c =
+    let below = number-line-lt c.args.s.now c.loop-j.j (λ i. (c.type_inv.s i).fits) c.take_line-u.ensures.line.0 c.number-number.ensures.field in
+    omega arith
+
+pub loop-j-preserved : goal.loop-j-preserved
+loop-j-preserved c =
+    let few : c.loop-j.j < 64 = omega (arith, c.requires.rising.few) in
+    let inv = c.loop-j.invariant in
+    record {
+      columns = unit_columns_next few inv.columns c.take_line-u.ensures.line.0
+          c.number-number.ensures.field
+          c.find_column.ensures.column
+          c.find_way.ensures.way
+          c.find_moist.ensures.below;
+      hints = small-set _ inv.hints few;
+    }
+
+pub returns : goal.returns
+returns c = record { noted = (units_noted_all (omega arith) c.loop-j.invariant.columns, c.loop-j.invariant.hints) }
