@@ -22,9 +22,6 @@ most_each = tonnes_each * (tonne / 1000)
 pub heat_product_le : {a h x : ℕ} → HeatInReach a h x → a * h * x ≤ most_each
 heat_product_le r = mul-le-mul (mul-le-mul r.amount_le r.heat_le) r.factor_le
 
-pub heat_le : {a h x : ℕ} → HeatInReach a h x → a * h ≤ 20000000000000
-heat_le r = mul-le-mul r.amount_le r.heat_le
-
 pub carbon_le : {a c : ℕ} → CarbonInReach a c → a * c ≤ 400000000000000
 carbon_le r = mul-le-mul r.amount_le r.carbon_le
 
