@@ -11,7 +11,6 @@ use crate::{Got, copy, path, real, save};
 use job::checkpoint;
 use job::reply::{Refusal, Started, Woken};
 use rules::book;
-use rules::book::Opened;
 use std::io::ErrorKind;
 use std::random::RandomSource;
 use std::rt::Files;
@@ -64,8 +63,8 @@ pub fn find_due<R: Files + Alloc + Complain>(
     ensures due { DueOf result book.now anew }
 {
     match book::open(book) {
-        Opened::Wrong(fault) => Due::Refused(Refusal::Book(fault)),
-        Opened::Open(_h) => {
+        Err(fault) => Due::Refused(Refusal::Book(fault)),
+        Ok(_h) => {
             if real::is_apart(rt, whose, path, real) {
                 return decide(copy::compare(rt, whose, path, book, real), anew);
             }

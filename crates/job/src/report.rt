@@ -17,14 +17,14 @@ use mass::figures;
 use mass::figures::Warming;
 use mass::ledger::Ledgers;
 use rules::book;
-use rules::book::{Head, Opened};
+use rules::book::Head;
 
 pub fn report(book: &[u8], from: &[u8]) -> Reported
     ensures reply { reported result ≡ report_reply book.now from.now }
 {
     match book::open(book) {
-        Opened::Wrong(fault) => Reported::NotReported(Refusal::Book(fault)),
-        Opened::Open(h) => report_open(h, from),
+        Err(fault) => Reported::NotReported(Refusal::Book(fault)),
+        Ok(h) => report_open(h, from),
     }
 }
 
@@ -82,8 +82,8 @@ pub fn count_left(book: &[u8], from: &[u8]) -> Remaining
     ensures reply { remaining result ≡ left_reply book.now from.now }
 {
     match book::open(book) {
-        Opened::Wrong(fault) => Remaining::Unknown(Refusal::Book(fault)),
-        Opened::Open(h) => count_left_open(h, from),
+        Err(fault) => Remaining::Unknown(Refusal::Book(fault)),
+        Ok(h) => count_left_open(h, from),
     }
 }
 

@@ -8,7 +8,7 @@ use crate::admission::Admission;
 use crate::reply::{Refusal, Started, Woken};
 use crate::{admission, checkpoint, ledgers, run};
 use rules::book;
-use rules::book::{Head, Opened};
+use rules::book::Head;
 
 // A checkpoint of the book with nothing done.
 pub fn fresh(book: &[u8], out: &mut [u8]) -> Started
@@ -16,8 +16,8 @@ pub fn fresh(book: &[u8], out: &mut [u8]) -> Started
     ensures bytes { out.new ≡ fresh_bytes book.now out.old }
 {
     match book::open(book) {
-        Opened::Wrong(fault) => Started::NotStarted(Refusal::Book(fault)),
-        Opened::Open(h) => fresh_open(book, h, out),
+        Err(fault) => Started::NotStarted(Refusal::Book(fault)),
+        Ok(h) => fresh_open(book, h, out),
     }
 }
 
@@ -42,8 +42,8 @@ pub fn wake(book: &[u8], from: &[u8], budget: u32, out: &mut [u8]) -> Woken
     ensures bytes { out.new ≡ wake_bytes book.now from.now budget out.old }
 {
     match book::open(book) {
-        Opened::Wrong(fault) => Woken::NotWoken(Refusal::Book(fault)),
-        Opened::Open(h) => wake_open(book, h, from, budget, out),
+        Err(fault) => Woken::NotWoken(Refusal::Book(fault)),
+        Ok(h) => wake_open(book, h, from, budget, out),
     }
 }
 

@@ -1,11 +1,9 @@
 -- A trailer that is right, the answer by the first test that fails, and what is known of a book that is
 -- accepted. Assumes nothing.
-use Rattle.std.proofs.Common.{◌≡◌, ℕ, ◌-◌, ◌*◌, ◌/◌, ◌%◌, ◌≤◌, true, false, eqb, List, length, sym, refl, ap, ◌∙◌, subst, arith, eqb-true, leb-true}
+use Rattle.std.proofs.Common.{◌≡◌, ℕ, ◌-◌, ◌*◌, ◌/◌, ◌%◌, ◌≤◌, true, false, eqb, List, length, sym, refl, ap, ◌∙◌, subst, arith, eqb-true, leb-true, Result, Ok, Err}
 use Rattle.choice.specs.Tests.{choose}
 use Rattle.choice.proofs.TestsLaws.{also_l, also_r, choose_t, choose_f, worked-out}
 use Rattle.rules.specs.declared.book.Head.{Head}
-use Rattle.rules.specs.declared.book.Opened.{Opened}
-use Rattle.rules.specs.declared.book.Opened.TheVariants.{Wrong, Open}
 use Rattle.rules.specs.declared.book.Fault.{Fault}
 use Rattle.rules.specs.declared.book.Fault.TheVariants.{Length, Trailer, Units, Fuels}
 use Rattle.rules.specs.Bytes.{part}
@@ -48,32 +46,32 @@ trailer_ok→right t e h =
 
 -- ---- answers
 -- What `open` gave, from the answer that it stands for.
-gave : Answer → Opened
+gave : Answer → Result Head Fault
 gave (refused n) =
-    choose (eqb n 20) (Wrong Length)
-    (choose (eqb n 21) (Wrong Trailer)
-    (choose (eqb n 22) (Wrong Units)
-    (Wrong Fuels)))
-gave (accepted h) = Open h
+    choose (eqb n 20) (Err Length)
+    (choose (eqb n 21) (Err Trailer)
+    (choose (eqb n 22) (Err Units)
+    (Err Fuels)))
+gave (accepted h) = Ok h
 
-gave_answer : (o : Opened) → gave (answer o) ≡ o
+gave_answer : (o : Result Head Fault) → gave (answer o) ≡ o
 unfolding gave answer
-gave_answer (Wrong Length) = simp worked-out
-gave_answer (Wrong Trailer) = simp worked-out
-gave_answer (Wrong Units) = simp worked-out
-gave_answer (Wrong Fuels) = simp worked-out
-gave_answer (Open h) = refl
+gave_answer (Err Length) = simp worked-out
+gave_answer (Err Trailer) = simp worked-out
+gave_answer (Err Units) = simp worked-out
+gave_answer (Err Fuels) = simp worked-out
+gave_answer (Ok h) = refl
 
-pub answer_inj : (o p : Opened) → answer o ≡ answer p → o ≡ p
+pub answer_inj : (o p : Result Head Fault) → answer o ≡ answer p → o ≡ p
 answer_inj o p e = sym (gave_answer o) ∙ ap gave e ∙ gave_answer p
 
 -- The answer by the first test that fails.
-pub opened-length : (s : List ℕ) → length_ok s ≡ false → answer (Wrong Length) ≡ opened s
+pub opened-length : (s : List ℕ) → length_ok s ≡ false → answer (Err Length) ≡ opened s
 unfolding opened answer
 opened-length s h = sym (choose_f _ h refl)
 
 pub opened-trailer : (s : List ℕ) → length_ok s ≡ true → trailer_ok (trailer s) (length s - 32) ≡ false
-    → answer (Wrong Trailer) ≡ opened s
+    → answer (Err Trailer) ≡ opened s
 unfolding opened answer
 opened-trailer s l h = sym (choose_t _ l (choose_f _ h refl))
 
@@ -98,12 +96,12 @@ module _ {s : List ℕ} {units fuels : ℕ} (d : Headed s units fuels) where
   unfolding head_of
   fuels_told = sym (λ i. lines_sound fuel_ok (part (d.fuels_is i) (length s - 32) s))
 
-  pub opened-units : lines_sound unit_ok (part units fuels s) ≡ false → answer (Wrong Units) ≡ opened s
+  pub opened-units : lines_sound unit_ok (part units fuels s) ≡ false → answer (Err Units) ≡ opened s
   unfolding opened answer
   opened-units u = sym (choose_t _ d.length_right (choose_t _ d.trailer_right (choose_f _ (units-told ∙ u) refl)))
 
   module _ (u : lines_sound unit_ok (part units fuels s) ≡ true) where
-    pub opened_fuels : lines_sound fuel_ok (part fuels (length s - 32) s) ≡ false → answer (Wrong Fuels) ≡ opened s
+    pub opened_fuels : lines_sound fuel_ok (part fuels (length s - 32) s) ≡ false → answer (Err Fuels) ≡ opened s
     unfolding opened answer
     opened_fuels f =
         sym (choose_t _ d.length_right (choose_t _ d.trailer_right
@@ -111,7 +109,7 @@ module _ {s : List ℕ} {units fuels : ℕ} (d : Headed s units fuels) where
 
     pub opened-sound : (y w : ℕ) → lines_sound fuel_ok (part fuels (length s - 32) s) ≡ true → y ≡ year (trailer s)
         → w ≡ warming_set (trailer s)
-        → answer (Open (record { n = units / 32; units = units; fuels = fuels; year = y; length = length s; warming = w })) ≡ opened s
+        → answer (Ok (record { n = units / 32; units = units; fuels = fuels; year = y; length = length s; warming = w })) ≡ opened s
     unfolding opened answer head_of
     opened-sound y w f e v =
         (λ i. let at = d.units_is i in
@@ -119,12 +117,12 @@ module _ {s : List ℕ} {units fuels : ℕ} (d : Headed s units fuels) where
         ∙ sym (choose_t _ d.length_right (choose_t _ d.trailer_right
         (choose_t _ (units-told ∙ u) (choose_t _ (fuels_told ∙ f) refl))))
 
-pub opened_open : {o : Opened} {h : Head} (s : List ℕ) → answer o ≡ opened s → o ≡ Open h
+pub opened_open : {o : Result Head Fault} {h : Head} (s : List ℕ) → answer o ≡ opened s → o ≡ Ok h
     → opened s ≡ accepted h
 unfolding answer
 opened_open s e q = sym e ∙ ap answer q
 
-pub opened_wrong : {o : Opened} {x : Fault} (s : List ℕ) → answer o ≡ opened s → o ≡ Wrong x
+pub opened_wrong : {o : Result Head Fault} {x : Fault} (s : List ℕ) → answer o ≡ opened s → o ≡ Err x
     → opened s ≡ refused (fault_number x)
 unfolding answer
 opened_wrong s e q = sym e ∙ ap answer q

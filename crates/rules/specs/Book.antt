@@ -19,11 +19,9 @@
 --     SetApart s s'              s and s' differ at most in the set of warming values that they name
 --
 -- Laws: proofs/BookLaws.antt, proofs/ApartLaws.antt. Definitions only.
-use Rattle.std.specs.Prelude.{◌≡◌, ℕ, ◌+◌, ◌-◌, ◌/◌, ◌%◌, Bool, true, not, nat_le, List, [], ◌∷◌, length, ◌==◌, ◌≢◌, nat_eq, nat_lt}
+use Rattle.std.specs.Prelude.{◌≡◌, ℕ, ◌+◌, ◌-◌, ◌/◌, ◌%◌, Bool, true, not, nat_le, List, [], ◌∷◌, length, ◌==◌, ◌≢◌, nat_eq, nat_lt, Result, Ok, Err}
 use Rattle.choice.specs.Tests.{◌also◌, ◌either◌, choose}
 use Rattle.rules.specs.declared.book.Head.{Head}
-use Rattle.rules.specs.declared.book.Opened.{Opened}
-use Rattle.rules.specs.declared.book.Opened.TheVariants.{Wrong, Open}
 use Rattle.rules.specs.declared.book.Fault.{Fault}
 use Rattle.rules.specs.declared.book.Fault.TheVariants.{Length, Trailer, Units, Fuels}
 use Rattle.rules.specs.Bytes.{byte, part, lines_in}
@@ -141,9 +139,9 @@ fault_number Trailer = 21
 fault_number Units = 22
 fault_number Fuels = 23
 
-unfoldable pub answer : Opened → Answer
-answer (Wrong x) = refused (fault_number x)
-answer (Open h) = accepted h
+unfoldable pub answer : Result Head Fault → Answer
+answer (Err x) = refused (fault_number x)
+answer (Ok h) = accepted h
 
 pub record SetApart (s s' : List ℕ) : Type 0 where
   pub lengths : length s ≡ length s'

@@ -20,14 +20,7 @@ pub struct Head {
     pub warming: u8,
 }
 
-#[derive(Clone, Copy)]
-pub enum Opened {
-    // The first rule that the bytes break.
-    Wrong(Fault),
-    // The book is sound.
-    Open(Head),
-}
-
+// The first rule that the bytes of a book break.
 #[derive(Clone, Copy)]
 pub enum Fault {
     // 20: the length isn't a multiple of 32, or out of its range.
@@ -55,31 +48,31 @@ pub fn number_fault(x: Fault) -> u8
 // The most bytes that a book has.
 pub const LONGEST_BOOK: usize = 4194304;
 
-// Whether the bytes are a sound book, and if not, the first rule that they break.
-pub fn open(s: &[u8]) -> Opened
+// The head of a sound book, or the first rule that the bytes break.
+pub fn open(s: &[u8]) -> Result<Head, Fault>
     ensures answered { answer result ≡ opened s.now }
 {
     if !is_length_right(s) {
-        return Opened::Wrong(Fault::Length);
+        return Err(Fault::Length);
     }
     let length = s.len();
     let end = length - 32;
     let t = &s[end..];
     if !is_trailer_right(t, end) {
-        return Opened::Wrong(Fault::Trailer);
+        return Err(Fault::Trailer);
     }
     let units = trailer::unit_start(t);
     let fuels = trailer::fuel_start(t);
     if !listing::are_sound(&s[units..fuels], Sort::Unit) {
-        return Opened::Wrong(Fault::Units);
+        return Err(Fault::Units);
     }
     if !listing::are_sound(&s[fuels..end], Sort::Fuel) {
-        return Opened::Wrong(Fault::Fuels);
+        return Err(Fault::Fuels);
     }
     let n = units / 32;
     let year = trailer::year(t);
     let warming = trailer::warming_set(t);
-    Opened::Open(Head {
+    Ok(Head {
         n,
         units,
         fuels,

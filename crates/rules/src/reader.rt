@@ -4,7 +4,7 @@ ghost use Rattle.rules.specs.Book.{opened, accepted};
 ghost use Rattle.rules.specs.Reader.{sight_by, sight_at, sight, kind_at, left_from, place_after, advanced};
 ghost use Rattle.rules.specs.Table.{noting_by, noting_at, KnownAt};
 
-use crate::book::{Fault, Head, Opened};
+use crate::book::{Fault, Head};
 use crate::record::Outcome;
 use crate::{book, bytes, field, record};
 
@@ -50,8 +50,8 @@ pub fn look(book: &[u8], i: usize) -> Seen
     ensures shown { sight result ≡ sight_at book.now i }
 {
     match book::open(book) {
-        Opened::Wrong(fault) => Seen::Refused(fault),
-        Opened::Open(h) => look_in(book, h, i),
+        Err(fault) => Seen::Refused(fault),
+        Ok(h) => look_in(book, h, i),
     }
 }
 
@@ -73,8 +73,8 @@ fn look_noted(book: &[u8], i: usize, table: &mut [u64]) -> Seen
     ensures noted { table.new ≡ noting_at book.now i table.old }
 {
     match book::open(book) {
-        Opened::Wrong(fault) => Seen::Refused(fault),
-        Opened::Open(h) => look_noted_in(book, h, i, table),
+        Err(fault) => Seen::Refused(fault),
+        Ok(h) => look_noted_in(book, h, i, table),
     }
 }
 
@@ -105,8 +105,8 @@ pub(crate) fn count_from(book: &[u8], i: usize) -> usize
     ensures left { result ≡ left_from book.now i }
 {
     match book::open(book) {
-        Opened::Wrong(_) => 0,
-        Opened::Open(h) => count_between(i, h.n),
+        Err(_) => 0,
+        Ok(h) => count_between(i, h.n),
     }
 }
 

@@ -10,7 +10,7 @@ use crate::page::Page;
 use crate::{number, page, report};
 use job::reply::{Refusal, Reported};
 use rules::book;
-use rules::book::{Head, Opened};
+use rules::book::Head;
 
 // How far a wake went that saved a checkpoint and, once the book is finished, its report.
 pub fn tell_progress(book: &[u8], saved: &[u8], moved: u32) -> Page
@@ -31,8 +31,8 @@ fn tell(gap: &[u8], book: &[u8], saved: &[u8], moved: u32) -> Page
     ensures text { result ≡ page_of (progress_with gap.now book.now saved.now moved) }
 {
     match book::open(book) {
-        Opened::Wrong(fault) => report::refuse_book(fault),
-        Opened::Open(h) => tell_open(gap, book, h, saved, moved),
+        Err(fault) => report::refuse_book(fault),
+        Ok(h) => tell_open(gap, book, h, saved, moved),
     }
 }
 

@@ -13,7 +13,7 @@ use job::reply::{Refusal, Reported};
 use job::{checkpoint, reply};
 use mass::figures::Figures;
 use rules::book;
-use rules::book::{Fault, Head, Opened};
+use rules::book::{Fault, Head};
 
 // The most bytes of a book that `annual` takes, which is less than a book may have.
 pub const ANNUAL_MOST: usize = 65536;
@@ -36,8 +36,8 @@ fn tell_year(book: &[u8]) -> Page
     ensures text { result ≡ page_of (year_text book.now) }
 {
     match book::open(book) {
-        Opened::Wrong(fault) => refuse_book(fault),
-        Opened::Open(h) => tell_open(book, h),
+        Err(fault) => refuse_book(fault),
+        Ok(h) => tell_open(book, h),
     }
 }
 

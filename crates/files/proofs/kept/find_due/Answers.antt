@@ -5,12 +5,12 @@ use Rattle.files.proofs.kept.find_due.Goals as goal
 
 pub returns-then-is_apart : goal.returns-then-is_apart
 returns-then-is_apart g c =
-    let opens = opened_open _ c.open.ensures.answered c.in-Open.is in
+    let opens = opened_open _ c.open.ensures.answered c.in-Ok.is in
     record { due = rw c.decide.ensures.due (due_of_due _ _ _ (record { head = _; opens = opens })) }
 
-pub returns-in-Wrong : goal.returns-in-Wrong
-returns-in-Wrong g c = record { due = opened_wrong _ c.open.ensures.answered c.in-Wrong.is }
+pub returns-in-Err : goal.returns-in-Err
+returns-in-Err g c = record { due = opened_wrong _ c.open.ensures.answered c.in-Err.is }
 
 pub returns-else-is_apart : goal.returns-else-is_apart
 returns-else-is_apart g c =
-    record { due = record { head = _; opens = opened_open _ c.open.ensures.answered c.in-Open.is } }
+    record { due = record { head = _; opens = opened_open _ c.open.ensures.answered c.in-Ok.is } }

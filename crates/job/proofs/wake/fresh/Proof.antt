@@ -11,12 +11,12 @@ use Rattle.job.proofs.wake.fresh.Tie as tie
 fresh-open-requires : tie.Need-fresh_open-requires
 fresh-open-requires c κs =
     let told = c in
-    opened_open _ told.«open».ensures told.in-Open.is
+    opened_open _ told.«open».ensures told.in-Ok.is
 
-returns : tie.Need-returns-in-Wrong
+returns : tie.Need-returns-in-Err
 unfolding started fresh_reply fresh_bytes
 returns c =
-    let e = opened_wrong _ c.«open».ensures c.in-Wrong.is in
+    let e = opened_wrong _ c.«open».ensures c.in-Err.is in
     (sym (fresh_admitted_book _ _ _ _ e), sym (fresh_admitted_book _ _ _ _ e))
 
 pub fresh_spec : {M : Type 1} → statement M

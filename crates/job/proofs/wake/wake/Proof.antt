@@ -11,12 +11,12 @@ use Rattle.job.proofs.wake.wake.Tie as tie
 wake-open-requires : tie.Need-wake_open-requires
 wake-open-requires c κs =
     let told = c in
-    opened_open _ told.«open».ensures told.in-Open.is
+    opened_open _ told.«open».ensures told.in-Ok.is
 
-returns : tie.Need-returns-in-Wrong
+returns : tie.Need-returns-in-Err
 unfolding woken wake_reply wake_bytes
 returns c =
-    let e = opened_wrong _ c.«open».ensures c.in-Wrong.is in
+    let e = opened_wrong _ c.«open».ensures c.in-Err.is in
     (sym (wake_admitted_book _ _ _ _ _ e), sym (wake_admitted_book _ _ _ _ _ e))
 
 pub wake_spec : {M : Type 1} → statement M

@@ -19,19 +19,19 @@ enum-known-h c = search rules
 count-between-requires : tie.Need-count_between-requires
 count-between-requires c κs = search rules
 
-returns : tie.Need-returns-in-Wrong
+returns : tie.Need-returns-in-Err
 unfolding left_from left_by answer
 returns c =
     let a = c.args in
-    let answered = sym c.«open».ensures ∙ ap answer c.in-Wrong.is in
+    let answered = sym c.«open».ensures ∙ ap answer c.in-Err.is in
     sym (ap (λ (x : Answer). left_by x a.i) answered)
 
-returns-2 : tie.Need-returns-in-Open
+returns-2 : tie.Need-returns-in-Ok
 unfolding left_from left_by
 returns-2 c =
     let a = c.args in
     let heard = c.«open».ensures in
-    let answered = opened_open _ heard c.in-Open.is in
+    let answered = opened_open _ heard c.in-Ok.is in
     c.count_between.ensures ∙ sym (ap (λ (x : Answer). left_by x a.i) answered)
 
 pub count_from_spec : {M : Type 1} → statement M

@@ -16,21 +16,21 @@ enum-known-h : tie.Need-enum_known-h
 enum-known-h c = search rules
 
 look-in-requires : tie.Need-look_in-requires
-look-in-requires c κs = opened_open _ c.«open».ensures c.in-Open.is
+look-in-requires c κs = opened_open _ c.«open».ensures c.in-Ok.is
 
-returns : tie.Need-returns-in-Wrong
+returns : tie.Need-returns-in-Err
 unfolding sight_at sight_by sight answer
 returns c =
     let a = c.args in
-    let answered = sym c.«open».ensures ∙ ap answer c.in-Wrong.is in
+    let answered = sym c.«open».ensures ∙ ap answer c.in-Err.is in
     sym (ap (λ (x : Answer). sight_by x a.book.now a.i) answered)
 
-returns-2 : tie.Need-returns-in-Open
+returns-2 : tie.Need-returns-in-Ok
 unfolding sight_at
 returns-2 c =
     let told = c in
     let a = told.args in
-    let answered = opened_open _ told.«open».ensures told.in-Open.is in
+    let answered = opened_open _ told.«open».ensures told.in-Ok.is in
     c.look_in.ensures ∙ sym (ap (λ (x : Answer). sight_by x a.book.now a.i) answered)
 
 pub look_spec : {M : Type 1} → statement M

@@ -19,15 +19,15 @@ enum-known-h c = search rules
 look-noted-in-requires : tie.Need-look_noted_in-requires
 look-noted-in-requires c κs =
     let told = c in (
-      opened_open _ told.«open».ensures told.in-Open.is,
+      opened_open _ told.«open».ensures told.in-Ok.is,
       told.requires,
     )
 
-returns : tie.Need-returns-in-Wrong
+returns : tie.Need-returns-in-Err
 unfolding sight_at sight_by sight noting_at noting_by answer
 returns c =
     let a = c.args in
-    let answered = sym c.«open».ensures ∙ ap answer c.in-Wrong.is in (
+    let answered = sym c.«open».ensures ∙ ap answer c.in-Err.is in (
       sym (ap (λ (x : Answer). sight_by x a.book.now a.i) answered),
       sym (ap (λ (x : Answer). noting_by x a.book.now a.i a.table.now) answered),
     )
@@ -35,13 +35,13 @@ returns c =
 same_length : tie.Need-shape_of-table
 same_length c = search rules
 
-returns-2 : tie.Need-returns-in-Open
+returns-2 : tie.Need-returns-in-Ok
 unfolding sight_at noting_at
 returns-2 c =
     let looked = c in
     let told = looked in
     let a = told.args in
-    let answered = opened_open _ told.«open».ensures told.in-Open.is in (
+    let answered = opened_open _ told.«open».ensures told.in-Ok.is in (
       looked.look_noted_in.ensures.0 ∙ sym (ap (λ (x : Answer). sight_by x a.book.now a.i) answered),
       looked.look_noted_in.ensures.1
           ∙ sym (ap (λ (x : Answer). noting_by x a.book.now a.i a.table.now) answered),

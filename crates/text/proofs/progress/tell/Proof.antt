@@ -23,17 +23,17 @@ enum-known-h c = search rules
 tell-open-requires : tie.Need-tell_open-requires
 tell-open-requires c κs = (
   c.requires,
-  opened_open _ c.«open».ensures c.in-Open.is,
+  opened_open _ c.«open».ensures c.in-Ok.is,
 )
 
-returns : tie.Need-returns-in-Wrong
+returns : tie.Need-returns-in-Err
 unfolding progress_with
 returns c =
     c.refuse_book.ensures
     ∙ ap page_of (sym (if_open-refused _ _ _
-    (opened_wrong _ c.«open».ensures c.in-Wrong.is)))
+    (opened_wrong _ c.«open».ensures c.in-Err.is)))
 
-returns-2 : tie.Need-returns-in-Open
+returns-2 : tie.Need-returns-in-Ok
 returns-2 c = search rules
 
 pub tell_spec : {M : Type 1} → statement M

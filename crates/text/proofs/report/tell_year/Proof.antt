@@ -21,16 +21,16 @@ enum-known-h : tie.Need-enum_known-h
 enum-known-h c = search rules
 
 tell-open-requires : tie.Need-tell_open-requires
-tell-open-requires c κs = opened_open _ c.«open».ensures c.in-Open.is
+tell-open-requires c κs = opened_open _ c.«open».ensures c.in-Ok.is
 
-returns : tie.Need-returns-in-Wrong
+returns : tie.Need-returns-in-Err
 unfolding year_text
 returns c =
     c.refuse_book.ensures
     ∙ ap page_of (sym (if_open-refused _ _ _
-    (opened_wrong _ c.«open».ensures c.in-Wrong.is)))
+    (opened_wrong _ c.«open».ensures c.in-Err.is)))
 
-returns-2 : tie.Need-returns-in-Open
+returns-2 : tie.Need-returns-in-Ok
 returns-2 c = search rules
 
 pub tell_year_spec : {M : Type 1} → statement M
