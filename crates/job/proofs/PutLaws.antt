@@ -1,47 +1,36 @@
--- The bytes of a number, put one by one, and one number behind the other. Assumes nothing.
+-- The bytes of a number, put in a buffer, and one number behind the other. Assumes nothing.
 use Prim.Native.Nat.{ℕ, zero, suc, ◌+◌, ◌*◌, ◌/◌, ◌%◌, ◌^◌, ◌<◌, ◌≤◌}
 use mathlib.Core.List.{List, [], ◌∷◌, ◌++◌, append-nil, append_assoc}
 use mathlib.Core.Path.{◌≡◌, refl, ap, ap₂, sym, ◌∙◌, subst}
-use native.Mathlib.Nat.{add-zero, mul-zero, pow-suc, div-div-eq-div-mul, le_of_suc-le-suc}
-use native.Mathlib.Numerals.{add-one}
+use native.Mathlib.Nat.{add-zero, mul-zero, pow-suc, div-one, div-div-eq-div-mul, le_of_suc-le-suc}
+use Rattle.std.specs.Int.{bytes_low_first}
 use native.Mathlib.Omega.{arith}
-use lib.ListN.{length, get_or, take, drop, set, length-append, drop_of_length-le, replicate, length-replicate, get_or-replicate, get_or-append, get_or-eq_default}
-use lib.Seq.{paste, paste-suc, take_all, take_at, drop_at, drop-append-add, drop-drop}
+use lib.ListN.{length, get_or, take, drop, length-append, drop_of_length-le, replicate, length-replicate, get_or-replicate, get_or-append, get_or-eq_default}
+use lib.Seq.{paste, take_all, take_at, drop_at, drop-append-add, drop-drop}
 use Rattle.choice.proofs.Splitting.{if_lt}
 use Rattle.rules.specs.Bytes.{word, bytes_of}
-use Rattle.rules.proofs.BytesLaws.{word_same, word-nil, word-drop, length-bytes_of, byte-bytes_of, word-bytes_of, bytes_of-add}
+use Rattle.rules.proofs.BytesLaws.{word_same, word-nil, word-drop, length-bytes_of, word-bytes_of, bytes_of-add}
 
 -- ---- what is left of a number
-pub div_bytes : (v i : ℕ) → v / 256 ^ i / 256 ≡ v / 256 ^ suc i
+div_bytes : (v i : ℕ) → v / 256 ^ i / 256 ≡ v / 256 ^ suc i
 div_bytes v i = div-div-eq-div-mul v (256 ^ i) 256 ∙ ap (λ (m : ℕ). v / m) (sym (pow-suc 256 i))
 
+-- ---- the bytes of a number as Rattle's library has them
+low_from : (i k v : ℕ) → bytes_low_first i k v ≡ bytes_of k (v / 256 ^ i)
+unfolding bytes_of
+low_from i zero v = refl
+low_from zero (suc k) v = ap₂ ◌∷◌ (ap (λ (m : ℕ). m % 256) (sym (div-one v))) (low_from 1 k v ∙ ap (bytes_of k) (sym (div_bytes v 0)))
+low_from (suc i) (suc k) v =
+    ap (λ (l : List ℕ). v / 256 ^ suc i % 256 ∷ l) (low_from (suc (suc i)) k v ∙ ap (bytes_of k) (sym (div_bytes v (suc i))))
+
+pub bytes_of-low : (n v : ℕ) → bytes_low_first 0 n v ≡ bytes_of n v
+bytes_of-low n v = low_from 0 n v ∙ ap (bytes_of n) (div-one v)
+
 -- ---- one number: d has v put in its n bytes from `at` on
-module _ (d : List ℕ) (at n v : ℕ) where
-  -- i bytes are in, and one more goes in.
-  pub put_next : (out : List ℕ) (rest i : ℕ) → i < n → at + n ≤ length d → rest ≡ v / 256 ^ i
-      → out ≡ paste d at (bytes_of n v) i → set out (at + i) (rest % 256) ≡ paste d at (bytes_of n v) (i + 1)
-  put_next out rest i h within r o =
-      rw (o, r, add-one, ← byte-bytes_of n v i h)
-      (paste-suc d at (bytes_of n v) i 0 (omega arith) (omega (arith, length-bytes_of n v)))
-
-  pub put_all : paste d at (bytes_of n v) n ≡ take at d ++ bytes_of n v ++ drop (at + n) d
-  put_all =
-      ap (λ (l : List ℕ). take at d ++ l ++ drop (at + n) d)
-      (take_all n (bytes_of n v) (omega (arith, length-bytes_of n v)))
-
--- ---- a copy of c over d, byte by byte
-module _ (d c : List ℕ) where
-  pub copy_next : (i : ℕ) {out : List ℕ} → i < length d → i < length c → out ≡ paste d 0 c i
-      → set out i (get_or c i 0) ≡ paste d 0 c (i + 1)
-  copy_next i h l o =
-      let here : i ≡ 0 + i = omega arith in
-      rw (o, add-one)
-      (ap (λ (k : ℕ). set (paste d 0 c i) k (get_or c i 0)) here ∙ paste-suc d 0 c i 0 (omega arith) l)
-
-  pub copy-all : (n : ℕ) → length d ≤ n → length c ≤ n → paste d 0 c n ≡ c
-  copy-all n h l =
-      let none : length d ≤ 0 + n = omega arith in
-      ap₂ ◌++◌ (take_all n c l) (drop_of_length-le d none) ∙ append-nil c
+pub put_all : (d : List ℕ) (at n v : ℕ) → paste d at (bytes_of n v) n ≡ take at d ++ bytes_of n v ++ drop (at + n) d
+put_all d at n v =
+    ap (λ (l : List ℕ). take at d ++ l ++ drop (at + n) d)
+    (take_all n (bytes_of n v) (omega (arith, length-bytes_of n v)))
 
 -- ---- numbers one after the other: o is d with its first bytes, `at` of them, replaced by p
 pub record Wrote (d o p : List ℕ) (at : ℕ) : Type 0 where

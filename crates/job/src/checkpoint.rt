@@ -141,18 +141,6 @@ fn is_ledger_sound(c: &[u8], k: usize) -> bool
     (g.rest.0 < NG_PER_TONNE) & (tonnes <= TONNES_EACH * done)
 }
 
-// Writes the checkpoint `from` once more.
-pub(crate) fn copy(from: &[u8], out: &mut [u8])
-    requires whole { (length from.now ≡ checkpoint_size) × (length out.old ≡ checkpoint_size) }
-    ensures copied { out.new ≡ from.now }
-{
-    let mut i = 0;
-    while i < SIZE {
-        out[i] = from[i];
-        i += 1;
-    }
-}
-
 // Writes the checkpoint of a book with the head h at `place`, where `aside` says how many records are set aside, and
 // index and reason of the first; each ledger is what `from` says and w gives. The fields go two in a word: of eight
 // bytes the compiler makes one store, of fewer one for each byte.
@@ -162,13 +150,13 @@ pub(crate) fn write(h: Head, place: u32, aside: &[u32; 3], from: &[u8], w: &[u64
     requires light { Light from.now w.now }
     ensures written { out.new ≡ encode h (state_on (counts_at place aside.now) from.now w.now) }
 {
-    put(out, DONE, 8, join(place, aside[0]));
+    put(out, DONE, join(place, aside[0]));
     // With the reason go the three bytes of 0 behind it.
-    put(out, INDEX, 8, join(aside[1], aside[2]));
+    put(out, INDEX, join(aside[1], aside[2]));
     write_ledgers(from, w, out);
     // With the year go the first two bytes of the blank.
-    put(out, LENGTH, 8, join(h.length as u32, h.year as u32));
-    put(out, BLANK_WORD, 8, 0);
+    put(out, LENGTH, join(h.length as u32, h.year as u32));
+    put(out, BLANK_WORD, 0);
 }
 
 // Two numbers of four bytes, as they stand behind each other.
@@ -187,8 +175,8 @@ fn write_ledgers(from: &[u8], w: &[u64], out: &mut [u8])
     while k < ledgers::COUNT {
         let at = find_ledger(k);
         let g = ledgers::gather(read_ledger(from, k), k, w);
-        put(out, at, 8, g.tonnes);
-        put(out, at + 8, 8, g.rest.0);
+        put(out, at, g.tonnes);
+        put(out, at + 8, g.rest.0);
         k += 1;
     }
 }
