@@ -6,7 +6,6 @@ use native.Mathlib.Nat.{add-zero, mul-zero, zero-mul, lt_of_lt_of_le}
 use native.Mathlib.Omega.{arith}
 use lib.ListN.{length, get_or, replicate}
 use Rattle.std.specs.Prelude.{Ok, Err}
-use Rattle.choice.proofs.Splitting.{if_eq}
 use Rattle.mass.specs.Ledger.{records_foreseen}
 use Rattle.rules.specs.declared.book.Head.{Head}
 use Rattle.rules.specs.declared.entry.Entry.{Entry}
@@ -15,9 +14,8 @@ use Rattle.rules.specs.Bytes.{line}
 use Rattle.rules.specs.Book.{fuel_lines}
 use Rattle.rules.specs.Record.{outcome_at}
 use Rattle.rules.specs.Bounds.{Bounded}
-use Rattle.job.specs.declared.counts.Counts.{Counts}
+use Rattle.job.specs.declared.counts.Aside.{Aside}
 use Rattle.job.specs.State.{mass, each, State, ledgers, gives, counted, after, sum_to}
-use Rattle.job.specs.Bounds.{CountsFit}
 use Rattle.job.specs.Words.{carries, carries_each, mass_at, counts_at, state_in, given, Kept}
 use Rattle.job.specs.Shares.{leg_records, pour_most, worth_of, fuel_shares, shares_at, most_in, Held}
 use Rattle.job.specs.Leg.{Took, TookShare}
@@ -31,11 +29,8 @@ use Rattle.job.proofs.SharesLaws.{held_more, shares_at-none}
 pub aside_lt : {a p n : ℕ} → a ≤ p → p < n → n ≤ records_foreseen → a < 4294967295
 aside_lt l m f = omega arith
 
-pub reason_lt : (h : Head) (c : Counts) → CountsFit h c → c.reason < 256
-reason_lt h c f = if_eq c.aside 0 (λ z. omega (arith, (f.none_first z).1)) (λ z. omega (arith, (f.some_first z).2))
-
 -- ---- a record that is judged by the book's lines
-pub took_aside : (h : Head) (k : List ℕ) (p : ℕ) (a w b : List ℕ) (r : ℕ) → outcome_at h k p ≡ Err r
+pub took_aside : (h : Head) (k : List ℕ) (p : ℕ) (a : Aside) (w : List ℕ) (b : Aside) (r : ℕ) → outcome_at h k p ≡ Err r
     → counts_at (p + 1) b ≡ counted (counts_at p a) (Err r) → Took h k p a w b w
 took_aside h k p a w b r o c = record {
   counts = c ∙ ap (counted (counts_at p a)) (sym o);
@@ -43,11 +38,11 @@ took_aside h k p a w b r o c = record {
   kept = λ m g. kept_more w (omega arith) g;
 }
 
-pub counts-counted : (p : ℕ) (a : List ℕ) (e : Entry) → counts_at (p + 1) a ≡ counted (counts_at p a) (Ok e)
+pub counts-counted : (p : ℕ) (a : Aside) (e : Entry) → counts_at (p + 1) a ≡ counted (counts_at p a) (Ok e)
 unfolding counted
 counts-counted p a e = refl
 
-pub took_given : (h : Head) (k : List ℕ) (p : ℕ) (a w : List ℕ) (e : Entry) {m : ℕ} → outcome_at h k p ≡ Ok e → Bounded (Ok e)
+pub took_given : (h : Head) (k : List ℕ) (p : ℕ) (a : Aside) (w : List ℕ) (e : Entry) {m : ℕ} → outcome_at h k p ≡ Ok e → Bounded (Ok e)
     → Kept m w → Took h k p a w a (given w e)
 took_given h k p a w e o b g = record {
   counts = counts-counted p a e ∙ ap (counted (counts_at p a)) (sym o);
@@ -55,7 +50,7 @@ took_given h k p a w e o b g = record {
   kept = λ n g. kept-given w g e b;
 }
 
-pub after_took : (h : Head) (k : List ℕ) (p : ℕ) (a w b v : List ℕ) → Took h k p a w b v
+pub after_took : (h : Head) (k : List ℕ) (p : ℕ) (a : Aside) (w : List ℕ) (b : Aside) (v : List ℕ) → Took h k p a w b v
     → state_in (counts_at (p + 1) b) v ≡ after (state_in (counts_at p a) w) (outcome_at h k p)
 unfolding state_in after
 after_took h k p a w b v t =
@@ -64,7 +59,7 @@ after_took h k p a w b v t =
     λ j. record { counts = t.counts j; masses = ms j }
 
 -- It leaves the shares alone.
-pub took_share_took : (h : Head) (k : List ℕ) (p : ℕ) (a w d b v : List ℕ) → Took h k p a w b v → TookShare h k p a w d b v d
+pub took_share_took : (h : Head) (k : List ℕ) (p : ℕ) (a : Aside) (w d : List ℕ) (b : Aside) (v : List ℕ) → Took h k p a w b v → TookShare h k p a w d b v d
 took_share_took h k p a w d b v t = record {
   counts = t.counts;
   masses = λ i l. omega (arith, t.masses i l);
@@ -73,29 +68,29 @@ took_share_took h k p a w d b v t = record {
 }
 
 -- ---- the same under other names
-pub took_as : (h : Head) (k : List ℕ) (p : ℕ) {a a' w w' b b' v v' : List ℕ} → a ≡ a' → w ≡ w' → b' ≡ b → v' ≡ v
+pub took_as : (h : Head) (k : List ℕ) (p : ℕ) {a a' : Aside} {w w' : List ℕ} {b b' : Aside} {v v' : List ℕ} → a ≡ a' → w ≡ w' → b' ≡ b → v' ≡ v
     → Took h k p a w b v → Took h k p a' w' b' v'
 took_as h k p {a} {a'} {w} {w'} {b} {b'} {v} {v'} of-a of-w is_b is-v t =
-    subst (λ (x : List ℕ). Took h k p x w' b' v') of-a
+    subst (λ (x : Aside). Took h k p x w' b' v') of-a
     (subst (λ (x : List ℕ). Took h k p a x b' v') of-w
-    (subst (λ (x : List ℕ). Took h k p a w x v') (sym is_b)
+    (subst (λ (x : Aside). Took h k p a w x v') (sym is_b)
     (subst (λ (x : List ℕ). Took h k p a w b x) (sym is-v) t)))
 
-pub took_share_as : (h : Head) (k : List ℕ) (p : ℕ) (a w d : List ℕ) {b b' v v' e e' : List ℕ} → b' ≡ b → v' ≡ v → e' ≡ e
+pub took_share_as : (h : Head) (k : List ℕ) (p : ℕ) (a : Aside) (w d : List ℕ) {b b' : Aside} {v v' e e' : List ℕ} → b' ≡ b → v' ≡ v → e' ≡ e
     → TookShare h k p a w d b v e → TookShare h k p a w d b' v' e'
 took_share_as h k p a w d {b} {b'} {v} {v'} {e} {e'} is_b is-v is-e t =
-    subst (λ (x : List ℕ). TookShare h k p a w d x v' e') (sym is_b)
+    subst (λ (x : Aside). TookShare h k p a w d x v' e') (sym is_b)
     (subst (λ (x : List ℕ). TookShare h k p a w d b x e') (sym is-v)
     (subst (λ (x : List ℕ). TookShare h k p a w d b v x) (sym is-e) t))
 
 -- ---- the state of counts, words and shares
-unfoldable pub leg_state : Head → List ℕ → ℕ → List ℕ → List ℕ → List ℕ → State
+unfoldable pub leg_state : Head → List ℕ → ℕ → Aside → List ℕ → List ℕ → State
 leg_state h k p a w d = record {
   counts = counts_at p a;
   masses = each (λ i. mass_at w i + shares_at (fuel_lines h k) d i) ledgers;
 }
 
-pub after_took_share : (h : Head) (k : List ℕ) (p : ℕ) (a w d b v e : List ℕ) → TookShare h k p a w d b v e
+pub after_took_share : (h : Head) (k : List ℕ) (p : ℕ) (a : Aside) (w d : List ℕ) (b : Aside) (v e : List ℕ) → TookShare h k p a w d b v e
     → leg_state h k (p + 1) b v e ≡ after (leg_state h k p a w d) (outcome_at h k p)
 unfolding leg_state after
 after_took_share h k p a w d b v e t =
@@ -104,7 +99,7 @@ after_took_share h k p a w d b v e t =
     let ms = each_plus (λ i. mass_at w i + shares_at fs d i) (λ i. mass_at v i + shares_at fs e i) ledgers (gives o) (length-gives o) t.masses in
     λ j. record { counts = t.counts j; masses = ms j }
 
-pub leg_state_begun : (h : Head) (k : List ℕ) (p : ℕ) (a w : List ℕ)
+pub leg_state_begun : (h : Head) (k : List ℕ) (p : ℕ) (a : Aside) (w : List ℕ)
     → state_in (counts_at p a) w ≡ leg_state h k p a w (replicate 1024 0)
 unfolding leg_state state_in
 leg_state_begun h k p a w =
@@ -112,11 +107,11 @@ leg_state_begun h k p a w =
     (λ i l. omega (arith, shares_at-none (fuel_lines h k) i)) in
     λ j. record { counts = counts_at p a; masses = ms j }
 
-pub leg_state_as : (h : Head) (k : List ℕ) (p : ℕ) {a a' w w' d d' : List ℕ} → a' ≡ a → w' ≡ w → d' ≡ d
+pub leg_state_as : (h : Head) (k : List ℕ) (p : ℕ) {a a' : Aside} {w w' d d' : List ℕ} → a' ≡ a → w' ≡ w → d' ≡ d
     → leg_state h k p a' w' d' ≡ leg_state h k p a w d
 leg_state_as h k p is-a is-w is-d = λ i. leg_state h k p (is-a i) (is-w i) (is-d i)
 
-pub leg_state_settled : (h : Head) (k : List ℕ) (p : ℕ) (a w d v : List ℕ)
+pub leg_state_settled : (h : Head) (k : List ℕ) (p : ℕ) (a : Aside) (w d v : List ℕ)
     → ((i : ℕ) → i < ledgers → mass_at v i ≡ mass_at w i + shares_at (fuel_lines h k) d i)
     → state_in (counts_at p a) v ≡ leg_state h k p a w d
 unfolding leg_state state_in

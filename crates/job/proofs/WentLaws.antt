@@ -12,6 +12,7 @@ use Rattle.job.specs.State.{run}
 use Rattle.job.specs.Bounds.{CountsFit, FitFor}
 use Rattle.job.specs.Checkpoint.{done_in}
 use Rattle.job.specs.Wake.{admitted_for}
+use Rattle.job.specs.declared.counts.Aside.{Aside}
 use Rattle.job.specs.Words.{counts_at, state_in, Gone}
 use Rattle.job.specs.Leg.{Before, Went, Took}
 use Rattle.job.proofs.StateLaws.{fit_for_run}
@@ -22,7 +23,7 @@ use Rattle.job.proofs.RunLaws.{gone_first, gone_none, run-suc, run_legs, begun, 
 never : {d u : ℕ} → true ≡ false → d ≡ u
 never e = absurd (false≢true (sym e))
 
-module _ {h : Head} {k : List ℕ} {p u : ℕ} {a w : List ℕ} where
+module _ {h : Head} {k : List ℕ} {p u : ℕ} {a : Aside} {w : List ℕ} where
   -- ---- before
   pub counts-before : {t : List ℕ} → Before h k p u a w t → CountsFit h (counts_at p a)
   unfolding state_in
@@ -39,7 +40,7 @@ module _ {h : Head} {k : List ℕ} {p u : ℕ} {a w : List ℕ} where
   }
 
   -- ---- on the way, up to place d
-  module _ {d : ℕ} {b v : List ℕ} (g : Went h k p u true a w d b v) where
+  module _ {d : ℕ} {b : Aside} {v : List ℕ} (g : Went h k p u true a w d b v) where
     -- From there it may go on to any place e.
     pub before_went : {e : ℕ} {t t' : List ℕ} → opened k ≡ accepted h → Before h k p u a w t → d ≤ e → e ≤ u
         → Known (lines d k) (unit_lines h k) t' → Before h k d e b v t'
@@ -54,7 +55,7 @@ module _ {h : Head} {k : List ℕ} {p u : ℕ} {a w : List ℕ} where
           known = known;
         }
 
-    pub went_next : {b' v' : List ℕ} → d < u → Took h k d b v b' v' → Went h k p u true a w (d + 1) b' v'
+    pub went_next : {b' : Aside} {v' : List ℕ} → d < u → Took h k d b v b' v' → Went h k p u true a w (d + 1) b' v'
     unfolding state_in
     went_next {b'} {v'} l t =
         let next = onward g.from_le l in
@@ -67,7 +68,7 @@ module _ {h : Head} {k : List ℕ} {p u : ℕ} {a w : List ℕ} where
           whole = never;
         }
 
-    pub went_on : {e r : ℕ} {s : Bool} {b' v' : List ℕ} → e ≤ u → Went h k d e s b v r b' v' → Went h k p u true a w r b' v'
+    pub went_on : {e r : ℕ} {s : Bool} {b' : Aside} {v' : List ℕ} → e ≤ u → Went h k d e s b v r b' v' → Went h k p u true a w r b' v'
     went_on {e} {r} m leg = record {
       state = run_legs h k (state_in (counts_at p a) w) p d r g.from_le leg.from_le g.state leg.state;
       kept = leg.kept;
@@ -91,7 +92,7 @@ module _ {h : Head} {k : List ℕ} {p u : ℕ} {a w : List ℕ} where
       known = known;
     }
 
-    pub gone_went : {s : Bool} {r : ℕ} {b v : List ℕ} → Went h k p u s a w r b v → Gone h k f (counts_at r b) v
+    pub gone_went : {s : Bool} {r : ℕ} {b : Aside} {v : List ℕ} → Went h k p u s a w r b v → Gone h k f (counts_at r b) v
     gone_went {s} {r} x = record {
       place = le_trans g.place x.from_le;
       state = run_legs h k (begun f) (done_in f) p r g.place x.from_le g.state x.state;

@@ -9,7 +9,7 @@
 --
 --     Ready h k p u a w t v x  the same where t is a table, v the index of the unit lines, and x its hints
 --
---     Aside h k p a b              a is what was said of records set aside before record p, and b what is said with it
+--     AsideAfter h k p a b         a is what was said of records set aside before record p, and b what is said with it
 --     Took h k p a w b v           so it is with the counts, and the words are then v where they were w
 --     TookShare h k p a w d b v e  the same, where the shares are then e where they were d
 --     Taking h k p s a w d t r b v e u
@@ -34,6 +34,7 @@ use Rattle.rules.specs.Book.{unit_lines, fuel_lines}
 use Rattle.rules.specs.Record.{outcome_at}
 use Rattle.rules.specs.Index.{UnitsNoted, Small}
 use Rattle.rules.specs.Table.{is_table, noting, Known}
+use Rattle.job.specs.declared.counts.Aside.{Aside}
 use Rattle.job.specs.declared.leg.Taken.{Taken}
 use Rattle.job.specs.declared.leg.Taken.TheVariants.{Done, Unsure, Stopped}
 use Rattle.job.specs.State.{mass, ledgers, fossil, gives, counted, run}
@@ -42,20 +43,20 @@ use Rattle.job.specs.Words.{carries_each, full, mass_at, counts_at, state_in, ad
 use Rattle.job.specs.Shares.{shared, shares_at, Held}
 
 -- ---- the records from a place on
-pub record Before (h : Head) (k : List ℕ) (p u : ℕ) (a w t : List ℕ) : Type 0 where
+pub record Before (h : Head) (k : List ℕ) (p u : ℕ) (a : Aside) (w t : List ℕ) : Type 0 where
   pub fit : FitFor h (state_in (counts_at p a) w)
   pub kept : Kept (carries_each * p) w
   pub from_le : p ≤ u
   pub end_le : u ≤ h.n
   pub known : Known (lines p k) (unit_lines h k) t
 
-pub record Ready (h : Head) (k : List ℕ) (p u : ℕ) (a w t v x : List ℕ) : Type 0 where
+pub record Ready (h : Head) (k : List ℕ) (p u : ℕ) (a : Aside) (w t v x : List ℕ) : Type 0 where
   pub before : Before h k p u a w t
   pub table : is_table (unit_lines h k) t ≡ true
   pub units : UnitsNoted (unit_lines h k) v
   pub hints : Small x
 
-pub record Went (h : Head) (k : List ℕ) (p u : ℕ) (s : Bool) (a w : List ℕ) (r : ℕ) (b v : List ℕ) : Type 0 where
+pub record Went (h : Head) (k : List ℕ) (p u : ℕ) (s : Bool) (a : Aside) (w : List ℕ) (r : ℕ) (b : Aside) (v : List ℕ) : Type 0 where
   pub state : state_in (counts_at r b) v ≡ run h k (state_in (counts_at p a) w) (r - p)
   pub kept : Kept (carries_each * r) v
   pub from_le : p ≤ r
@@ -63,23 +64,23 @@ pub record Went (h : Head) (k : List ℕ) (p u : ℕ) (s : Bool) (a w : List ℕ
   pub whole : s ≡ false → r ≡ u
 
 -- ---- one record more
-abbrev pub Aside : Head → List ℕ → ℕ → List ℕ → List ℕ → Type 0
-Aside h k p a b = counts_at (p + 1) b ≡ counted (counts_at p a) (outcome_at h k p)
+abbrev pub AsideAfter : Head → List ℕ → ℕ → Aside → Aside → Type 0
+AsideAfter h k p a b = counts_at (p + 1) b ≡ counted (counts_at p a) (outcome_at h k p)
 
-pub record Took (h : Head) (k : List ℕ) (p : ℕ) (a w b v : List ℕ) : Type 0 where
-  pub counts : Aside h k p a b
+pub record Took (h : Head) (k : List ℕ) (p : ℕ) (a : Aside) (w : List ℕ) (b : Aside) (v : List ℕ) : Type 0 where
+  pub counts : AsideAfter h k p a b
   pub masses : (i : ℕ) → i < ledgers → mass_at v i ≡ mass_at w i + mass (gives (outcome_at h k p)) i
   pub kept : (m : ℕ) → Kept m w → Kept (m + 3) v
 
-pub record TookShare (h : Head) (k : List ℕ) (p : ℕ) (a w d b v e : List ℕ) : Type 0 where
-  pub counts : Aside h k p a b
+pub record TookShare (h : Head) (k : List ℕ) (p : ℕ) (a : Aside) (w d : List ℕ) (b : Aside) (v e : List ℕ) : Type 0 where
+  pub counts : AsideAfter h k p a b
   pub masses : (i : ℕ) → i < ledgers →
       mass_at v i + shares_at (fuel_lines h k) e i
       ≡ mass_at w i + shares_at (fuel_lines h k) d i + mass (gives (outcome_at h k p)) i
   pub kept : (m : ℕ) → Kept m w → Kept (m + 3) v
   pub held : (n : ℕ) → Held n d → Held (n + 1) e
 
-abbrev pub Taking : Head → List ℕ → ℕ → Bool → List ℕ → List ℕ → List ℕ → List ℕ → Taken → List ℕ → List ℕ → List ℕ → List ℕ → Type 0
+abbrev pub Taking : Head → List ℕ → ℕ → Bool → Aside → List ℕ → List ℕ → List ℕ → Taken → Aside → List ℕ → List ℕ → List ℕ → Type 0
 Taking h k p s a w d t Done b v e u = TookShare h k p a w d b v e × (u ≡ noting (line p k) (unit_lines h k) t)
 Taking h k p s a w d t Unsure b v e u = (b ≡ a) × (v ≡ w) × (e ≡ d) × (u ≡ t)
 Taking h k p s a w d t Stopped b v e u = (b ≡ a) × (v ≡ w) × (e ≡ d) × (u ≡ t) × (s ≡ true)
@@ -122,7 +123,7 @@ weighed_by weighed.Unsure w = w
 weighed_by weighed.Repeated w = w
 weighed_by (weighed.Fossil x) w = added w fossil x.0
 
-abbrev pub AsideBy : ℕ → Weighed → List ℕ → List ℕ → Type 0
+abbrev pub AsideBy : ℕ → Weighed → Aside → Aside → Type 0
 AsideBy p weighed.Unsure a b = b ≡ a
 AsideBy p weighed.Repeated a b = counts_at (p + 1) b ≡ counted (counts_at p a) (Err 8)
 AsideBy p (weighed.Fossil x) a b = b ≡ a

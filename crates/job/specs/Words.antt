@@ -29,6 +29,7 @@ use Rattle.rules.specs.declared.book.Head.{Head}
 use Rattle.rules.specs.declared.entry.Destination.{Destination}
 use Rattle.rules.specs.declared.entry.Destination.TheVariants.{Fossil, Biomass, Nowhere}
 use Rattle.rules.specs.declared.entry.Entry.{Entry}
+use Rattle.job.specs.declared.counts.Aside.{Aside}
 use Rattle.job.specs.declared.counts.Counts.{Counts}
 use Rattle.job.specs.State.{mass, each, State, ledgers, fossil, biomass, ch4, n2o, run}
 use Rattle.job.specs.Checkpoint.{done_in, tonnes_in, rest_in, counts_in, mass_in}
@@ -61,8 +62,8 @@ unit_at i = choose (nat_lt i ch4) 1000 1
 unfoldable pub mass_at : List ℕ → ℕ → ℕ
 mass_at w i = unit_at i * (full * high_at w i + low_at w i)
 
-abbrev pub counts_at : ℕ → List ℕ → Counts
-counts_at p a = record { done = p; aside = slice_index a 0; index = slice_index a 1; reason = slice_index a 2 }
+abbrev pub counts_at : ℕ → Aside → Counts
+counts_at p a = record { done = p; aside = a.count; index = a.index; reason = a.reason }
 
 unfoldable pub state_in : Counts → List ℕ → State
 state_in c w = record { counts = c; masses = each (mass_at w) ledgers }

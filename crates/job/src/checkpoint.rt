@@ -5,7 +5,7 @@ ghost use Rattle.job.specs.State as state;
 ghost use Rattle.job.specs.Checkpoint.{checkpoint_size, ledger_place, gap_in, first_sound, ledger_sound, every, sound, laid, encode, counts_in};
 ghost use Rattle.job.specs.Words.{words, counts_at, ledger_in, masses_on, state_on, Light};
 
-use crate::counts::Counts;
+use crate::counts::{Aside, Counts};
 use crate::ledgers;
 use crate::put::put;
 use mass::Ng;
@@ -123,10 +123,8 @@ fn are_ledgers_sound(c: &[u8]) -> bool
     ensures ledgers { result ≡ every (ledger_sound c.now) state.ledgers }
 {
     let mut all = true;
-    let mut k = 0;
-    while k < ledgers::COUNT {
-        all = all & is_ledger_sound(c, k);
-        k += 1;
+    for k in 0..ledgers::COUNT {
+        all &= is_ledger_sound(c, k);
     }
     all
 }
@@ -141,18 +139,17 @@ fn is_ledger_sound(c: &[u8], k: usize) -> bool
     (g.rest.0 < NG_PER_TONNE) & (tonnes <= TONNES_EACH * done)
 }
 
-// Writes the checkpoint of a book with the head h at `place`, where `aside` says how many records are set aside, and
-// index and reason of the first; each ledger is what `from` says and w gives. The fields go two in a word: of eight
+// Writes the checkpoint of a book with the head h at `place`, where `aside` tells of the records set aside; each ledger is what `from` says and w gives. The fields go two in a word: of eight
 // bytes the compiler makes one store, of fewer one for each byte.
-pub(crate) fn write(h: Head, place: u32, aside: &[u32; 3], from: &[u8], w: &[u64], out: &mut [u8])
+pub(crate) fn write(h: Head, place: u32, aside: &Aside, from: &[u8], w: &[u64], out: &mut [u8])
     requires whole { (length from.now ≡ checkpoint_size) × (length w.now ≡ words) × (length out.old ≡ checkpoint_size) }
-    requires fits { (h.length < 4294967296) × (h.year < 65536) × (slice_index aside.now 2 < 256) }
+    requires fits { (h.length < 4294967296) × (h.year < 65536) }
     requires light { Light from.now w.now }
     ensures written { out.new ≡ encode h (state_on (counts_at place aside.now) from.now w.now) }
 {
-    put(out, DONE, join(place, aside[0]));
+    put(out, DONE, join(place, aside.count));
     // With the reason go the three bytes of 0 behind it.
-    put(out, INDEX, join(aside[1], aside[2]));
+    put(out, INDEX, join_reason(aside.index, aside.reason));
     write_ledgers(from, w, out);
     // With the year go the first two bytes of the blank.
     put(out, LENGTH, join(h.length as u32, h.year as u32));
@@ -166,17 +163,22 @@ fn join(low: u32, high: u32) -> u64
     low as u64 + FOUR_BYTES * (high as u64)
 }
 
+// The same of a reason, which one byte holds, behind an index.
+fn join_reason(index: u32, reason: u8) -> u64
+    ensures joined { (result ≡ index + 4294967296 * reason) × (index < 4294967296) × (reason < 256) }
+{
+    join(index, u32::from(reason))
+}
+
 fn write_ledgers(from: &[u8], w: &[u64], out: &mut [u8])
     requires whole { (length from.now ≡ checkpoint_size) × (length w.now ≡ words) × (length out.old ≡ checkpoint_size) }
     requires light { Light from.now w.now }
     ensures written { out.new ≡ laid (take 16 out.old) (masses_on from.now w.now) ++ drop 80 out.old }
 {
-    let mut k = 0;
-    while k < ledgers::COUNT {
+    for k in 0..ledgers::COUNT {
         let at = find_ledger(k);
         let g = ledgers::gather(read_ledger(from, k), k, w);
         put(out, at, g.tonnes);
         put(out, at + 8, g.rest.0);
-        k += 1;
     }
 }

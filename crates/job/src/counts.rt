@@ -7,3 +7,12 @@ pub struct Counts {
     pub index: u32,
     pub reason: u8,
 }
+
+// The same of a wake under way, whose place says how many records are done.
+#[derive(Clone, Copy)]
+pub(crate) struct Aside {
+    pub(crate) count: u32,
+    // Of the first record set aside, 0 if there is none.
+    pub(crate) index: u32,
+    pub(crate) reason: u8,
+}

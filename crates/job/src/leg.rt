@@ -13,6 +13,7 @@ ghost use Rattle.job.specs.Words.{carries, carries_each, mass_at, counts_at, Kep
 ghost use Rattle.job.specs.Shares.{leg_records, shares_at, Held};
 ghost use Rattle.job.specs.Leg.{Before, Went, taken_sorted, RoomFor, Co2For, shared_by, added_by, taken_weighed, LightFor, weighed_by, AsideBy, Took, Taking};
 
+use crate::counts::Aside;
 use crate::{ledgers, shares};
 use rules::book::Head;
 use rules::record::Outcome;
@@ -40,7 +41,7 @@ pub(crate) fn go_on(
     until: u32,
     table: &mut [u64],
     stop: bool,
-    aside: &mut [u32; 3],
+    aside: &mut Aside,
     w: &mut [u64],
 ) -> u32
     requires opened { opened book.now ≡ accepted h }
@@ -126,7 +127,7 @@ fn take_quickly(
     table: &mut [u64],
     stop: bool,
     shares: &mut [u64; 1024],
-    aside: &mut [u32; 3],
+    aside: &mut Aside,
     w: &mut [u64],
     limits: &[u32; 8],
 ) -> Taken
@@ -197,8 +198,8 @@ fn take_gas(sorted: Sorted, shares: &mut [u64; 1024], w: &mut [u64]) -> Taken
     }
 }
 
-fn take_weighed(place: u32, weighed: Weighed, aside: &mut [u32; 3], w: &mut [u64]) -> Taken
-    requires room { (slice_index aside.old 0 < 4294967295) × Kept carries w.old × LightFor weighed }
+fn take_weighed(place: u32, weighed: Weighed, aside: &mut Aside, w: &mut [u64]) -> Taken
+    requires room { (aside.old.count < 4294967295) × Kept carries w.old × LightFor weighed }
     ensures taken { result ≡ taken_weighed weighed }
     ensures words { (w.new ≡ weighed_by weighed w.old) × AsideBy place weighed aside.old aside.new }
 {
@@ -223,7 +224,7 @@ pub(crate) fn take_slowly(
     by_unit: &[u8],
     by_fuel: &[u8],
     table: &mut [u64],
-    aside: &mut [u32; 3],
+    aside: &mut Aside,
     w: &mut [u64],
 )
     requires opened { opened book.now ≡ accepted h }
@@ -241,13 +242,13 @@ pub(crate) fn take_slowly(
 }
 
 // One record more is set aside, that at this place. Only the first such is told by its index and its reason.
-pub(crate) fn set_aside(aside: &mut [u32; 3], place: u32, reason: u8)
-    requires room { slice_index aside.old 0 < 4294967295 }
+pub(crate) fn set_aside(aside: &mut Aside, place: u32, reason: u8)
+    requires room { aside.old.count < 4294967295 }
     ensures counted { counts_at (place + 1) aside.new ≡ counted (counts_at place aside.old) (Err reason) }
 {
-    if aside[0] == 0 {
-        *aside = [1, place, reason as u32];
-        return;
+    if aside.count == 0 {
+        aside.index = place;
+        aside.reason = reason;
     }
-    *aside = [aside[0] + 1, aside[1], aside[2]];
+    aside.count += 1;
 }

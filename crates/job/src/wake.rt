@@ -5,6 +5,7 @@ ghost use Rattle.job.specs.Reply.{started, woken};
 ghost use Rattle.job.specs.Wake.{fresh_reply, fresh_bytes, admitted_for, wake_reply, wake_bytes};
 
 use crate::admission::Admission;
+use crate::counts::Aside;
 use crate::reply::{Refusal, Started, Woken};
 use crate::{admission, checkpoint, ledgers, run};
 use rules::book;
@@ -31,7 +32,11 @@ fn fresh_open(book: &[u8], h: Head, out: &mut [u8]) -> Started
     }
     let blank = [0u8; checkpoint::SIZE];
     let nothing = [0u64; ledgers::WORDS];
-    let none = [0u32; 3];
+    let none = Aside {
+        count: 0,
+        index: 0,
+        reason: 0,
+    };
     checkpoint::write(h, 0, &none, &blank, &nothing, out);
     Started::Fresh
 }

@@ -1,8 +1,7 @@
 -- A turn takes the record at its place, at one go or by the book's lines, which is what one record more means; the
 -- state is that of counts, words and shares together, and at the end of the leg the words have it all. Assumes nothing.
-use Prim.Native.Nat.{ℕ, ◌+◌, ◌-◌, ◌*◌, ◌<◌, ◌≤◌, zero-le}
+use Prim.Native.Nat.{◌+◌, ◌-◌, ◌*◌, ◌<◌, ◌≤◌, zero-le}
 use mathlib.Core.Bool.{false≢true}
-use mathlib.Core.List.{List}
 use mathlib.Core.Logic.{⊎_elim}
 use mathlib.Core.Path.{◌≡◌, refl, sym, ap, ◌∙◌, subst}
 use native.Mathlib.Nat.{le_refl, le_trans, le_antisymm, le_of_lt}
@@ -12,6 +11,7 @@ use Rattle.rules.specs.Bytes.{line, lines}
 use Rattle.rules.specs.Book.{unit_lines}
 use Rattle.rules.specs.Table.{noting, Known}
 use Rattle.rules.proofs.TableLaws.{length-noting, known-after}
+use Rattle.job.specs.declared.counts.Aside.{Aside}
 use Rattle.job.specs.declared.leg.Taken.{Taken}
 use Rattle.job.specs.declared.leg.Taken.TheVariants.{Done, Unsure, Stopped}
 use Rattle.job.specs.State.{run}
@@ -130,7 +130,7 @@ take-slowly-requires c κs =
     let fit = fits test in (
       (start (turn quick.before.before.before.before.before.before.before.before)).requires.0,
       (
-        (fit.1, subst (λ (b : List ℕ). CountsFit a.h (counts_at at.at b)) (sym same.0) fit.0),
+        (fit.1, subst (λ (b : Aside). CountsFit a.h (counts_at at.at b)) (sym same.0) fit.0),
         (subst (Known (lines at.at a.book.now) (unit_lines a.h a.book.now)) (sym same.3) at.invariant.5, subst (Kept carries) (sym same.1) (roomy test)),
       ),
     )

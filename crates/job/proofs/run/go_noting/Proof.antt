@@ -10,7 +10,8 @@ use Rattle.rules.specs.Table.{noted_all}
 use Rattle.rules.proofs.TableLaws.{is_table-length, known-noted_all}
 use Rattle.job.specs.Words.{counts_at, Gone}
 use Rattle.job.proofs.AdmissionLaws.{admitted_for-whole}
-use Rattle.job.proofs.RunLaws.{encode_gone, fits_gone, light_gone}
+use Rattle.job.proofs.RunLaws.{encode_gone, light_gone}
+use Rattle.job.proofs.WakeLaws.{head_fits}
 use Rattle.job.proofs.WentLaws.{before_gone, gone_went}
 use Rattle.job.proofs.run.go_noting.Statement.{statement}
 use Rattle.job.proofs.run.go_noting.Tie as tie
@@ -54,7 +55,7 @@ write-requires c κs =
     let all = gone on.before.before.before.before.before in
     let end = le_trans on.go_known-end.ensures.end_le p.1.1.0.1 in (
       (admitted_for-whole _ _ a, all.kept.whole, p.1.1.1.0.1),
-      (fits_gone _ _ _ p.0 a _ _ all end, light_gone _ _ _ p.0 a _ _ all end),
+      (head_fits _ _ p.0, light_gone _ _ _ p.0 a _ _ all end),
     )
 
 returns : tie.Need-returns

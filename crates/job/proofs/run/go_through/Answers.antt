@@ -10,7 +10,8 @@ use Rattle.job.specs.Checkpoint.{done_in, decode, encode}
 use Rattle.job.specs.Words.{words, counts_at, Gone}
 use Rattle.job.proofs.AdmissionLaws.{admitted_for-whole, admitted_for_so}
 use Rattle.job.proofs.CheckpointLaws.{encode-decode}
-use Rattle.job.proofs.RunLaws.{place_lt, gone_all, gone_none_yet, encode_gone, fits_gone, light_gone}
+use Rattle.job.proofs.RunLaws.{place_lt, gone_all, gone_none_yet, encode_gone, light_gone}
+use Rattle.job.proofs.WakeLaws.{head_fits}
 use Rattle.job.proofs.WentLaws.{before_gone, gone_went}
 use Rattle.job.proofs.run.go_through.Goals as goal
 use Rattle.job.proofs.run.go_through.Goals.{Start, After-go_slowly-end}
@@ -60,7 +61,7 @@ pub write-requires-clause-whole : goal.write-requires-clause-whole
 write-requires-clause-whole c = (admitted_for-whole _ _ c.requires.sound.0, (gone (goal.at.write-requires-clause-whole c).After-go_slowly-end).kept.whole, c.requires.whole)
 
 pub write-requires-clause-fits : goal.write-requires-clause-fits
-write-requires-clause-fits c = fits_gone _ _ _ c.requires.opened c.requires.sound.0 _ _ (gone (goal.at.write-requires-clause-fits c).After-go_slowly-end) (ends (goal.at.write-requires-clause-fits c).After-go_slowly-end)
+write-requires-clause-fits c = head_fits _ _ c.requires.opened
 
 pub write-requires-clause-light : goal.write-requires-clause-light
 write-requires-clause-light c = light_gone _ _ _ c.requires.opened c.requires.sound.0 _ _ (gone (goal.at.write-requires-clause-light c).After-go_slowly-end) (ends (goal.at.write-requires-clause-light c).After-go_slowly-end)

@@ -7,7 +7,8 @@ use borrow.Author.Rules.{rules}
 use Rattle.rules.proofs.TableLaws.{known-none}
 use Rattle.job.specs.Words.{counts_at, Gone}
 use Rattle.job.proofs.AdmissionLaws.{admitted_for-whole}
-use Rattle.job.proofs.RunLaws.{encode_gone, fits_gone, light_gone}
+use Rattle.job.proofs.RunLaws.{encode_gone, light_gone}
+use Rattle.job.proofs.WakeLaws.{head_fits}
 use Rattle.job.proofs.WentLaws.{before_gone, gone_went}
 use Rattle.job.proofs.run.go_to.Statement.{statement}
 use Rattle.job.proofs.run.go_to.Tie as tie
@@ -54,7 +55,7 @@ write-requires c κs =
     let a = p.1.1.1.0 in
     let all = gone legs.before.before.before.before.before in (
       (admitted_for-whole _ _ a, all.kept.whole, p.1.1.1.1),
-      (fits_gone _ _ _ p.0 a _ _ all (end_le legs.before.before.before.before.before), light_gone _ _ _ p.0 a _ _ all (end_le legs.before.before.before.before.before)),
+      (head_fits _ _ p.0, light_gone _ _ _ p.0 a _ _ all (end_le legs.before.before.before.before.before)),
     )
 
 returns-3 : tie.Need-returns

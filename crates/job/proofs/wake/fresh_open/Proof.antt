@@ -1,6 +1,5 @@
 -- The buffer's length is all that can be wrong, and `write` fills it. Assumes nothing.
 use mathlib.Core.Path.{refl, ap, sym, ◌∙◌}
-use lib.Dec.{lit<}
 use borrow.Author.Rules.{rules}
 use Rattle.job.specs.Checkpoint.{encode}
 use Rattle.job.specs.Reply.{started}
@@ -19,8 +18,7 @@ returns c =
 write-requires : tie.Need-write-requires
 write-requires c κs =
     let test = c in
-    let fit = head_fits _ _ test.requires in
-    ((refl, refl, test.if-out-ne-SIZE.false), ((fit.0, fit.1, lit< tt), light_fresh))
+    ((refl, refl, test.if-out-ne-SIZE.false), (head_fits _ _ test.requires, light_fresh))
 
 returns-2 : tie.Need-returns
 unfolding started fresh_reply fresh_bytes
