@@ -1,6 +1,7 @@
 // A book, opened or refused.
-ghost use Rattle.std.specs.Prelude.{◌≡◌, ◌≤◌, length};
-ghost use Rattle.rules.specs.Book.{length_ok, starts_ok, trailer_ok, opened, fault_number, answer};
+ghost use Rattle.std.specs.Prelude.{◌≡◌, ◌≤◌, true, length};
+ghost use Rattle.rules.specs.Book.{length_ok, starts_ok, trailer_ok, unit_ok, fuel_ok, lines_sound, unit_lines, fuel_lines, opened, accepted, fault_number, answer};
+ghost use Rattle.rules.specs.Listing.{Rising};
 
 use crate::listing::Sort;
 use crate::{listing, trailer};
@@ -18,6 +19,28 @@ pub struct Head {
     pub length: usize,
     // The set of warming values that its trailer names: 0 the first, 1 the second.
     pub warming: u8,
+}
+
+impl Head {
+    // The unit lines of the book.
+    pub(crate) fn unit_lines(self, book: &[u8]) -> &[u8]
+        requires opened { opened book.now ≡ accepted self }
+        ensures lines { result.now ≡ unit_lines self book.now }
+        ensures sound { lines_sound unit_ok result.now ≡ true }
+        ensures rising { Rising result.now }
+    {
+        &book[self.units..self.fuels]
+    }
+
+    // Its fuel lines.
+    pub(crate) fn fuel_lines(self, book: &[u8]) -> &[u8]
+        requires opened { opened book.now ≡ accepted self }
+        ensures lines { result.now ≡ fuel_lines self book.now }
+        ensures sound { lines_sound fuel_ok result.now ≡ true }
+        ensures rising { Rising result.now }
+    {
+        &book[self.fuels..self.length - 32]
+    }
 }
 
 // The first rule that the bytes of a book break.

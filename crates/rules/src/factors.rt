@@ -25,9 +25,7 @@ pub fn read_factors(book: &[u8], h: Head, k: usize) -> Factors
     requires there { k < length (fuel_lines h book.now) / 32 }
     ensures factors { result ≡ factors_of (line k (fuel_lines h book.now)) }
 {
-    let start = h.fuels;
-    let end = h.length - 32;
-    let f = bytes::take_line(&book[start..end], k);
+    let f = bytes::take_line(h.fuel_lines(book), k);
     Factors {
         heat: listed::default_heat(f),
         co2: listed::co2_factor(f),

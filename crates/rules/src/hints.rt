@@ -17,9 +17,7 @@ pub fn note_units(book: &[u8], h: Head, hints: &mut [u8])
     requires room { 1024 ≤ length hints.old }
     ensures noted { hints.new ≡ hints_in (unit_lines h book.now) hints.old }
 {
-    let start = h.units;
-    let end = h.fuels;
-    note(&book[start..end], hints);
+    note(h.unit_lines(book), hints);
 }
 
 // The same for its fuel lines.
@@ -28,9 +26,7 @@ pub fn note_fuels(book: &[u8], h: Head, hints: &mut [u8])
     requires room { 1024 ≤ length hints.old }
     ensures noted { hints.new ≡ hints_in (fuel_lines h book.now) hints.old }
 {
-    let start = h.fuels;
-    let end = h.length - 32;
-    note(&book[start..end], hints);
+    note(h.fuel_lines(book), hints);
 }
 
 fn note(s: &[u8], places: &mut [u8])

@@ -38,9 +38,7 @@ pub fn note_units(book: &[u8], h: Head, units: &mut [u32; 256], hints: &mut [u8;
     requires blank { (units.old ≡ replicate 256 no_number) × (hints.old ≡ replicate 1024 0) }
     ensures noted { UnitsNoted (unit_lines h book.now) units.new × Small hints.new }
 {
-    let start = h.units;
-    let end = h.fuels;
-    note_unit_lines(&book[start..end], units, hints);
+    note_unit_lines(h.unit_lines(book), units, hints);
 }
 
 fn note_unit_lines(s: &[u8], units: &mut [u32; 256], hints: &mut [u8; 1024])
@@ -105,9 +103,7 @@ pub fn note_fuels(book: &[u8], h: Head, fuels: &mut [u32; 320], hints: &mut [u8;
     requires blank { (fuels.old ≡ replicate 320 no_number) × (hints.old ≡ replicate 1024 0) }
     ensures noted { FuelsNoted (fuel_lines h book.now) fuels.new × Small hints.new }
 {
-    let start = h.fuels;
-    let end = h.length - 32;
-    note_fuel_lines(&book[start..end], fuels, hints);
+    note_fuel_lines(h.fuel_lines(book), fuels, hints);
 }
 
 fn note_fuel_lines(s: &[u8], fuels: &mut [u32; 320], hints: &mut [u8; 1024])

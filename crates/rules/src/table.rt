@@ -31,9 +31,7 @@ pub fn does_serve(book: &[u8], h: Head, table: &[u64]) -> bool
     requires opened { opened book.now ≡ accepted h }
     ensures table { result ≡ spec.is_table (unit_lines h book.now) table.now }
 {
-    let from = h.units;
-    let to = h.fuels;
-    is_table(&book[from..to], table)
+    is_table(h.unit_lines(book), table)
 }
 
 // Notes the first n records of a book that was opened. Any bytes serve as hints.
@@ -43,9 +41,7 @@ pub fn note_records(book: &[u8], h: Head, n: usize, hints: &[u8], table: &mut [u
     requires table { spec.is_table (unit_lines h book.now) table.old ≡ true }
     ensures noted { table.new ≡ spec.noted_all (lines n book.now) (unit_lines h book.now) table.old }
 {
-    let from = h.units;
-    let to = h.fuels;
-    note_lines(book, n, &book[from..to], hints, table);
+    note_lines(book, n, h.unit_lines(book), hints, table);
 }
 
 fn note_lines(book: &[u8], n: usize, units: &[u8], hints: &[u8], table: &mut [u64])
