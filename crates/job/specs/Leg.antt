@@ -16,19 +16,18 @@
 --                                  what r says of the look at record p is so: done with it, a table is u where it was t; and
 --                                  else nothing has changed, and one that stops was to stop (s)
 --
---     taken_sorted s, taken_weighed x    how the look at a record ends that was sorted as s, or weighed as x
+--     taken_sorted s, taken_grained x    how the look at a record ends that was sorted as s, or weighed in the grains x
 --     RoomFor s d, Co2For s              there is room for s in the shares d, and its CO2 is that of a record
---     LightFor x                         so is that of x
+--     LightFor g x                       so is that of x, a grain being g µg
 --     shared_by s d, added_by s w        the shares and the words once s is taken
---     weighed_by x w, AsideBy p x a b    the words once x is taken, and what is then said of records set aside
+--     grained_by g x w, AsideBy p x a b  the words once x is taken, and what is then said of records set aside
 --
 -- Laws: proofs/LegLaws.antt, proofs/WentLaws.antt. Definitions only.
-use Rattle.std.specs.Prelude.{ℕ, ◌+◌, ◌-◌, ◌*◌, ◌<◌, ◌≤◌, Bool, true, false, List, ◌≡◌, slice_index, Err}
+use Rattle.std.specs.Prelude.{ℕ, ◌+◌, ◌-◌, ◌*◌, ◌<◌, ◌≤◌, Option, Some, None, Bool, true, false, List, ◌≡◌, slice_index, Err}
 use Rattle.rules.specs.declared.book.Head.{Head}
-use Rattle.rules.specs.declared.sorting.Sorted.{Sorted}
-use Rattle.rules.specs.declared.sorting.Sorted.TheVariants as sorted
-use Rattle.rules.specs.declared.weighing.Weighed.{Weighed}
-use Rattle.rules.specs.declared.weighing.Weighed.TheVariants as weighed
+use Rattle.rules.specs.declared.sorting.Share.{Share}
+use Rattle.rules.specs.declared.weighing.Grained.{Grained}
+use Rattle.rules.specs.declared.weighing.Grained.TheVariants as grained
 use Rattle.rules.specs.Bytes.{line, lines}
 use Rattle.rules.specs.Book.{unit_lines, fuel_lines}
 use Rattle.rules.specs.Record.{outcome_at}
@@ -86,44 +85,44 @@ Taking h k p s a w d t Unsure b v e u = (b ≡ a) × (v ≡ w) × (e ≡ d) × (
 Taking h k p s a w d t Stopped b v e u = (b ≡ a) × (v ≡ w) × (e ≡ d) × (u ≡ t) × (s ≡ true)
 
 -- ---- what was sorted or weighed
-abbrev pub taken_sorted : Sorted → Taken
-taken_sorted sorted.Unsure = Unsure
-taken_sorted (sorted.Sure x) = Done
+abbrev pub taken_sorted : Option Share → Taken
+taken_sorted None = Unsure
+taken_sorted (Some x) = Done
 
-abbrev pub RoomFor : Sorted → List ℕ → Type 0
-RoomFor sorted.Unsure d = Unit {0}
-RoomFor (sorted.Sure x) d =
+abbrev pub RoomFor : Option Share → List ℕ → Type 0
+RoomFor None d = Unit {0}
+RoomFor (Some x) d =
     ((x.at + 8 < 1024) × (x.way < 4))
     × ((slice_index d (x.at + x.way) + x.burned < 18446744073709551616) × (slice_index d (x.at + 8) + x.carbon < 18446744073709551616))
 
-abbrev pub Co2For : Sorted → Type 0
-Co2For sorted.Unsure = Unit {0}
-Co2For (sorted.Sure x) = x.co2.0 < full
+abbrev pub Co2For : Option Share → Type 0
+Co2For None = Unit {0}
+Co2For (Some x) = x.co2.0 < full
 
-abbrev pub shared_by : Sorted → List ℕ → List ℕ
-shared_by sorted.Unsure d = d
-shared_by (sorted.Sure x) d = shared d x
+abbrev pub shared_by : Option Share → List ℕ → List ℕ
+shared_by None d = d
+shared_by (Some x) d = shared d x
 
-abbrev pub added_by : Sorted → List ℕ → List ℕ
-added_by sorted.Unsure w = w
-added_by (sorted.Sure x) w = added w fossil x.co2.0
+abbrev pub added_by : Option Share → List ℕ → List ℕ
+added_by None w = w
+added_by (Some x) w = added w fossil x.co2.0
 
-abbrev pub taken_weighed : Weighed → Taken
-taken_weighed weighed.Unsure = Unsure
-taken_weighed weighed.Repeated = Done
-taken_weighed (weighed.Fossil x) = Done
+abbrev pub taken_grained : Grained → Taken
+taken_grained grained.Unsure = Unsure
+taken_grained grained.Repeated = Done
+taken_grained (grained.Fossil x) = Done
 
-abbrev pub LightFor : Weighed → Type 0
-LightFor weighed.Unsure = Unit {0}
-LightFor weighed.Repeated = Unit {0}
-LightFor (weighed.Fossil x) = x.0 < full
+abbrev pub LightFor : ℕ → Grained → Type 0
+LightFor g grained.Unsure = Unit {0}
+LightFor g grained.Repeated = Unit {0}
+LightFor g (grained.Fossil x) = g * x.0 < full
 
-abbrev pub weighed_by : Weighed → List ℕ → List ℕ
-weighed_by weighed.Unsure w = w
-weighed_by weighed.Repeated w = w
-weighed_by (weighed.Fossil x) w = added w fossil x.0
+abbrev pub grained_by : ℕ → Grained → List ℕ → List ℕ
+grained_by g grained.Unsure w = w
+grained_by g grained.Repeated w = w
+grained_by g (grained.Fossil x) w = added w fossil (g * x.0)
 
-abbrev pub AsideBy : ℕ → Weighed → Aside → Aside → Type 0
-AsideBy p weighed.Unsure a b = b ≡ a
-AsideBy p weighed.Repeated a b = counts_at (p + 1) b ≡ counted (counts_at p a) (Err 8)
-AsideBy p (weighed.Fossil x) a b = b ≡ a
+abbrev pub AsideBy : ℕ → Grained → Aside → Aside → Type 0
+AsideBy p grained.Unsure a b = b ≡ a
+AsideBy p grained.Repeated a b = counts_at (p + 1) b ≡ counted (counts_at p a) (Err 8)
+AsideBy p (grained.Fossil x) a b = b ≡ a

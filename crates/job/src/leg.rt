@@ -11,14 +11,15 @@ ghost use Rattle.job.specs.State as state;
 ghost use Rattle.job.specs.Bounds.{CountsFit};
 ghost use Rattle.job.specs.Words.{carries, carries_each, mass_at, counts_at, Kept};
 ghost use Rattle.job.specs.Shares.{leg_records, shares_at, Held};
-ghost use Rattle.job.specs.Leg.{Before, Went, taken_sorted, RoomFor, Co2For, shared_by, added_by, taken_weighed, LightFor, weighed_by, AsideBy, Took, Taking};
+ghost use Rattle.job.specs.Leg.{Before, Went, taken_sorted, RoomFor, Co2For, shared_by, added_by, taken_grained, LightFor, grained_by, AsideBy, Took, Taking};
 
 use crate::counts::Aside;
 use crate::{ledgers, shares};
+use mass::hour;
 use rules::book::Head;
 use rules::record::Outcome;
-use rules::sorting::Sorted;
-use rules::weighing::Weighed;
+use rules::sorting::Share;
+use rules::weighing::Grained;
 use rules::{hints, index, record, sorting, table, weighing};
 
 // How a quick look at a record ends.
@@ -156,61 +157,57 @@ fn take_quickly(
         return Taken::Unsure;
     }
     if kind == 2 {
-        let weighed = weighing::weigh_hour(book, h, i, units, by_unit, table);
-        return take_weighed(place, weighed, aside, w);
+        let grained = weighing::grain_hour(book, h, i, units, by_unit, table);
+        return take_grained(place, grained, hour::UG_PER_THOUSANDTH, aside, w);
     }
     if kind == 4 {
-        let weighed = weighing::weigh_anodes(book, h, i, units, by_unit, table);
-        return take_weighed(place, weighed, aside, w);
+        let grained = weighing::grain_anodes(book, h, i, units, by_unit, table);
+        return take_grained(place, grained, 1, aside, w);
     }
     Taken::Unsure
 }
 
 // What was sorted goes to the shares.
-fn take_fuel(sorted: Sorted, shares: &mut [u64; 1024]) -> Taken
+fn take_fuel(sorted: Option<Share>, shares: &mut [u64; 1024]) -> Taken
     requires room { RoomFor sorted shares.old }
     ensures taken { result ≡ taken_sorted sorted }
     ensures shared { shares.new ≡ shared_by sorted shares.old }
 {
-    match sorted {
-        Sorted::Unsure => Taken::Unsure,
-        Sorted::Sure(x) => {
-            shares::add(shares, x);
-            Taken::Done
-        }
-    }
+    let Some(x) = sorted else {
+        return Taken::Unsure;
+    };
+    shares::add(shares, x);
+    Taken::Done
 }
 
 // The same of analysed gas, whose CO2 is worked out by itself.
-fn take_gas(sorted: Sorted, shares: &mut [u64; 1024], w: &mut [u64]) -> Taken
+fn take_gas(sorted: Option<Share>, shares: &mut [u64; 1024], w: &mut [u64]) -> Taken
     requires room { RoomFor sorted shares.old × Kept carries w.old × Co2For sorted }
     ensures taken { result ≡ taken_sorted sorted }
     ensures shared { (shares.new ≡ shared_by sorted shares.old) × (w.new ≡ added_by sorted w.old) }
 {
-    match sorted {
-        Sorted::Unsure => Taken::Unsure,
-        Sorted::Sure(x) => {
-            let co2 = x.co2;
-            shares::add(shares, x);
-            ledgers::add(w, ledgers::FOSSIL, co2.0);
-            Taken::Done
-        }
-    }
+    let Some(x) = sorted else {
+        return Taken::Unsure;
+    };
+    shares::add(shares, x);
+    ledgers::add(w, ledgers::FOSSIL, x.co2.0);
+    Taken::Done
 }
 
-fn take_weighed(place: u32, weighed: Weighed, aside: &mut Aside, w: &mut [u64]) -> Taken
-    requires room { (aside.old.count < 4294967295) × Kept carries w.old × LightFor weighed }
-    ensures taken { result ≡ taken_weighed weighed }
-    ensures words { (w.new ≡ weighed_by weighed w.old) × AsideBy place weighed aside.old aside.new }
+// A repeat is set aside, and what counts goes to the fossil ledger: so many grains of `worth` µg.
+fn take_grained(place: u32, grained: Grained, worth: u64, aside: &mut Aside, w: &mut [u64]) -> Taken
+    requires room { (aside.old.count < 4294967295) × Kept carries w.old × LightFor worth grained }
+    ensures taken { result ≡ taken_grained grained }
+    ensures words { (w.new ≡ grained_by worth grained w.old) × AsideBy place grained aside.old aside.new }
 {
-    match weighed {
-        Weighed::Unsure => Taken::Unsure,
-        Weighed::Repeated => {
+    match grained {
+        Grained::Unsure => Taken::Unsure,
+        Grained::Repeated => {
             set_aside(aside, place, 8);
             Taken::Done
         }
-        Weighed::Fossil(x) => {
-            ledgers::add(w, ledgers::FOSSIL, x.0);
+        Grained::Fossil(x) => {
+            ledgers::add(w, ledgers::FOSSIL, worth * x.0);
             Taken::Done
         }
     }

@@ -33,15 +33,7 @@ pub struct Share {
     pub co2: Ug,
 }
 
-#[derive(Clone, Copy)]
-pub enum Sorted {
-    // Whether the record counts isn't said.
-    Unsure,
-    // The record counts, and adds this.
-    Sure(Share),
-}
-
-// Record i, which is of kind 1.
+// What record i adds, which is of kind 1. None where it isn't said whether it counts.
 pub fn sort_fuel(
     book: &[u8],
     h: Head,
@@ -51,7 +43,7 @@ pub fn sort_fuel(
     fuels: &[u32; 320],
     by_fuel: &[u8; 1024],
     limits: &[u32; 8],
-) -> Sorted
+) -> Option<Share>
     requires opened { opened book.now ≡ accepted h }
     requires there { (i < h.n) × (kind (line i book.now) ≡ 1) }
     requires units { UnitsNoted (unit_lines h book.now) units.now × Small by_unit.now }
@@ -72,10 +64,10 @@ pub fn sort_fuel(
     let allowed = is_allowed(l, fuels[column + k]);
     let heat_right = is_heat_right(l, limits);
     if !(unit_right & fuel_right & is_form_right(l) & heat_right & carbon_right & allowed) {
-        return Sorted::Unsure;
+        return None;
     }
     let carbon = field::amount(l) as u64 * field::carbon(l) as u64;
-    Sorted::Sure(Share {
+    Some(Share {
         at: 16 * k + units[index::WAYS + j] as usize,
         way: field::flags(l) as usize % 4,
         burned: find_burned(l),
@@ -138,7 +130,7 @@ fn find_burned(l: &[u8]) -> u64
     field::amount(l) as u64 * (heat.0 as u64 + 1 - measured)
 }
 
-// Record i, which is analysed gas.
+// The same of analysed gas.
 pub fn sort_gas(
     book: &[u8],
     h: Head,
@@ -148,7 +140,7 @@ pub fn sort_gas(
     fuels: &[u32; 320],
     by_fuel: &[u8; 1024],
     limits: &[u32; 8],
-) -> Sorted
+) -> Option<Share>
     requires opened { opened book.now ≡ accepted h }
     requires there { (i < h.n) × (kind (line i book.now) ≡ 3) }
     requires units { UnitsNoted (unit_lines h book.now) units.now × Small by_unit.now }
@@ -167,14 +159,14 @@ pub fn sort_gas(
     let allowed = is_allowed(l, fuels[index::ALLOWED + k]);
     let heat_right = is_heat_right(l, limits);
     if !(unit_right & fuel_right & is_gas_right(l) & heat_right & (0 < volume) & allowed) {
-        return Sorted::Unsure;
+        return None;
     }
     let way = units[index::WAYS + j];
     let counted = Amount(field::amount(l) * (1 - way / 4));
     let carbon = CarbonShare(field::carbon(l));
     let weight = MolecularWeight(field::molecular_weight(l));
     let co2 = gas::weigh(counted, carbon, weight, MolarVolume(volume));
-    Sorted::Sure(Share {
+    Some(Share {
         at: 16 * k + way as usize,
         way: 2 + field::flags(l) as usize % 2,
         burned: find_burned(l),

@@ -3,7 +3,7 @@ use mathlib.Core.Path.{sym, ◌∙◌}
 use borrow.Author.Rules.{rules}
 use Rattle.job.proofs.WakeLaws.{records_le}
 use Rattle.job.proofs.LegLaws.{aside_lt}
-use Rattle.job.proofs.TakingLaws.{room_sorted, co2_sorted, taking_fuel, taking_gas, light_weighed, taking_weighed}
+use Rattle.job.proofs.TakingLaws.{room_sorted, co2_sorted, taking_fuel, taking_gas, light_grained, taking_grained}
 use Rattle.job.proofs.leg.take_quickly.Statement.{statement}
 use Rattle.job.proofs.leg.take_quickly.Tie as tie
 
@@ -72,26 +72,25 @@ returns-2 c =
 abbrev before-hour : tie.Then-kind-eq2 → tie.After-find_kind-kind
 before-hour c = c.before.before.before.before.before.before
 
-weigh-hour-requires : tie.Need-weigh_hour-weighed-requires
-weigh-hour-requires c κs =
+grain-hour-requires : tie.Need-grain_hour-grained-requires
+grain-hour-requires c κs =
     let test = c in
     let kinds = before-hour test.before in
     let serve = test in
     let served = test.if-not-does_serve.false in
     let p = (start kinds).requires in
-    let kind = sym kinds.find_kind-kind.ensures ∙ test.if-kind-eq2.true in
     let table = sym serve.does_serve.ensures ∙ served in
-    (p.0, ((p.1.0.0, kind), (p.1.1.0, (p.1.1.1.1.0, table))))
+    (p.0, (p.1.0.0, (p.1.1.0, (p.1.1.1.1.0, table))))
 
-take-weighed-requires : tie.Need-take_weighed-requires
-take-weighed-requires c κs =
+take-grained-requires : tie.Need-take_grained-requires
+take-grained-requires c κs =
     let weigh = c in
     let s = start (before-hour weigh.before.before.before.before.before.before) in
     let a = s.args in
     let there = s.requires.1.0 in (
       aside_lt there.1.aside_le there.0 (records_le a.book.now a.h s.requires.0),
       s.requires.1.1.1.1.1.1,
-      light_weighed a.h a.book.now a.place s.requires.0 weigh.weigh_hour-weighed.result a.table.now _ weigh.weigh_hour-weighed.ensures,
+      light_grained a.h a.book.now a.place s.requires.0 518 weigh.grain_hour-grained.result a.table.now _ weigh.grain_hour-grained.ensures.0,
     )
 
 returns-5 : tie.Need-returns-then-kind-eq2
@@ -100,34 +99,33 @@ returns-5 c =
     let weigh = take in
     let s = start (before-hour weigh.before.before.before.before.before.before.before.before.before) in
     let a = s.args in
-    let taken = take.take_weighed.ensures in
-    taking_weighed a.h a.book.now a.place s.requires.0 a.stop a.aside.now a.w.now a.shares.now
-    s.requires.1.1.1.1.1.1 weigh.weigh_hour-weighed.result a.table.now _ _ weigh.weigh_hour-weighed.ensures taken.0 taken.1
+    let taken = take.take_grained.ensures in
+    taking_grained a.h a.book.now a.place s.requires.0 a.stop a.aside.now a.w.now a.shares.now
+    s.requires.1.1.1.1.1.1 518 weigh.grain_hour-grained.result a.table.now _ _ weigh.grain_hour-grained.ensures.0 taken.0 taken.1
 
 -- ---- anodes
 abbrev before-anodes : tie.Then-kind-eq4 → tie.After-find_kind-kind
 before-anodes c = c.before.before.before.before.before.before.before
 
-weigh-anodes-requires : tie.Need-weigh_anodes-weighed-requires
-weigh-anodes-requires c κs =
+grain-anodes-requires : tie.Need-grain_anodes-grained-requires
+grain-anodes-requires c κs =
     let test = c in
     let kinds = before-anodes test.before in
     let serve = test in
     let served = test.if-not-does_serve.false in
     let p = (start kinds).requires in
-    let kind = sym kinds.find_kind-kind.ensures ∙ test.if-kind-eq4.true in
     let table = sym serve.does_serve.ensures ∙ served in
-    (p.0, ((p.1.0.0, kind), (p.1.1.0, (p.1.1.1.1.0, table))))
+    (p.0, (p.1.0.0, (p.1.1.0, (p.1.1.1.1.0, table))))
 
-take-weighed-requires-2 : tie.Need-take_weighed-requires-then-kind-eq4
-take-weighed-requires-2 c κs =
+take-grained-requires-2 : tie.Need-take_grained-requires-then-kind-eq4
+take-grained-requires-2 c κs =
     let weigh = c in
     let s = start (before-anodes weigh.before.before.before.before.before.before) in
     let a = s.args in
     let there = s.requires.1.0 in (
       aside_lt there.1.aside_le there.0 (records_le a.book.now a.h s.requires.0),
       s.requires.1.1.1.1.1.1,
-      light_weighed a.h a.book.now a.place s.requires.0 weigh.weigh_anodes-weighed.result a.table.now _ weigh.weigh_anodes-weighed.ensures,
+      light_grained a.h a.book.now a.place s.requires.0 1 weigh.grain_anodes-grained.result a.table.now _ weigh.grain_anodes-grained.ensures,
     )
 
 returns-6 : tie.Need-returns-then-kind-eq4
@@ -136,9 +134,9 @@ returns-6 c =
     let weigh = take in
     let s = start (before-anodes weigh.before.before.before.before.before.before.before.before.before) in
     let a = s.args in
-    let taken = take.take_weighed-then-kind-eq4.ensures in
-    taking_weighed a.h a.book.now a.place s.requires.0 a.stop a.aside.now a.w.now a.shares.now
-    s.requires.1.1.1.1.1.1 weigh.weigh_anodes-weighed.result a.table.now _ _ weigh.weigh_anodes-weighed.ensures taken.0 taken.1
+    let taken = take.take_grained-then-kind-eq4.ensures in
+    taking_grained a.h a.book.now a.place s.requires.0 a.stop a.aside.now a.w.now a.shares.now
+    s.requires.1.1.1.1.1.1 1 weigh.grain_anodes-grained.result a.table.now _ _ weigh.grain_anodes-grained.ensures taken.0 taken.1
 
 pub take_quickly_spec : {M : Type 1} → statement M
 take_quickly_spec =
@@ -156,13 +154,13 @@ take_quickly_spec =
     (λ c κs. search rules)
     (λ c. search rules)
     (λ c. search rules)
-    weigh-hour-requires
-    take-weighed-requires
+    grain-hour-requires
+    take-grained-requires
     (λ c. search rules)
     (λ c. search rules)
     returns-5
-    weigh-anodes-requires
-    take-weighed-requires-2
+    grain-anodes-requires
+    take-grained-requires-2
     (λ c. search rules)
     (λ c. search rules)
     returns-6
