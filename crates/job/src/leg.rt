@@ -59,8 +59,7 @@ pub(crate) fn go_on(
     index::note_fuels(book, h, &mut fuels, &mut by_fuel);
     let limits = sorting::HEAT_LIMITS;
     let mut shares = [0u64; 1024];
-    let mut at = place;
-    while at < until {
+    for at in place..until {
         let taken = take_quickly(
             book,
             h,
@@ -84,10 +83,9 @@ pub(crate) fn go_on(
                 return at;
             }
         }
-        at += 1;
     }
-    end_leg(book, h, place, at, &shares, w);
-    at
+    end_leg(book, h, place, until, &shares, w);
+    until
 }
 
 // Where records from `place` on end that are to come to `until`, and are so many at most.

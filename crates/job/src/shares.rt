@@ -57,10 +57,8 @@ fn gather(book: &[u8], h: Head, d: &[u64; 1024], sums: &mut [u64; 8])
     ensures gathered { Gathered (fuel_lines h book.now) d.now sums.new }
 {
     let n = (h.length - 32 - h.fuels) / 32;
-    let mut k = 0;
-    while k < n {
+    for k in 0..n {
         gather_line(factors::read_factors(book, h, k), k, d, sums);
-        k += 1;
     }
 }
 
@@ -129,10 +127,8 @@ fn pour(w: &mut [u64], sums: &[u64; 8])
     ensures poured { (i : ℕ) → i < state.ledgers → mass_at w.new i ≡ mass_at w.old i + sum_at sums.now i }
     ensures kept { (m : ℕ) → Kept m w.old → Kept (m + pour_most) w.new }
 {
-    let mut i = 0;
-    while i < ledgers::COUNT {
+    for i in 0..ledgers::COUNT {
         pour_at(w, i, sums[i], sums[ledgers::COUNT + i]);
-        i += 1;
     }
 }
 

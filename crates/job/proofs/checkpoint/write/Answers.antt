@@ -26,6 +26,6 @@ returns c =
     let to-88 = wrote_gap to-80 4 2 2 h.length h.year fits.0 fits.1 told.0 c.put-3.ensures.put in
     record {
       written =
-        wrote_all (wrote_more to-88 8 refl c.put-4.ensures.put) c.requires.whole.2
-        ∙ sym (append-blank (before ++ bytes_of 4 h.length ++ bytes_of 2 h.year) 2 8 0 (lit< tt));
+          wrote_all (wrote_more to-88 8 refl c.put-4.ensures.put) c.requires.whole.2
+          ∙ sym (append-blank (before ++ bytes_of 4 h.length ++ bytes_of 2 h.year) 2 8 0 (lit< tt));
     }

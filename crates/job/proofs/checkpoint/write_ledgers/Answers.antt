@@ -28,7 +28,7 @@ loop-k-preserved c =
     let read = total-read (goal.at.loop-k-preserved c).After-read_ledger in
     let ledger = c.gather-g.ensures.gathered ∙ ap (λ (m : ℕ). ledger_of (m + mass_at a.w.now c.loop-k.k)) read in
     rw add-one (laid_next (λ i. mass_in a.from.now i + mass_at a.w.now i) c.loop-k.k c.loop-k.invariant
-      c.find_ledger-at.ensures.place ledger c.put.ensures.put c.put-in-loop-k.ensures.put)
+    c.find_ledger-at.ensures.place ledger c.put.ensures.put c.put-in-loop-k.ensures.put)
 
 pub returns : goal.returns
 unfolding masses_on

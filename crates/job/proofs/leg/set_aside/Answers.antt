@@ -14,13 +14,13 @@ returns c =
     let now = counts_at a.place a.aside.now in
     record {
       counted = elim c.if-aside-eq0.branch [
-        then-aside-eq0 w ↦
-          let told = counted-first now a.reason w.if-aside-eq0.true in
-          ap (λ (b : Aside). counts_at (a.place + 1) (record { count = b.count + 1; index = b.index; reason = b.reason })) w.aside-is
-          ∙ (λ i. record { done = a.place + 1; aside = a.aside.now.count + 1; index = sym told.0 i; reason = sym told.1 i })
-      | else-aside-eq0 w ↦
-          let told = counted_later now a.reason w.if-aside-eq0.false in
-          ap (λ (b : Aside). counts_at (a.place + 1) (record { count = b.count + 1; index = b.index; reason = b.reason })) w.aside-is
-          ∙ (λ i. record { done = a.place + 1; aside = a.aside.now.count + 1; index = sym told.0 i; reason = sym told.1 i })
+        | then-aside-eq0 w ↦
+            let told = counted-first now a.reason w.if-aside-eq0.true in
+            ap (λ (b : Aside). counts_at (a.place + 1) (record { count = b.count + 1; index = b.index; reason = b.reason })) w.aside-is
+            ∙ (λ i. record { done = a.place + 1; aside = a.aside.now.count + 1; index = sym told.0 i; reason = sym told.1 i })
+        | else-aside-eq0 w ↦
+            let told = counted_later now a.reason w.if-aside-eq0.false in
+            ap (λ (b : Aside). counts_at (a.place + 1) (record { count = b.count + 1; index = b.index; reason = b.reason })) w.aside-is
+            ∙ (λ i. record { done = a.place + 1; aside = a.aside.now.count + 1; index = sym told.0 i; reason = sym told.1 i })
       ];
     }

@@ -12,6 +12,6 @@ returns c =
     let written = c.copy_from_slice.ensures.after ∙ c.to_le_bytes.ensures ∙ bytes_of-low 8 a.v in
     record {
       put =
-        put_mid-paste a.at _ a.out.now _ (bytes_of 8 a.v) 8 written (omega arith) (sym (length-bytes_of 8 a.v))
-        ∙ put_all a.out.now a.at 8 a.v
+          put_mid-paste a.at _ a.out.now _ (bytes_of 8 a.v) 8 written (omega arith) (sym (length-bytes_of 8 a.v))
+          ∙ put_all a.out.now a.at 8 a.v;
     }

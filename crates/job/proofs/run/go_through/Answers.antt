@@ -35,9 +35,9 @@ returns-then-n-eq0 c =
     let bytes : (i : ℕ) → byte a.from.now i < 256 = λ i. omega (arith, c.type_inv.from i) in
     record {
       written =
-        c.copy_from_slice.ensures.after
-        ∙ sym (encode-decode a.h a.from.now bytes (admitted_for-whole _ _ admitted) (admitted_for_so _ _ admitted))
-        ∙ ap (λ (m : ℕ). encode a.h (run a.h a.book.now (decode a.from.now) m)) (sym c.if-n-eq0.true);
+          c.copy_from_slice.ensures.after
+          ∙ sym (encode-decode a.h a.from.now bytes (admitted_for-whole _ _ admitted) (admitted_for_so _ _ admitted))
+          ∙ ap (λ (m : ℕ). encode a.h (run a.h a.book.now (decode a.from.now) m)) (sym c.if-n-eq0.true);
     }
 
 pub overflow_add-until : goal.overflow_add-until
@@ -72,8 +72,8 @@ returns-then-n-lt-MANY c =
     let p = c.requires in
     record {
       written =
-        encode_gone _ _ _ p.opened p.sound.0 _ _ (gone (goal.at.returns-then-n-lt-MANY c).After-go_slowly-end) c.write.ensures.written (c.go_slowly-end.ensures.went.whole refl)
-        ∙ ap (λ (m : ℕ). encode a.h (run a.h a.book.now (decode a.from.now) m)) (gone_all a.n (place (goal.at.returns-then-n-lt-MANY c).Start));
+          encode_gone _ _ _ p.opened p.sound.0 _ _ (gone (goal.at.returns-then-n-lt-MANY c).After-go_slowly-end) c.write.ensures.written (c.go_slowly-end.ensures.went.whole refl)
+          ∙ ap (λ (m : ℕ). encode a.h (run a.h a.book.now (decode a.from.now) m)) (gone_all a.n (place (goal.at.returns-then-n-lt-MANY c).Start));
     }
 
 pub go_to-requires-clause-gone : goal.go_to-requires-clause-gone
