@@ -3,7 +3,7 @@
 
 use files::complain::Complain;
 use files::ended::Ended;
-use files::{Got, arguments, ended};
+use files::{arguments, ended};
 use std::rt::Env;
 use text::report;
 
@@ -16,10 +16,10 @@ fn run<R: Env + Input + Print + Complain>(rt: &R) -> Ended {
         return ended::misuse(rt, b"usage: annual <BOOK\n");
     }
     let mut book = [0u8; report::ANNUAL_MOST];
-    match files::read_input(rt, &mut book) {
-        Got::Failed(_) => Ended::Failed,
-        Got::Bytes(n) => print_held(rt, &mut book, n),
-    }
+    let Ok(n) = files::read_input(rt, &mut book) else {
+        return Ended::Failed;
+    };
+    print_held(rt, &mut book, n)
 }
 
 // The first n of the bytes are the input or, where they are all, perhaps the start of a longer one. Such
@@ -28,10 +28,10 @@ fn print_held<R: Input + Print + Complain>(rt: &R, book: &mut [u8], n: usize) ->
     if n < book.len() {
         return print_year(rt, files::take_front(book, n), false);
     }
-    match files::read_on(rt, book) {
-        Got::Failed(_) => Ended::Failed,
-        Got::Bytes(more) => print_year(rt, book, more != 0),
-    }
+    let Ok(more) = files::read_on(rt, book) else {
+        return Ended::Failed;
+    };
+    print_year(rt, book, more != 0)
 }
 
 fn print_year<R: Print + Complain>(rt: &R, book: &[u8], more: bool) -> Ended {

@@ -5,6 +5,7 @@ use mathlib.Core.Bool.{Bool, true, false}
 use mathlib.Core.List.{List}
 use mathlib.Core.Option.{Option, none, some}
 use mathlib.Core.Path.{◌≡◌, refl, sym, ap, ◌∙◌, subst}
+use Rattle.std.specs.Prelude.{Ok}
 use Rattle.choice.proofs.Splitting.{if_test}
 use Rattle.choice.proofs.TestsLaws.{choose_t, choose_f}
 use Rattle.roster.specs.Bytes.{same}
@@ -17,14 +18,13 @@ use Rattle.files.specs.Kept.{Opens, DueOf}
 use Rattle.files.specs.Guard.{Folder, Guarded, AtItsWord, compared_with, due_of, steps_for, stepped, stopped}
 
 -- ---- what is due is due by the contract
-pub due_of_due : (k : List ℕ) (c : Compared) (anew : Bool) → Opens k → DueOf (due_of c anew) k anew
+pub due_of_due : (k : List ℕ) (c : Compared) (anew : Bool) → Opens k → DueOf (Ok (due_of c anew)) k anew
 unfolding due_of
 due_of_due k compared.Same true o = o
 due_of_due k compared.Same false o = (o, refl)
 due_of_due k compared.Missing true o = o
 due_of_due k compared.Missing false o = (o, refl)
 due_of_due k compared.Other anew o = o
-due_of_due k compared.Failed anew o = o
 
 -- ---- every stop
 module _ (k : List ℕ) where

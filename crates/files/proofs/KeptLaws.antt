@@ -7,6 +7,7 @@ use native.Mathlib.Nat.{le_of_lt}
 use native.Mathlib.Omega.{arith}
 use lib.ListN.{length, length-take, take-append-drop}
 use lib.Seq.{take_all}
+use Rattle.std.specs.Prelude.{Result, Ok, Err}
 use Rattle.io.proofs.Counting.{prefix_len_of_le}
 use Rattle.rules.specs.declared.book.Fault.TheVariants.{Length, Trailer, Units, Fuels}
 use Rattle.job.specs.declared.reply.Refusal.{Refusal}
@@ -21,8 +22,8 @@ use Rattle.job.specs.Wake.{fresh_reply, fresh_bytes}
 use Rattle.job.proofs.ReplyLaws.{started_inj, started_not_started, started-fresh, woken_not_woken, woken-moved}
 use Rattle.job.proofs.WakeLaws.{fresh_bytes-kept}
 use Rattle.files.specs.declared.kept.Due.{Due}
-use Rattle.files.specs.declared.kept.Place.{Place}
-use Rattle.files.specs.declared.kept.Place.TheVariants.{At, Refused, Failed}
+use Rattle.files.specs.declared.kept.Stopped.{Stopped}
+use Rattle.files.specs.declared.kept.Stopped.TheVariants.{Refused, Failed}
 use Rattle.files.specs.Put.{front}
 use Rattle.files.specs.Kept.{replied, placed, counting, anew_reply, anew_bytes, Found, Begun, FoundBy}
 use Rattle.files.proofs.PutLaws.{drop_past}
@@ -34,17 +35,18 @@ number_inj x y e =
     let same = started_inj (NotStarted x) (NotStarted y) told in
     cc
 
-pub placed_inj : (r s : Place) → placed r ≡ placed s → r ≡ s
+pub placed_inj : (r s : Result ℕ Stopped) → placed r ≡ placed s → r ≡ s
 unfolding placed
-placed_inj (At n) (At m) e = cc
-placed_inj (At n) (Refused y) e = cc
-placed_inj (At n) Failed e = cc
-placed_inj (Refused x) (At m) e = cc
-placed_inj (Refused x) (Refused y) e = let n : refusal_number x ≡ refusal_number y = cc in ap Refused (number_inj x y n)
-placed_inj (Refused x) Failed e = cc
-placed_inj Failed (At m) e = cc
-placed_inj Failed (Refused y) e = cc
-placed_inj Failed Failed e = refl
+placed_inj (Ok n) (Ok m) e = cc
+placed_inj (Ok n) (Err (Refused y)) e = cc
+placed_inj (Ok n) (Err Failed) e = cc
+placed_inj (Err (Refused x)) (Ok m) e = cc
+placed_inj (Err (Refused x)) (Err (Refused y)) e =
+    let n : refusal_number x ≡ refusal_number y = cc in ap (λ (z : Refusal). Err (Refused z)) (number_inj x y n)
+placed_inj (Err (Refused x)) (Err Failed) e = cc
+placed_inj (Err Failed) (Ok m) e = cc
+placed_inj (Err Failed) (Err (Refused y)) e = cc
+placed_inj (Err Failed) (Err Failed) e = refl
 
 -- ---- a start's answer
 -- No refusal has the number 0.
@@ -59,13 +61,13 @@ counting-refused n CheckpointUnsound = refl
 counting-refused n BufferLength = refl
 
 module _ {s : Started} {w : Reply} (n : ℕ) (p : started s ≡ w) where
-  pub placed-refused : {x : Refusal} → s ≡ NotStarted x → placed (Refused x) ≡ replied (counting n w)
+  pub placed-refused : {x : Refusal} → s ≡ NotStarted x → placed (Err (Refused x)) ≡ replied (counting n w)
   unfolding placed
   placed-refused {x} e =
       let told : w ≡ reply (refusal_number x) [] = sym p ∙ ap started e ∙ started_not_started x in
       sym (ap (λ (v : Reply). replied (counting n v)) told ∙ ap replied (counting-refused n x))
 
-  pub placed_at : s ≡ Fresh → placed (At n) ≡ replied (counting n w)
+  pub placed_at : s ≡ Fresh → placed (Ok n) ≡ replied (counting n w)
   unfolding placed counting
   placed_at e =
       let told : w ≡ reply 0 [] = sym p ∙ ap started e ∙ started-fresh in
@@ -86,34 +88,34 @@ module _ (k room : List ℕ) where
     unfolding anew_bytes
     anew_bytes_short = rw (whole, drop_past checkpoint_size room (le_of_lt h), append-nil)
 
-  found_by : (r : Place) (w : Reply) {now : List ℕ} → fresh_reply k (front checkpoint_size room) ≡ w
+  found_by : (r : Result ℕ Stopped) (w : Reply) {now : List ℕ} → fresh_reply k (front checkpoint_size room) ≡ w
       → placed r ≡ replied (counting (length (front checkpoint_size room)) w)
       → now ≡ anew_bytes k room → length now ≡ length room → Found r k room now
   unfolding placed counting anew_reply anew_bytes
-  found_by (At n) (reply zero vs) f p e l =
+  found_by (Ok n) (reply zero vs) f p e l =
       let all : n ≡ length (front checkpoint_size room) = cc in
       prefix_len_of_le _ _ (omega (arith, all, length-take checkpoint_size room))
-  found_by (At n) (reply (suc m) vs) f p e l = let z : ◌≡◌ {A = ℕ} 0 (suc m) = cc in absurd (omega arith)
-  found_by (Refused x) (reply zero vs) f p e l = let z : ◌≡◌ {A = ℕ} 0 1 = cc in absurd (omega arith)
-  found_by (Refused x) (reply (suc m) vs) f p e l = (
+  found_by (Ok n) (reply (suc m) vs) f p e l = let z : ◌≡◌ {A = ℕ} 0 (suc m) = cc in absurd (omega arith)
+  found_by (Err (Refused x)) (reply zero vs) f p e l = let z : ◌≡◌ {A = ℕ} 0 1 = cc in absurd (omega arith)
+  found_by (Err (Refused x)) (reply (suc m) vs) f p e l = (
     p ∙ ap (λ (v : Reply). replied (counting (length (front checkpoint_size room)) v)) (sym f),
     e ∙ rw (fresh_bytes-kept k f) (take-append-drop checkpoint_size room),
   )
-  found_by Failed w f p e l = tt
+  found_by (Err Failed) w f p e l = tt
 
-  pub found_anew : (r : Place) {now : List ℕ} → placed r ≡ replied (anew_reply k room)
+  pub found_anew : (r : Result ℕ Stopped) {now : List ℕ} → placed r ≡ replied (anew_reply k room)
       → now ≡ anew_bytes k room → length now ≡ length room → Found r k room now
   unfolding anew_reply
   found_anew r = found_by r (fresh_reply k (front checkpoint_size room)) refl
 
-  pub begun_anew : (r : Place) {now : List ℕ} → placed r ≡ replied (anew_reply k room)
+  pub begun_anew : (r : Result ℕ Stopped) {now : List ℕ} → placed r ≡ replied (anew_reply k room)
       → now ≡ anew_bytes k room → Begun r k room now
-  begun_anew (At n) p e = (p, e)
-  begun_anew (Refused x) p e = (p, e)
-  begun_anew Failed p e = tt
+  begun_anew (Ok n) p e = (p, e)
+  begun_anew (Err (Refused x)) p e = (p, e)
+  begun_anew (Err Failed) p e = tt
 
 -- ---- where a job stands, by what is due
-pub found_by_due : (r : Place) (k room now : List ℕ) {d e : Due} → d ≡ e
+pub found_by_due : (r : Result ℕ Stopped) (k room now : List ℕ) {d e : Due} → d ≡ e
     → FoundBy e r k room now → FoundBy d r k room now
 found_by_due r k room now q = subst (λ (x : Due). FoundBy x r k room now) (sym q)
 

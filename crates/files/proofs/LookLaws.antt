@@ -62,19 +62,14 @@ module _ (k p : List ℕ) (n m : ℕ) (h : n ≤ length k) where
 
   -- The piece isn't the book's.
   pub told_piece : (a d : Option (List ℕ)) → Consumes a d (take n k ++ take m p) → m ≤ length p
-      → same (take m (drop n k)) (take m p) ≡ false → Told a k Other
+      → (take m (drop n k) ≡ take m p → ⊥) → Told a k Other
   told_piece None d e f t = tt
   told_piece (Some c) None e f t = absurd e
   told_piece (Some c) (Some ys) e f t =
-      other c k (λ q.
-      let r : take m (drop n k) ≡ take m p = ap (λ (l : List ℕ). take m (drop n l)) (sym q) ∙ there c ys e f in
-      let u : same (take m p) (take m p) ≡ false = subst (λ (l : List ℕ). same l (take m p) ≡ false) r t in
-      let v : false ≡ true = sym u ∙ same_refl (take m p) in
-      cc)
+      other c k (λ q. t (ap (λ (l : List ℕ). take m (drop n l)) (sym q) ∙ there c ys e f))
 
   -- The piece is the book's.
   pub more_kept : (a d : Option (List ℕ)) → Consumes a d (take n k ++ take m p)
-      → same (take m (drop n k)) (take m p) ≡ true → Consumes a d (take (n + m) k)
-  more_kept a d e t =
-      let r : take m (drop n k) ≡ take m p = same→eq _ _ t in
+      → take m (drop n k) ≡ take m p → Consumes a d (take (n + m) k)
+  more_kept a d e r =
       subst (Consumes a d) (ap (λ (l : List ℕ). take n k ++ l) (sym r) ∙ sym (take-add n m k)) e

@@ -6,7 +6,6 @@ use Rattle.files.proofs.KeptLaws.{placed_inj}
 use Rattle.files.proofs.take_front.Reads as take-front
 use Rattle.files.proofs.put.Reads as put
 use Rattle.files.proofs.ended.misuse.Reads as misuse
-use Rattle.files.proofs.ended.is_done.Reads as is-done
 use Rattle.files.proofs.kept.start_anew.Reads as start-anew
 use Rattle.files.proofs.kept.wake.Reads as wake
 
@@ -25,9 +24,6 @@ put_bytes_unique κs a r s x y p q = p.1.1 ∙ sym q.1.1
 pub misuse_unique : (t l m d : _) (κs : _) (a : _) (r s : _) (x y : _)
     → misuse.Post t l m d κs a r x → misuse.Post t l m d κs a s y → r ≡ s
 misuse_unique t l m d κs a r s x y p q = p ∙ sym q
-
-pub is_done_unique : (κs : _) (a : _) (r s : _) (x y : _) → is-done.Post κs a r x → is-done.Post κs a s y → r ≡ s
-is_done_unique κs a r s x y p q = p ∙ sym q
 
 pub start_anew_unique : (κs : _) (a : _) (r s : _) (x y : _)
     → start-anew.Post κs a r x → start-anew.Post κs a s y → r ≡ s

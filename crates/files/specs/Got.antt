@@ -6,16 +6,14 @@
 --                        count of fewer than there is room for is its end
 --
 -- Definitions only.
-use Rattle.std.specs.Prelude.{ℕ, ◌<◌, List, length, take, Option}
+use Rattle.std.specs.Prelude.{ℕ, ◌<◌, List, length, take, Option, Result, Ok, Err}
 use Rattle.std.specs.Io.KnownBytes.{Consumes, IsAtEnd}
 use Rattle.io.specs.Counts.{IsPrefixLen}
-use Rattle.files.specs.declared.Got.{Got}
-use Rattle.files.specs.declared.Got.TheVariants.{Bytes, Failed}
 
-abbrev pub Within : Got → List ℕ → Type 0
-Within (Bytes n) xs = IsPrefixLen n xs
-Within (Failed why) xs = Unit {0}
+abbrev pub Within : {E : Type 0} → Result ℕ E → List ℕ → Type 0
+Within (Ok n) xs = IsPrefixLen n xs
+Within (Err why) xs = Unit {0}
 
-abbrev pub TookAll : Option (List ℕ) → Option (List ℕ) → Got → List ℕ → Type 0
-TookAll old new (Bytes n) xs = Consumes old new (take n xs) × (n < length xs → IsAtEnd new)
-TookAll old new (Failed why) xs = Unit {0}
+abbrev pub TookAll : {E : Type 0} → Option (List ℕ) → Option (List ℕ) → Result ℕ E → List ℕ → Type 0
+TookAll old new (Ok n) xs = Consumes old new (take n xs) × (n < length xs → IsAtEnd new)
+TookAll old new (Err why) xs = Unit {0}

@@ -37,7 +37,6 @@ due_of compared.Same false = due.Nothing
 due_of compared.Missing true = due.Anew
 due_of compared.Missing false = due.Copy
 due_of compared.Other anew = due.Anew
-due_of compared.Failed anew = due.Failed
 
 -- ---- the steps of a wake
 pub data Step : Type 0 where
@@ -49,8 +48,6 @@ unfoldable pub steps_for : Due → List Step
 steps_for due.Nothing = saved ∷ []
 steps_for due.Copy = copied ∷ saved ∷ []
 steps_for due.Anew = removed ∷ copied ∷ saved ∷ []
-steps_for (due.Refused x) = []
-steps_for due.Failed = []
 
 unfoldable pub stepped : List ℕ → Step → Folder → Folder
 stepped k removed f = record { copy = f.copy; begun = none }

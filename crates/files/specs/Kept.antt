@@ -19,7 +19,7 @@
 --                           accepts, a failure to save
 --
 -- Laws: proofs/KeptLaws.antt. Definitions only.
-use Rattle.std.specs.Prelude.{ℕ, zero, suc, List, [], ◌∷◌, ◌++◌, ◌≡◌, length, drop, Bool, false}
+use Rattle.std.specs.Prelude.{ℕ, zero, suc, List, [], ◌∷◌, ◌++◌, ◌≡◌, length, drop, Bool, false, Result, Ok, Err}
 use Rattle.io.specs.Counts.{IsPrefixLen}
 use Rattle.rules.specs.declared.book.Head.{Head}
 use Rattle.rules.specs.Book.{opened, refused, accepted}
@@ -28,10 +28,8 @@ use Rattle.job.specs.Reply.{Reply, reply, refusal_number}
 use Rattle.job.specs.Wake.{fresh_reply, fresh_bytes}
 use Rattle.files.specs.declared.kept.Due.{Due}
 use Rattle.files.specs.declared.kept.Due.TheVariants as due
-use Rattle.files.specs.declared.kept.Place.{Place}
-use Rattle.files.specs.declared.kept.Place.TheVariants as place
-use Rattle.files.specs.declared.kept.Kept.{Kept}
-use Rattle.files.specs.declared.kept.Kept.TheVariants as kept
+use Rattle.files.specs.declared.kept.Stopped.{Stopped}
+use Rattle.files.specs.declared.kept.Stopped.TheVariants as stopped
 use Rattle.files.specs.Put.{front}
 
 pub data Came : Type 0 where
@@ -43,18 +41,18 @@ pub record Opens (k : List ℕ) : Type 0 where
   pub head : Head
   pub opens : opened k ≡ accepted head
 
-abbrev pub DueOf : Due → List ℕ → Bool → Type 0
-DueOf due.Nothing k anew = Opens k × (anew ≡ false)
-DueOf due.Copy k anew = Opens k × (anew ≡ false)
-DueOf due.Anew k anew = Opens k
-DueOf (due.Refused x) k anew = opened k ≡ refused (refusal_number x)
-DueOf due.Failed k anew = Opens k
+abbrev pub DueOf : Result Due Stopped → List ℕ → Bool → Type 0
+DueOf (Ok due.Nothing) k anew = Opens k × (anew ≡ false)
+DueOf (Ok due.Copy) k anew = Opens k × (anew ≡ false)
+DueOf (Ok due.Anew) k anew = Opens k
+DueOf (Err (stopped.Refused x)) k anew = opened k ≡ refused (refusal_number x)
+DueOf (Err stopped.Failed) k anew = Opens k
 
 -- ---- where a job stands
-unfoldable pub placed : Place → Came
-placed (place.At n) = replied (reply 0 (n ∷ []))
-placed (place.Refused x) = replied (reply (refusal_number x) [])
-placed place.Failed = failed
+unfoldable pub placed : Result ℕ Stopped → Came
+placed (Ok n) = replied (reply 0 (n ∷ []))
+placed (Err (stopped.Refused x)) = replied (reply (refusal_number x) [])
+placed (Err stopped.Failed) = failed
 
 unfoldable pub counting : ℕ → Reply → Reply
 counting n (reply zero vs) = reply 0 (n ∷ [])
@@ -66,29 +64,29 @@ anew_reply k room = counting (length (front checkpoint_size room)) (fresh_reply 
 unfoldable pub anew_bytes : List ℕ → List ℕ → List ℕ
 anew_bytes k room = fresh_bytes k (front checkpoint_size room) ++ drop checkpoint_size room
 
-abbrev pub Found : Place → List ℕ → List ℕ → List ℕ → Type 0
-Found (place.At n) k room now = IsPrefixLen n now
-Found (place.Refused x) k room now = (placed (place.Refused x) ≡ replied (anew_reply k room)) × (now ≡ room)
-Found place.Failed k room now = Unit {0}
+abbrev pub Found : Result ℕ Stopped → List ℕ → List ℕ → List ℕ → Type 0
+Found (Ok n) k room now = IsPrefixLen n now
+Found (Err (stopped.Refused x)) k room now =
+    (placed (Err (stopped.Refused x)) ≡ replied (anew_reply k room)) × (now ≡ room)
+Found (Err stopped.Failed) k room now = Unit {0}
 
-abbrev pub Begun : Place → List ℕ → List ℕ → List ℕ → Type 0
-Begun (place.At n) k room now = (placed (place.At n) ≡ replied (anew_reply k room)) × (now ≡ anew_bytes k room)
-Begun (place.Refused x) k room now = (placed (place.Refused x) ≡ replied (anew_reply k room)) × (now ≡ anew_bytes k room)
-Begun place.Failed k room now = Unit {0}
+abbrev pub Begun : Result ℕ Stopped → List ℕ → List ℕ → List ℕ → Type 0
+Begun (Ok n) k room now = (placed (Ok n) ≡ replied (anew_reply k room)) × (now ≡ anew_bytes k room)
+Begun (Err (stopped.Refused x)) k room now =
+    (placed (Err (stopped.Refused x)) ≡ replied (anew_reply k room)) × (now ≡ anew_bytes k room)
+Begun (Err stopped.Failed) k room now = Unit {0}
 
-abbrev pub FoundBy : Due → Place → List ℕ → List ℕ → List ℕ → Type 0
+abbrev pub FoundBy : Due → Result ℕ Stopped → List ℕ → List ℕ → List ℕ → Type 0
 FoundBy due.Nothing r k room now = Found r k room now
 FoundBy due.Copy r k room now = Found r k room now
 FoundBy due.Anew r k room now = Begun r k room now
-FoundBy (due.Refused x) r k room now = (r ≡ place.Refused x) × (now ≡ room)
-FoundBy due.Failed r k room now = (r ≡ place.Failed) × (now ≡ room)
 
 -- ---- a wake
 pub record Accepts (w : Reply) : Type 0 where
   pub moved : ℕ
   pub accepts : w ≡ reply 0 (moved ∷ [])
 
-abbrev pub Saved : Kept → Reply → Type 0
-Saved (kept.Moved m) w = w ≡ reply 0 (m ∷ [])
-Saved (kept.Refused x) w = w ≡ reply (refusal_number x) []
-Saved kept.Failed w = Accepts w
+abbrev pub Saved : Result ℕ Stopped → Reply → Type 0
+Saved (Ok m) w = w ≡ reply 0 (m ∷ [])
+Saved (Err (stopped.Refused x)) w = w ≡ reply (refusal_number x) []
+Saved (Err stopped.Failed) w = Accepts w

@@ -1,7 +1,6 @@
 -- What a count of bytes read promises, what is put into a buffer, how a job stands in its files, how these
 -- keep one book from passing for another, and what a look at a copy tells.
 pub mod Got
-pub mod Took
 pub mod Put
 pub mod Ended
 pub mod Kept

@@ -4,19 +4,12 @@ use std::rt::Env;
 
 // How many there are.
 pub fn count<R: Env>(rt: &R) -> usize {
-    for i in 0..usize::MAX {
-        if !is_there(rt, i) {
-            return i;
-        }
-    }
-    usize::MAX
+    (0..usize::MAX)
+        .find(|i| !is_there(rt, *i))
+        .unwrap_or(usize::MAX)
 }
 
 // A word that isn't empty is there, though there is no room for it.
 fn is_there<R: Env>(rt: &R, i: usize) -> bool {
-    match rt.arg(i, &mut []) {
-        Ok(_) => true,
-        Err(FillError::TooLong) => true,
-        Err(FillError::NotPresent) => false,
-    }
+    !matches!(rt.arg(i, &mut []), Err(FillError::NotPresent))
 }

@@ -1,14 +1,17 @@
 // The copy of a book beside its checkpoint: a checkpoint tells a book by its length and year alone,
 // and the copy tells it byte for byte.
-ghost use Rattle.std.specs.Prelude.{◌≡◌, ◌≢◌, length, IfOk};
+ghost use Rattle.std.specs.Prelude.{◌≡◌, ◌≢◌, length, IfOk, IfErr};
 ghost use Rattle.io.specs.Counts.{IsPrefixLen};
 ghost use Rattle.files.specs.declared.copy.Compared.TheVariants.{Same, Other};
+ghost use Rattle.files.specs.declared.kept.Stopped.TheVariants.{Failed};
 ghost use Rattle.files.specs.Look.{Told};
 
 use crate::complain::{Complain, fail};
+use crate::kept::Stopped;
 use crate::save::LONGEST_PATH;
-use crate::{Got, path, real, save};
-use std::io::{ErrorKind, Read, Result};
+use crate::{path, real, save};
+use std::io;
+use std::io::Read;
 use std::random::RandomSource;
 use std::rt::Files;
 
@@ -22,71 +25,49 @@ pub(crate) enum Compared {
     // There is no copy.
     Missing,
     Other,
-    // Standard error says why the copy can't be read.
-    Failed,
 }
 
-// Compares the copy beside the checkpoint at path with the book, whose own path is real.
+// Compares the copy beside the checkpoint at path with the book, whose own path is real. If it can't, standard
+// error says why.
 pub(crate) fn compare<R: Files + Alloc + Complain>(
     rt: &R,
     whose: &[u8],
     path: &[u8],
     book: &[u8],
     real: &[u8],
-) -> Compared {
+) -> Result<Compared, Stopped>
+    ensures failed { IfErr result (λ e. e ≡ Failed) }
+{
     let mut room = [0u8; LONGEST_PATH];
     let n = name_copy(path, &mut room);
     let copy = &room[..n];
-    if !real::is_apart(rt, whose, copy, real) {
-        return Compared::Failed;
-    }
-    match compare_at(rt, copy, book) {
-        Ok(compared) => compared,
-        Err(why) => {
-            fail(rt, whose, copy, why);
-            Compared::Failed
-        }
-    }
-}
-
-fn compare_at<R: Files>(rt: &R, copy: &[u8], book: &[u8]) -> Result<Compared> {
-    match path::open(rt, copy) {
-        Ok(file) => compare_open(file, book),
-        Err(why) => {
-            if why.kind() == ErrorKind::NotFound {
-                return Ok(Compared::Missing);
-            }
-            Err(why)
-        }
-    }
+    real::check_apart(rt, whose, copy, real)?;
+    let Some(file) = path::open_if_there(rt, whose, copy)? else {
+        return Ok(Compared::Missing);
+    };
+    let compared = compare_open(file, book).inspect_err(|why| fail(rt, whose, copy, *why))?;
+    Ok(compared)
 }
 
 // Piece by piece, so that a copy needs no room of its own.
-fn compare_open<F: Read + Drop>(file: F, book: &[u8]) -> Result<Compared>
+fn compare_open<F: Read + Drop>(file: F, book: &[u8]) -> io::Result<Compared>
     ensures told { IfOk result (Told (F.remaining file) book.now) }
 {
     let mut file = file;
     let mut piece = [0u8; 4096];
     let mut n = 0;
     loop {
-        let got = crate::read_some(&mut file, &mut piece);
-        match got {
-            Got::Failed(why) => {
-                return Err(why);
-            }
-            Got::Bytes(more) => {
-                if more == 0 {
-                    return Ok(end_at(n, book));
-                }
-                if book.len() - n < more {
-                    return Ok(Compared::Other);
-                }
-                if !roster::bytes::are_same(&book[n..n + more], crate::take_front(&piece, more)) {
-                    return Ok(Compared::Other);
-                }
-                n += more;
-            }
+        let more = file.read(&mut piece)?;
+        if more == 0 {
+            return Ok(end_at(n, book));
         }
+        if book.len() - n < more {
+            return Ok(Compared::Other);
+        }
+        if &book[n..n + more] != crate::take_front(&piece, more) {
+            return Ok(Compared::Other);
+        }
+        n += more;
     }
 }
 
@@ -101,13 +82,13 @@ fn end_at(n: usize, book: &[u8]) -> Compared
     Compared::Other
 }
 
-// Saves the book as the copy beside the checkpoint at path, and answers as a save does.
+// Saves the book as the copy beside the checkpoint at path.
 pub(crate) fn keep<R: Files + RandomSource + Complain>(
     rt: &R,
     whose: &[u8],
     path: &[u8],
     book: &[u8],
-) -> bool {
+) -> io::Result<()> {
     let mut room = [0u8; LONGEST_PATH];
     let n = name_copy(path, &mut room);
     save::save(rt, whose, &room[..n], book, b"")

@@ -3,12 +3,11 @@
 // finds there.
 ghost use Rattle.std.specs.Prelude.{◌≡◌};
 ghost use Rattle.files.specs.declared.ended.Ended.TheVariants.{Misused};
-ghost use Rattle.files.specs.Ended.{is_done};
 
 use crate::complain::Complain;
 use std::rt::Env;
 
-#[derive(Clone, Copy)]
+#[derive(Clone, Copy, PartialEq, Eq)]
 pub enum Ended {
     // It did what it is for.
     Done,
@@ -33,7 +32,7 @@ pub fn tell<R: Env>(rt: &R, e: Ended) {
 fn is_waited_for<R: Env>(rt: &R) -> bool {
     let mut name = [0u8; 11];
     match rt.arg(0, &mut name) {
-        Ok(n) => roster::bytes::are_same(&name[..n], b"status-on-3"),
+        Ok(n) => &name[..n] == b"status-on-3".as_slice(),
         Err(_) => false,
     }
 }
@@ -52,16 +51,5 @@ fn take_digit(e: Ended) -> u8 {
         Ended::Failed => b'1',
         Ended::Misused => b'2',
         Ended::Refused => b'3',
-    }
-}
-
-pub fn is_done(e: Ended) -> bool
-    ensures done { result ≡ is_done e }
-{
-    match e {
-        Ended::Done => true,
-        Ended::Failed => false,
-        Ended::Misused => false,
-        Ended::Refused => false,
     }
 }

@@ -1,22 +1,23 @@
 // A job between its files: what ties its checkpoint to its book, where it stands, and one wake of it
 // that is saved. Whatever fails before the save leaves no checkpoint that passes for another book's.
-ghost use Rattle.std.specs.Prelude.{◌≡◌, length};
+ghost use Rattle.std.specs.Prelude.{◌≡◌, length, IfErr};
 ghost use Rattle.job.specs.Wake.{fresh_reply, fresh_bytes, wake_reply, wake_bytes};
+ghost use Rattle.files.specs.declared.kept.Stopped.TheVariants.{Failed};
 ghost use Rattle.files.specs.Guard.{due_of};
 ghost use Rattle.files.specs.Kept.{replied, placed, counting, anew_reply, anew_bytes, DueOf, Found, Begun, FoundBy, Saved};
 
-use crate::complain::{Complain, fail, tell};
+use crate::complain::{Complain, tell};
 use crate::copy::Compared;
-use crate::{Got, copy, path, real, save};
+use crate::{copy, path, real, save};
 use job::checkpoint;
 use job::reply::{Refusal, Started, Woken};
 use rules::book;
-use std::io::ErrorKind;
+use std::io;
 use std::random::RandomSource;
 use std::rt::Files;
 
 // What is due before a wake of a book may be saved.
-#[derive(Clone, Copy)]
+#[derive(Clone, Copy, PartialEq, Eq)]
 pub enum Due {
     // The copy is this book.
     Nothing,
@@ -24,31 +25,24 @@ pub enum Due {
     Copy,
     // The copy is another book, or a new start is asked for: the checkpoint goes, then the copy comes.
     Anew,
-    // The book is refused.
+}
+
+// Why a job goes no further.
+#[derive(Clone, Copy)]
+pub enum Stopped {
+    // The book, the checkpoint or a buffer is refused.
     Refused(Refusal),
-    // Standard error says what stands in the way.
+    // Standard error says what failed.
     Failed,
 }
 
-// Where a job stands.
-#[derive(Clone, Copy)]
-pub enum Place {
-    // So many bytes of a checkpoint stand at the start of the buffer.
-    At(usize),
-    // The fresh start is refused, and the buffer is as it was.
-    Refused(Refusal),
-    // Standard error says why the checkpoint can't be read or replaced.
-    Failed,
-}
+// Only what was told becomes this, as each call here tells its own.
+impl From<io::Error> for Stopped {
+    ghost from_gives = { λ _ e. e ≡ Failed };
 
-// What came of a wake.
-#[derive(Clone, Copy)]
-pub enum Kept {
-    // So many records were gone through, and the checkpoint is saved.
-    Moved(u32),
-    Refused(Refusal),
-    // Standard error says what can't be saved.
-    Failed,
+    fn from(_why: io::Error) -> Stopped {
+        Stopped::Failed
+    }
 }
 
 // What is due for a wake of the book, whose own path is real and whose job has its checkpoint at path.
@@ -59,43 +53,33 @@ pub fn find_due<R: Files + Alloc + Complain>(
     whose: &[u8],
     path: &[u8],
     anew: bool,
-) -> Due
+) -> Result<Due, Stopped>
     ensures due { DueOf result book.now anew }
 {
     match book::open(book) {
-        Err(fault) => Due::Refused(Refusal::Book(fault)),
+        Err(fault) => Err(Stopped::Refused(Refusal::Book(fault))),
         Ok(_h) => {
-            if real::is_apart(rt, whose, path, real) {
-                return decide(copy::compare(rt, whose, path, book, real), anew);
-            }
-            Due::Failed
+            real::check_apart(rt, whose, path, real)?;
+            Ok(decide(copy::compare(rt, whose, path, book, real)?, anew))
         }
     }
 }
 
+#[tactic(auto, unfolding(crate::specs::Guard::due_of))]
 fn decide(compared: Compared, anew: bool) -> Due
     ensures due { result ≡ due_of compared anew }
 {
     match compared {
-        Compared::Failed => Due::Failed,
         Compared::Other => Due::Anew,
-        Compared::Missing => {
-            if anew {
-                return Due::Anew;
-            }
-            Due::Copy
-        }
-        Compared::Same => {
-            if anew {
-                return Due::Anew;
-            }
-            Due::Nothing
-        }
+        _ if anew => Due::Anew,
+        Compared::Missing => Due::Copy,
+        Compared::Same => Due::Nothing,
     }
 }
 
 // Where the job stands: at a fresh start, if one is due or there is no checkpoint at path; else at that
-// checkpoint.
+// checkpoint. So many bytes of a checkpoint stand at the start of room then; a fresh start that is refused
+// leaves room as it was.
 pub fn find_place<R: Files + Complain>(
     rt: &R,
     book: &[u8],
@@ -103,15 +87,12 @@ pub fn find_place<R: Files + Complain>(
     whose: &[u8],
     path: &[u8],
     room: &mut [u8],
-) -> Place
+) -> Result<usize, Stopped>
     ensures found { FoundBy due result book.now room.old room.new }
 {
     match due {
-        Due::Nothing => read_place(rt, book, whose, path, room),
-        Due::Copy => read_place(rt, book, whose, path, room),
+        Due::Nothing | Due::Copy => read_place(rt, book, whose, path, room),
         Due::Anew => replace_place(rt, book, whose, path, room),
-        Due::Refused(x) => Place::Refused(x),
-        Due::Failed => Place::Failed,
     }
 }
 
@@ -122,22 +103,14 @@ fn read_place<R: Files + Complain>(
     whose: &[u8],
     path: &[u8],
     room: &mut [u8],
-) -> Place
+) -> Result<usize, Stopped>
     ensures found { Found result book.now room.old room.new }
 {
-    match path::open(rt, path) {
-        Ok(file) => match crate::read_open(rt, file, whose, path, room) {
-            Got::Failed(_) => Place::Failed,
-            Got::Bytes(n) => Place::At(n),
-        },
-        Err(why) => {
-            if why.kind() == ErrorKind::NotFound {
-                return start_anew(book, room);
-            }
-            fail(rt, whose, path, why);
-            Place::Failed
-        }
-    }
+    let Some(file) = path::open_if_there(rt, whose, path)? else {
+        return start_anew(book, room);
+    };
+    let n = crate::read_open(rt, file, whose, path, room)?;
+    Ok(n)
 }
 
 // A fresh start takes the place of what could be a checkpoint, and of nothing else.
@@ -147,38 +120,24 @@ fn replace_place<R: Files + Complain>(
     whose: &[u8],
     path: &[u8],
     room: &mut [u8],
-) -> Place
+) -> Result<usize, Stopped>
     ensures begun { Begun result book.now room.old room.new }
 {
-    if is_replaceable(rt, whose, path) {
-        return start_anew(book, room);
-    }
-    Place::Failed
+    check_replaceable(rt, whose, path)?;
+    start_anew(book, room)
 }
 
-// Whether what is at path is missing, empty or as long as a checkpoint; if not, standard error says so.
-fn is_replaceable<R: Files + Complain>(rt: &R, whose: &[u8], path: &[u8]) -> bool {
-    match path::open(rt, path) {
-        Ok(file) => {
-            let mut room = [0u8; crate::CHECKPOINT_ROOM];
-            match crate::read_open(rt, file, whose, path, &mut room) {
-                Got::Failed(_) => false,
-                Got::Bytes(n) => is_checkpoint_long(rt, n, whose, path),
-            }
-        }
-        Err(why) => {
-            if why.kind() == ErrorKind::NotFound {
-                return true;
-            }
-            fail(rt, whose, path, why);
-            false
-        }
-    }
-}
-
-fn is_checkpoint_long<R: Complain>(rt: &R, n: usize, whose: &[u8], path: &[u8]) -> bool {
+// What is at path has to be missing, empty or as long as a checkpoint; if it isn't, standard error says so.
+fn check_replaceable<R: Files + Complain>(rt: &R, whose: &[u8], path: &[u8]) -> Result<(), Stopped>
+    ensures failed { IfErr result (λ e. e ≡ Failed) }
+{
+    let Some(file) = path::open_if_there(rt, whose, path)? else {
+        return Ok(());
+    };
+    let mut room = [0u8; crate::CHECKPOINT_ROOM];
+    let n = crate::read_open(rt, file, whose, path, &mut room)?;
     if n == 0 || n == checkpoint::SIZE {
-        return true;
+        return Ok(());
     }
     tell(
         rt,
@@ -186,12 +145,12 @@ fn is_checkpoint_long<R: Complain>(rt: &R, n: usize, whose: &[u8], path: &[u8]) 
         path,
         b": neither empty nor as long as a checkpoint, so it is left as it is\n",
     );
-    false
+    Err(Stopped::Failed)
 }
 
 // A fresh start's checkpoint at the start of room, whatever is kept. A room that is shorter than that
 // is refused as job's calls refuse a buffer.
-pub fn start_anew(book: &[u8], room: &mut [u8]) -> Place
+pub fn start_anew(book: &[u8], room: &mut [u8]) -> Result<usize, Stopped>
     ensures place { placed result ≡ replied (anew_reply book.now room.old) }
     ensures bytes { room.new ≡ anew_bytes book.now room.old }
 {
@@ -201,32 +160,27 @@ pub fn start_anew(book: &[u8], room: &mut [u8]) -> Place
     begin(book, &mut room[..checkpoint::SIZE])
 }
 
-fn begin(book: &[u8], out: &mut [u8]) -> Place
+fn begin(book: &[u8], out: &mut [u8]) -> Result<usize, Stopped>
     ensures place { placed result ≡ replied (counting (length out.old) (fresh_reply book.now out.old)) }
     ensures bytes { out.new ≡ fresh_bytes book.now out.old }
 {
     match job::wake::fresh(book, out) {
-        Started::NotStarted(x) => Place::Refused(x),
-        Started::Fresh => Place::At(out.len()),
+        Started::NotStarted(x) => Err(Stopped::Refused(x)),
+        Started::Fresh => Ok(out.len()),
     }
 }
 
 // Says on standard error that the job starts anew, if what is due comes of another book than it was
 // begun with.
 pub fn tell_change<R: Complain>(rt: &R, due: Due, book_path: &[u8], path: &[u8]) {
-    match due {
-        Due::Anew => {
-            tell(rt, book_path, b" has changed since ", path);
-            rt.complain(b" was begun: the job starts anew\n");
-        }
-        Due::Nothing => {}
-        Due::Copy => {}
-        Due::Refused(_) => {}
-        Due::Failed => {}
+    if due == Due::Anew {
+        tell(rt, book_path, b" has changed since ", path);
+        rt.complain(b" was begun: the job starts anew\n");
     }
 }
 
-// One wake from a checkpoint, with what is due before it. What it saves at path is left in saved.
+// One wake from a checkpoint, with what is due before it: how many records were gone through, once what it
+// saves at path is saved. That is left in saved.
 pub fn wake<R: Files + RandomSource + Complain>(
     rt: &R,
     book: &[u8],
@@ -236,35 +190,35 @@ pub fn wake<R: Files + RandomSource + Complain>(
     whose: &[u8],
     path: &[u8],
     saved: &mut [u8],
-) -> Kept
+) -> Result<u32, Stopped>
     ensures saved { Saved result (wake_reply book.now from.now budget saved.old) }
     ensures bytes { saved.new ≡ wake_bytes book.now from.now budget saved.old }
 {
     match job::wake::wake(book, from, budget, saved) {
-        Woken::NotWoken(x) => Kept::Refused(x),
+        Woken::NotWoken(x) => Err(Stopped::Refused(x)),
         Woken::Moved(moved) => {
-            if settle(rt, due, whose, path, book) && save::save(rt, whose, path, saved, b"") {
-                return Kept::Moved(moved);
-            }
-            Kept::Failed
+            settle(rt, due, whose, path, book)?;
+            save::save(rt, whose, path, saved, b"")?;
+            Ok(moved)
         }
     }
 }
 
-// Does what is due before a checkpoint is saved, and answers whether it could. The old checkpoint is
-// gone for good before the copy is another book, so that no stop leaves the two side by side.
+// Does what is due before a checkpoint is saved. The old checkpoint is gone for good before the copy is
+// another book, so that no stop leaves the two side by side.
 fn settle<R: Files + RandomSource + Complain>(
     rt: &R,
     due: Due,
     whose: &[u8],
     path: &[u8],
     book: &[u8],
-) -> bool {
+) -> io::Result<()> {
     match due {
-        Due::Nothing => true,
+        Due::Nothing => Ok(()),
         Due::Copy => copy::keep(rt, whose, path, book),
-        Due::Anew => save::remove(rt, whose, path) && copy::keep(rt, whose, path, book),
-        Due::Refused(_) => false,
-        Due::Failed => false,
+        Due::Anew => {
+            save::remove(rt, whose, path)?;
+            copy::keep(rt, whose, path, book)
+        }
     }
 }

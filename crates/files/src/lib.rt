@@ -17,7 +17,6 @@ pub mod save;
 ghost use Rattle.std.specs.Prelude.{◌≡◌};
 ghost use Rattle.io.specs.Counts.{IsPrefixLen};
 ghost use Rattle.files.specs.Got.{Within, TookAll};
-ghost use Rattle.files.specs.Took.{Took};
 ghost use Rattle.files.specs.Put.{front, put_end, put_bytes};
 ghost use Rattle.files.specs.Ended.{Printed};
 
@@ -25,7 +24,7 @@ use complain::{Complain, fail, tell};
 use ended::Ended;
 use job::checkpoint;
 use rules::book::LONGEST_BOOK;
-use std::io::{Error, ErrorKind, Read};
+use std::io::{Read, Result};
 use std::rt::Files;
 use text::page::Page;
 use text::refusal;
@@ -39,90 +38,67 @@ pub const CHECKPOINT_ROOM: usize = checkpoint::SIZE + 1;
 // The longest path with a zero behind it.
 pub const PATH_ROOM: usize = save::LONGEST_PATH + 1;
 
-// What came of reading into a buffer. Either way its other bytes may have changed too.
-#[derive(Clone, Copy)]
-pub enum Got {
-    // So many bytes stand at the start of the buffer: all there were, or as many as it holds.
-    Bytes(usize),
-    // A read failed, and this is why.
-    Failed(Error),
-}
-
-// Reads until the input ends or buf is full, in as many pieces as the input comes in.
-pub fn read_all<F: Read>(from: &mut F, buf: &mut [u8]) -> Got
+// Reads until the input ends or buf is full, in as many pieces as the input comes in, and answers how many
+// bytes stand at the start of buf: all there were, or as many as it holds. Its other bytes may have changed
+// too, and all of them may if a read failed.
+pub fn read_all<F: Read>(from: &mut F, buf: &mut [u8]) -> Result<usize>
     ensures within { Within result buf.new }
     ensures bytes { TookAll (F.remaining from.old) (F.remaining from.new) result buf.new }
 {
     let mut n = 0;
     while n < buf.len() {
-        let got = read_some(from, &mut buf[n..]);
-        match got {
-            Got::Failed(why) => {
-                return Got::Failed(why);
-            }
-            Got::Bytes(more) => {
-                if more == 0 {
-                    return Got::Bytes(n);
-                }
-                n += more;
-            }
+        let more = from.read(&mut buf[n..])?;
+        if more == 0 {
+            return Ok(n);
         }
+        n += more;
     }
-    Got::Bytes(n)
+    Ok(n)
 }
 
 // Reads standard input as read_all does; if it can't, standard error says why.
-pub fn read_input<R: Input + Complain>(rt: &R, buf: &mut [u8]) -> Got
+pub fn read_input<R: Input + Complain>(rt: &R, buf: &mut [u8]) -> Result<usize>
     ensures within { Within result buf.new }
 {
-    let got = read_all(&mut rt.reader(), buf);
-    tell_input(rt, got);
-    got
+    read_all(&mut rt.reader(), buf).inspect_err(|why| fail(rt, b"", b"standard input", *why))
 }
 
 // One more read of standard input: no bytes are its end. A failure is told likewise.
-pub fn read_on<R: Input + Complain>(rt: &R, buf: &mut [u8]) -> Got
+pub fn read_on<R: Input + Complain>(rt: &R, buf: &mut [u8]) -> Result<usize>
     ensures within { Within result buf.new }
 {
-    let got = read_some(&mut rt.reader(), buf);
-    tell_input(rt, got);
-    got
-}
-
-fn tell_input<R: Complain>(rt: &R, got: Got) {
-    match got {
-        Got::Failed(why) => fail(rt, b"", b"standard input", why),
-        Got::Bytes(_) => {}
-    }
+    let mut input = rt.reader();
+    input
+        .read(buf)
+        .inspect_err(|why| fail(rt, b"", b"standard input", *why))
 }
 
 // Reads the file at path as read_all does; if it can't, standard error says why, behind `whose`.
-pub fn read_file<R: Files + Complain>(rt: &R, whose: &[u8], path: &[u8], buf: &mut [u8]) -> Got
+pub fn read_file<R: Files + Complain>(
+    rt: &R,
+    whose: &[u8],
+    path: &[u8],
+    buf: &mut [u8],
+) -> Result<usize>
     ensures within { Within result buf.new }
 {
-    match path::open(rt, path) {
-        Ok(file) => read_open(rt, file, whose, path, buf),
-        Err(why) => {
-            fail(rt, whose, path, why);
-            Got::Failed(why)
-        }
-    }
+    let file = path::open_told(rt, whose, path)?;
+    read_open(rt, file, whose, path, buf)
 }
 
 // Reads the file at path likewise: where there is none, no bytes.
-pub fn read_if_there<R: Files + Complain>(rt: &R, whose: &[u8], path: &[u8], buf: &mut [u8]) -> Got
+pub fn read_if_there<R: Files + Complain>(
+    rt: &R,
+    whose: &[u8],
+    path: &[u8],
+    buf: &mut [u8],
+) -> Result<usize>
     ensures within { Within result buf.new }
 {
-    match path::open(rt, path) {
-        Ok(file) => read_open(rt, file, whose, path, buf),
-        Err(why) => {
-            if why.kind() == ErrorKind::NotFound {
-                return Got::Bytes(0);
-            }
-            fail(rt, whose, path, why);
-            Got::Failed(why)
-        }
-    }
+    let Some(file) = path::open_if_there(rt, whose, path)? else {
+        return Ok(0);
+    };
+    read_open(rt, file, whose, path, buf)
 }
 
 // Reads the book at path likewise, and puts the path by which the system knows it at the start of real.
@@ -132,19 +108,12 @@ pub fn read_book<R: Files + Alloc + Complain>(
     path: &[u8],
     buf: &mut [u8],
     real: &mut [u8],
-) -> Got
+) -> Result<usize>
     ensures within { Within result buf.new }
 {
-    match path::open(rt, path) {
-        Ok(file) => {
-            real::find_path(rt, path, real);
-            read_open(rt, file, whose, path, buf)
-        }
-        Err(why) => {
-            fail(rt, whose, path, why);
-            Got::Failed(why)
-        }
-    }
+    let file = path::open_told(rt, whose, path)?;
+    real::find_path(rt, path, real);
+    read_open(rt, file, whose, path, buf)
 }
 
 // Reads an open file and closes it.
@@ -154,27 +123,11 @@ pub fn read_open<R: Complain, F: Read + Drop>(
     whose: &[u8],
     path: &[u8],
     buf: &mut [u8],
-) -> Got
+) -> Result<usize>
     ensures within { Within result buf.new }
 {
     let mut file = file;
-    let got = read_all(&mut file, buf);
-    match got {
-        Got::Failed(why) => fail(rt, whose, path, why),
-        Got::Bytes(_) => {}
-    }
-    got
-}
-
-// One read. Only at the end of the input does it come to no bytes, for room isn't empty.
-pub(crate) fn read_some<F: Read>(from: &mut F, room: &mut [u8]) -> Got
-    ensures within { Within result room.new }
-    ensures bytes { Took (F.remaining from.old) (F.remaining from.new) result room.new }
-{
-    match from.read(room) {
-        Ok(n) => Got::Bytes(n),
-        Err(why) => Got::Failed(why),
-    }
+    read_all(&mut file, buf).inspect_err(|why| fail(rt, whose, path, *why))
 }
 
 // The first n of the bytes, or all of them where there are fewer.
@@ -204,16 +157,10 @@ pub fn put(dst: &mut [u8], n: usize, src: &[u8]) -> usize
     end
 }
 
-// Writes the bytes to standard output, and answers whether it could; if not, standard error says why,
-// and calls it by this name.
-pub fn print_bytes<R: Print + Complain>(rt: &R, name: &[u8], bytes: &[u8]) -> bool {
-    match rt.write_all(bytes) {
-        Ok(()) => true,
-        Err(why) => {
-            fail(rt, b"", name, why);
-            false
-        }
-    }
+// Writes the bytes to standard output; if it can't, standard error says why, and calls it by this name.
+pub fn print_bytes<R: Print + Complain>(rt: &R, name: &[u8], bytes: &[u8]) -> Result<()> {
+    rt.write_all(bytes)
+        .inspect_err(|why| fail(rt, b"", name, *why))
 }
 
 // Prints what stands on the page likewise, and answers how that ends the program.
@@ -222,7 +169,7 @@ pub fn print_page<R: Print + Complain>(rt: &R, name: &[u8], p: Page) -> Ended
 {
     let bytes = p.bytes;
     let text = take_front(&bytes, p.len);
-    if !print_bytes(rt, name, text) {
+    if print_bytes(rt, name, text).is_err() {
         return Ended::Failed;
     }
     if refusal::is_told(text) {

@@ -1,5 +1,9 @@
 // The path by which the system knows a file, so that two names of one file can be told.
+ghost use Rattle.std.specs.Prelude.{◌≡◌, IfErr};
+ghost use Rattle.files.specs.declared.kept.Stopped.TheVariants.{Failed};
+
 use crate::complain::{Complain, tell};
+use crate::kept::Stopped;
 use crate::{PATH_ROOM, path};
 use std::fs;
 use std::os::unix::fs::MetadataExt;
@@ -28,19 +32,21 @@ fn put_numbers<R: Files>(rt: &R, text: &str, room: &mut [u8]) {
     crate::put(room, n, &found.ino().to_le_bytes());
 }
 
-// Whether the file at path, if there is one, is another than the book's, whose own path stands in real
-// with zeros behind it; if not, standard error says so.
-pub(crate) fn is_apart<R: Files + Alloc + Complain>(
+// The file at path, if there is one, has to be another than the book's, whose own path stands in real
+// with zeros behind it; if it isn't, standard error says so.
+pub(crate) fn check_apart<R: Files + Alloc + Complain>(
     rt: &R,
     whose: &[u8],
     path: &[u8],
     real: &[u8],
-) -> bool {
+) -> Result<(), Stopped>
+    ensures failed { IfErr result (λ e. e ≡ Failed) }
+{
     let mut room = [0u8; PATH_ROOM];
     find_path(rt, path, &mut room);
-    if room[0] != 0 && roster::bytes::are_same(&room, real) {
+    if room[0] != 0 && room.as_slice() == real {
         tell(rt, whose, path, b": is the book itself\n");
-        return false;
+        return Err(Stopped::Failed);
     }
-    true
+    Ok(())
 }

@@ -22,46 +22,28 @@ pub const LONGEST_PATH: usize = 4095;
 // The most bytes of a path at which can be saved: the fresh name has 7 more.
 pub const LONGEST_SAVED: usize = LONGEST_PATH - 7;
 
-// Saves the bytes, which come in two parts, at path, and answers whether it could; if not, standard
-// error says why, behind `whose`.
+// Saves the bytes, which come in two parts, at path; if it can't, standard error says why, behind `whose`.
 pub fn save<R: Files + RandomSource + Complain>(
     rt: &R,
     whose: &[u8],
     path: &[u8],
     front: &[u8],
     back: &[u8],
-) -> bool {
-    match replace(rt, path, front, back) {
-        Ok(()) => true,
-        Err(why) => {
-            fail(rt, whose, path, why);
-            false
-        }
-    }
+) -> Result<()> {
+    replace(rt, path, front, back).inspect_err(|why| fail(rt, whose, path, *why))
 }
 
-// Removes the file at path, if there is one, so that its absence lasts, and answers as save does.
-pub(crate) fn remove<R: Files + Complain>(rt: &R, whose: &[u8], path: &[u8]) -> bool {
-    match unlink(rt, path) {
-        Ok(()) => true,
-        Err(why) => {
-            fail(rt, whose, path, why);
-            false
-        }
-    }
+// Removes the file at path, if there is one, so that its absence lasts; if it can't, that is told likewise.
+pub(crate) fn remove<R: Files + Complain>(rt: &R, whose: &[u8], path: &[u8]) -> Result<()> {
+    unlink(rt, path).inspect_err(|why| fail(rt, whose, path, *why))
 }
 
 fn unlink<R: Files>(rt: &R, path: &[u8]) -> Result<()> {
     let folder = open_folder(rt, path)?;
     match fs::remove_file(rt, as_text(path)?) {
-        Ok(()) => {}
-        Err(why) => {
-            if why.kind() != ErrorKind::NotFound {
-                return Err(why);
-            }
-        }
+        Err(why) if why.kind() != ErrorKind::NotFound => Err(why),
+        _ => folder.sync_all(),
     }
-    folder.sync_all()
 }
 
 // The folder that holds path: all of path up to its last slash, or where the program runs.
@@ -77,14 +59,7 @@ fn open_folder<R: Files>(rt: &R, path: &[u8]) -> Result<R::File> {
 fn find_name(path: &[u8]) -> usize
     ensures within { IsPrefixLen result path.now }
 {
-    let mut i = path.len();
-    while 0 < i {
-        if path[i - 1] == b'/' {
-            return i;
-        }
-        i -= 1;
-    }
-    i
+    path.iter().rposition(|b| *b == b'/').map_or(0, |i| i + 1)
 }
 
 // The folder is opened first: then only its sync can fail once path has changed.
@@ -145,11 +120,10 @@ fn create_beside<R: Files + RandomSource>(
             Ok(file) => {
                 return Ok((file, n));
             }
-            Err(why) => {
-                if why.kind() != ErrorKind::AlreadyExists {
-                    return Err(why);
-                }
+            Err(why) if why.kind() != ErrorKind::AlreadyExists => {
+                return Err(why);
             }
+            Err(_) => {}
         }
     }
     Err(Error::from(ErrorKind::AlreadyExists))
@@ -180,8 +154,8 @@ fn name_beside(path: &[u8], number: u64, room: &mut [u8]) -> usize
 fn take_letters(number: u64) -> [u8; 6] {
     let mut letters = [0u8; 6];
     let mut left = number;
-    for i in 0..6 {
-        letters[i] = LETTERS[(left % 62) as usize];
+    for letter in letters.iter_mut() {
+        *letter = LETTERS[(left % 62) as usize];
         left /= 62;
     }
     letters

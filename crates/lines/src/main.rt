@@ -4,7 +4,7 @@
 
 use files::complain::Complain;
 use files::ended::Ended;
-use files::{Got, arguments, ended};
+use files::{arguments, ended};
 use rules::{reader, table};
 use std::rt::Env;
 use text::lines;
@@ -22,10 +22,10 @@ fn run<R: Env + Input + Print + Complain>(rt: &R) -> Ended {
 }
 
 fn print_book<R: Input + Print + Complain>(rt: &R, room: &mut [u8]) -> Ended {
-    match files::read_input(rt, room) {
-        Got::Failed(_) => Ended::Failed,
-        Got::Bytes(n) => print_lines(rt, files::take_front(room, n)),
-    }
+    let Ok(n) = files::read_input(rt, room) else {
+        return Ended::Failed;
+    };
+    print_lines(rt, files::take_front(room, n))
 }
 
 // Each step sees a record and leads to the next one; a refused book has one step.
@@ -40,7 +40,7 @@ fn print_lines<R: Print + Complain>(rt: &R, book: &[u8]) -> Ended {
             b"standard output",
             lines::tell_record(at, step.kind, seen),
         );
-        if step.left == 0 || !ended::is_done(printed) {
+        if step.left == 0 || printed != Ended::Done {
             return printed;
         }
         at = step.next;

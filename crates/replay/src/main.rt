@@ -3,8 +3,9 @@
 
 use files::complain::Complain;
 use files::ended::Ended;
-use files::{Got, arguments, ended};
+use files::{arguments, ended};
 use rules::reader;
+use std::io::Error;
 use std::rt::Env;
 use text::frame;
 use text::frame::{Asked, Broken, Frame};
@@ -27,15 +28,21 @@ const LONG: usize = frame::MOST_BEHIND as usize;
 
 const SHORT: usize = LONG / 2;
 
-// What came of a frame, or of filling one of its parts.
+// Why no more frames are answered.
 #[derive(Clone, Copy)]
-enum Answered {
-    Whole,
+enum Stopped {
     // The input is over.
     Over,
     Broken(Broken),
     // Standard error says what failed.
     Failed,
+}
+
+// What fails to be read or written here is told.
+impl From<Error> for Stopped {
+    fn from(_why: Error) -> Stopped {
+        Stopped::Failed
+    }
 }
 
 fn main(rt: HostRuntime) {
@@ -54,46 +61,42 @@ fn run<R: Env + Input + Print + Complain>(rt: &R) -> Ended {
 // A proved loop has to end, and nothing says that the input does. So the loop counts to a number that
 // no run reaches.
 fn answer_all<R: Input + Print + Complain>(rt: &R, long: &mut [u8], short: &mut [u8]) -> Ended {
-    let mut i = 0;
-    while i < u64::MAX {
-        let answered = answer_next(rt, long, short);
-        if !is_whole(answered) {
-            return end_at(rt, i, answered);
+    for i in 0..u64::MAX {
+        if let Err(why) = answer_next(rt, long, short) {
+            return end_at(rt, i, why);
         }
-        i += 1;
     }
     Ended::Done
 }
 
 // How the program ends that stops at frame i.
-fn end_at<R: Complain>(rt: &R, i: u64, x: Answered) -> Ended {
-    match x {
-        Answered::Whole => Ended::Done,
-        Answered::Over => Ended::Done,
-        Answered::Broken(how) => {
+fn end_at<R: Complain>(rt: &R, i: u64, why: Stopped) -> Ended {
+    match why {
+        Stopped::Over => Ended::Done,
+        Stopped::Broken(how) => {
             files::tell_page(rt, b"", b"", frame::tell_broken(i, how));
             Ended::Failed
         }
-        Answered::Failed => Ended::Failed,
+        Stopped::Failed => Ended::Failed,
     }
 }
 
-fn answer_next<R: Input + Print + Complain>(rt: &R, long: &mut [u8], short: &mut [u8]) -> Answered {
+fn answer_next<R: Input + Print + Complain>(
+    rt: &R,
+    long: &mut [u8],
+    short: &mut [u8],
+) -> Result<(), Stopped> {
     let mut head = [0u8; 24];
-    match files::read_input(rt, &mut head) {
-        Got::Failed(_) => Answered::Failed,
-        Got::Bytes(n) => {
-            if n == 0 {
-                return Answered::Over;
-            }
-            if n < head.len() {
-                return Answered::Broken(Broken::Cut);
-            }
-            match frame::read(&head) {
-                Asked::Stop => Answered::Broken(Broken::Head),
-                Asked::Call(f) => answer_frame(rt, f, long, short),
-            }
-        }
+    let n = files::read_input(rt, &mut head)?;
+    if n == 0 {
+        return Err(Stopped::Over);
+    }
+    if n < head.len() {
+        return Err(Stopped::Broken(Broken::Cut));
+    }
+    match frame::read(&head) {
+        Asked::Stop => Err(Stopped::Broken(Broken::Head)),
+        Asked::Call(f) => answer_frame(rt, f, long, short),
     }
 }
 
@@ -103,7 +106,7 @@ fn answer_frame<R: Input + Print + Complain>(
     f: Frame,
     long: &mut [u8],
     short: &mut [u8],
-) -> Answered {
+) -> Result<(), Stopped> {
     if f.out <= short.len() {
         return answer_in(rt, f, long, short);
     }
@@ -116,18 +119,18 @@ fn answer_in<R: Input + Print + Complain>(
     f: Frame,
     first: &mut [u8],
     second: &mut [u8],
-) -> Answered {
+) -> Result<(), Stopped> {
     let n = f.book;
     let m = f.checkpoint;
     let k = f.out;
     if first.len() < n {
-        return Answered::Broken(Broken::Head);
+        return Err(Stopped::Broken(Broken::Head));
     }
     if first.len() - n < m {
-        return Answered::Broken(Broken::Head);
+        return Err(Stopped::Broken(Broken::Head));
     }
     if second.len() < k {
-        return Answered::Broken(Broken::Head);
+        return Err(Stopped::Broken(Broken::Head));
     }
     answer_parts(rt, f, &mut first[..n + m], &mut second[..k])
 }
@@ -138,46 +141,23 @@ fn answer_parts<R: Input + Print + Complain>(
     f: Frame,
     parts: &mut [u8],
     out: &mut [u8],
-) -> Answered {
-    let filled = fill(rt, parts);
-    if !is_whole(filled) {
-        return filled;
-    }
-    let filled = fill(rt, out);
-    if !is_whole(filled) {
-        return filled;
-    }
+) -> Result<(), Stopped> {
+    fill(rt, parts)?;
+    fill(rt, out)?;
     let p = call_on(f, parts, out);
     let bytes = p.bytes;
-    if !files::print_bytes(rt, b"standard output", files::take_front(&bytes, p.len)) {
-        return Answered::Failed;
-    }
-    if !files::print_bytes(rt, b"standard output", out) {
-        return Answered::Failed;
-    }
-    Answered::Whole
-}
-
-fn is_whole(x: Answered) -> bool {
-    match x {
-        Answered::Whole => true,
-        Answered::Over => false,
-        Answered::Broken(_) => false,
-        Answered::Failed => false,
-    }
+    files::print_bytes(rt, b"standard output", files::take_front(&bytes, p.len))?;
+    files::print_bytes(rt, b"standard output", out)?;
+    Ok(())
 }
 
 // Reads until buf is full.
-fn fill<R: Input + Complain>(rt: &R, buf: &mut [u8]) -> Answered {
-    match files::read_input(rt, buf) {
-        Got::Failed(_) => Answered::Failed,
-        Got::Bytes(n) => {
-            if n < buf.len() {
-                return Answered::Broken(Broken::Cut);
-            }
-            Answered::Whole
-        }
+fn fill<R: Input + Complain>(rt: &R, buf: &mut [u8]) -> Result<(), Stopped> {
+    let n = files::read_input(rt, buf)?;
+    if n < buf.len() {
+        return Err(Stopped::Broken(Broken::Cut));
     }
+    Ok(())
 }
 
 fn call_on(f: Frame, parts: &[u8], out: &mut [u8]) -> Page {

@@ -8,7 +8,7 @@ mod round;
 use files::complain::Complain;
 use files::ended::Ended;
 use files::save::LONGEST_SAVED;
-use files::{Got, arguments, ended};
+use files::{arguments, ended};
 use roster::plants;
 use roster::plants::Listed;
 use std::random::RandomSource;
@@ -60,24 +60,16 @@ fn read_list<R: Files + Print + Alloc + RandomSource + Complain>(
     b: u32,
 ) -> Ended {
     let mut list = [0u8; LIST_ROOM];
-    match files::read_file(rt, b"", path, &mut list) {
-        Got::Failed(_) => Ended::Failed,
-        Got::Bytes(n) => {
-            let end = end_line(&mut list, n);
-            judge(rt, files::take_front(&list, end), path, b)
-        }
-    }
+    let Ok(n) = files::read_file(rt, b"", path, &mut list) else {
+        return Ended::Failed;
+    };
+    let end = end_line(&mut list, n);
+    judge(rt, files::take_front(&list, end), path, b)
 }
 
 // A last line without its newline is given one, if there is room.
 fn end_line(list: &mut [u8], n: usize) -> usize {
-    if n == 0 {
-        return n;
-    }
-    if list.len() <= n {
-        return n;
-    }
-    if list[n - 1] == b'\n' {
+    if n == 0 || list.len() <= n || list[n - 1] == b'\n' {
         return n;
     }
     list[n] = b'\n';

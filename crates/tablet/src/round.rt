@@ -3,16 +3,17 @@
 // at most, and the next goes on behind it.
 use crate::log::Log;
 use crate::plant::Asked;
-use crate::{LIST_ROOM, log, plant};
+use crate::{LIST_ROOM, plant};
 use files::complain::Complain;
 use files::ended::Ended;
 use files::save::LONGEST_SAVED;
-use files::{BOOK_ROOM, Got, save};
+use files::{BOOK_ROOM, save};
 use queue::reply::Turned;
 use queue::slots::{Queue, SLOT_COUNT};
 use queue::{books, round, slots};
 use roster::{lines, place};
 use rules::book::LONGEST_BOOK;
+use std::io::Result;
 use std::random::RandomSource;
 use std::rt::Files;
 
@@ -20,13 +21,6 @@ use std::rt::Files;
 // at least. Only while another program takes the books back could there be more, and the next run goes
 // on with those.
 const MOST_TURNS: u32 = (SLOT_COUNT * (LONGEST_BOOK / 32 - 1)) as u32;
-
-// The queue, and what was told while it was filled or served.
-#[derive(Clone, Copy)]
-struct Round {
-    queue: Queue,
-    log: Log,
-}
 
 pub(crate) fn run<R: Files + Print + Alloc + RandomSource + Complain>(
     rt: &R,
@@ -65,78 +59,68 @@ fn go_on<R: Files + Print + Alloc + RandomSource + Complain>(
     room: &mut [u8],
 ) -> Ended {
     let mut kept = [0u8; LIST_ROOM];
-    match read_kept(rt, path, &mut kept) {
-        Got::Failed(_) => Ended::Failed,
-        Got::Bytes(k) => {
-            let filled = fill(rt, list, n, room);
-            let mut q = filled.queue;
-            q.last = (place::find(list, files::take_front(&kept, k)) % SLOT_COUNT) as u8;
-            let begun = filled.log;
-            log::end(take_turns(rt, list, q, begun, path, budget, room))
-        }
-    }
-}
-
-// What is kept of the last run, or nothing where there is no such file.
-fn read_kept<R: Files + Complain>(rt: &R, path: &[u8], kept: &mut [u8]) -> Got {
-    files::read_if_there(rt, b"", path, kept)
+    let Ok(k) = files::read_if_there(rt, b"", path, &mut kept) else {
+        return Ended::Failed;
+    };
+    let mut log = Log::new();
+    let mut q = fill(rt, list, n, &mut log, room);
+    q.last = (place::find(list, files::take_front(&kept, k)) % SLOT_COUNT) as u8;
+    take_turns(rt, list, q, &mut log, path, budget, room);
+    log.end()
 }
 
 fn fill<R: Files + Print + Alloc + RandomSource + Complain>(
     rt: &R,
     list: &[u8],
     n: usize,
+    log: &mut Log,
     room: &mut [u8],
-) -> Round {
+) -> Queue {
     let mut queue = slots::begin();
-    let mut log = log::begin();
-    let mut i = 0;
-    while i < n {
-        let t = plant::ask(rt, lines::take_line(list, i), Asked::Count, log, room);
-        let r = books::add(queue, t.left);
+    for i in 0..n {
+        let left = plant::ask(rt, lines::take_line(list, i), Asked::Count, log, room);
+        let r = books::add(queue, left);
         queue = r.queue;
-        log = t.log;
-        i += 1;
     }
-    Round { queue, log }
+    queue
 }
 
 fn take_turns<R: Files + Print + Alloc + RandomSource + Complain>(
     rt: &R,
     list: &[u8],
     first: Queue,
-    begun: Log,
+    log: &mut Log,
     path: &[u8],
     budget: u32,
     room: &mut [u8],
-) -> Log {
+) {
     let mut q = first;
-    let mut log = begun;
-    let mut turns = 0;
-    while turns < MOST_TURNS {
+    for _ in 0..MOST_TURNS {
         let r = round::turn(q, budget);
         let answer = r.answer;
         match answer {
             Turned::NotTurned(_) => {
-                return log;
+                return;
             }
             Turned::Served(i, _) => {
                 let after = r.queue;
-                if !keep(rt, list, after.last, path) {
-                    return log::fail(log);
+                if keep(rt, list, after.last, path).is_err() {
+                    log.fail();
+                    return;
                 }
-                let t = serve(rt, list, i, after, budget, log, room);
-                q = t.queue;
-                log = t.log;
+                q = serve(rt, list, i, after, budget, log, room);
             }
         }
-        turns += 1;
     }
-    log
 }
 
 // The list turned round, so that the plant in this slot stands last.
-fn keep<R: Files + RandomSource + Complain>(rt: &R, list: &[u8], slot: u8, path: &[u8]) -> bool {
+fn keep<R: Files + RandomSource + Complain>(
+    rt: &R,
+    list: &[u8],
+    slot: u8,
+    path: &[u8],
+) -> Result<()> {
     let n = slot as usize + 1;
     save::save(
         rt,
@@ -155,19 +139,17 @@ fn serve<R: Files + Print + Alloc + RandomSource + Complain>(
     i: usize,
     q: Queue,
     budget: u32,
-    log: Log,
+    log: &mut Log,
     room: &mut [u8],
-) -> Round {
-    let t = plant::ask(
+) -> Queue {
+    let left = plant::ask(
         rt,
         lines::take_line(list, i),
         Asked::Turn(budget),
         log,
         room,
     );
-    let log = t.log;
-    let queue = recount(q, i, t.left);
-    Round { queue, log }
+    recount(q, i, left)
 }
 
 // Every slot below is taken, so that the plant gets its own again.

@@ -36,7 +36,7 @@ fn misuse<R: Complain>(rt: &R) -> Ended {
 fn is_fresh_asked<R: Env>(rt: &R) -> bool {
     let mut word = [0u8; 5];
     match rt.arg(4, &mut word) {
-        Ok(n) => roster::bytes::are_same(&word[..n], b"fresh"),
+        Ok(n) => &word[..n] == b"fresh".as_slice(),
         Err(_) => false,
     }
 }

@@ -1,5 +1,5 @@
 -- The refusal is asked of the bytes that are printed.
-use Rattle.std.proofs.Common.{◌≡◌, sym, ap, ◌∙◌}
+use Rattle.std.proofs.Common.{sym, ap, ◌∙◌}
 use Rattle.text.specs.Refusal.{has_refusal}
 use Rattle.files.proofs.print_page.Goals as goal
 

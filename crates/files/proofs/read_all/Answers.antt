@@ -24,6 +24,6 @@ take_put a k m xs ys h f =
 pub loop-n-preserved : goal.loop-n-preserved
 loop-n-preserved g c =
     let loop = c.loop-n in
-    let read = c.in-Bytes.ensures in
-    let put = take_put loop.n _ c.in-Bytes.more loop.buf c.read_some-got.new.room loop.invariant.0 read.within.0 in
+    let read = c.in_ok-more.ensures in
+    let put = take_put loop.n _ c.in_ok-more.more loop.buf c.read.new.buf loop.invariant.0 read.bound.0 in
     (search rules, subst (Consumes _ _) put (Consumes-trans _ _ _ _ _ loop.invariant.1 read.bytes.0))
