@@ -12,5 +12,7 @@ pub mod reply;
 pub mod report;
 mod run;
 mod shares;
+mod tabled;
 mod unfuelled;
 pub mod wake;
+mod way;

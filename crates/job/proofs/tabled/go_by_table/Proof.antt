@@ -7,8 +7,8 @@ use Rattle.rules.specs.Book.{unit_ok}
 use Rattle.rules.proofs.BookLaws.{accepted_facts}
 use Rattle.rules.proofs.LinesLaws.{rising_lines_sound}
 use Rattle.rules.proofs.TableLaws.{is_table-blank, replicate_length, unit_lines-length-le}
-use Rattle.job.proofs.run.go_by_table.Statement.{statement}
-use Rattle.job.proofs.run.go_by_table.Tie as tie
+use Rattle.job.proofs.tabled.go_by_table.Statement.{statement}
+use Rattle.job.proofs.tabled.go_by_table.Tie as tie
 
 few-lines : {n m k : ℕ} → n ≤ m → m ≤ 32 * k → n / 32 ≤ k
 few-lines h l = omega arith

@@ -4,7 +4,7 @@ use Rattle.rules.specs.Bytes.{lines}
 use Rattle.rules.specs.Book.{unit_lines}
 use Rattle.rules.specs.Table.{Known}
 use Rattle.job.specs.Leg.{Went}
-use Rattle.job.proofs.run.go_slowly.Given as goal
+use Rattle.job.proofs.way.go_slowly.Given as goal
 
 abbrev pub invariant-loop-at : goal.invariant-loop-at
 invariant-loop-at l = record {

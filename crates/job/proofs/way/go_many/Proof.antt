@@ -11,8 +11,8 @@ use Rattle.rules.specs.Book.{unit_lines}
 use Rattle.rules.specs.Table.{Known}
 use Rattle.job.specs.Leg.{Went}
 use Rattle.job.proofs.WentLaws.{went_none, before_went, went_on, went_ended}
-use Rattle.job.proofs.run.go_many.Statement.{statement}
-use Rattle.job.proofs.run.go_many.Tie as tie
+use Rattle.job.proofs.way.go_many.Statement.{statement}
+use Rattle.job.proofs.way.go_many.Tie as tie
 
 abbrev invariant-loop : tie.invariant-loop-at
 invariant-loop book h place until table₀ stop aside₀ w₀ at₀ table aside w at =

@@ -2,8 +2,8 @@
 use native.Mathlib.Omega.{arith}
 use borrow.Author.Rules.{rules}
 use Rattle.rules.proofs.BookLaws.{accepted_facts}
-use Rattle.job.proofs.run.go_known.Statement.{statement}
-use Rattle.job.proofs.run.go_known.Tie as tie
+use Rattle.job.proofs.tabled.go_known.Statement.{statement}
+use Rattle.job.proofs.tabled.go_known.Tie as tie
 
 has-no-fuel-requires : tie.Need-has_no_fuel-requires
 has-no-fuel-requires c κs = let k = accepted_facts _ _ c.requires.0 in omega arith

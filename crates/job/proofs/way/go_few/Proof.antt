@@ -1,7 +1,7 @@
 -- Hints change nothing in what is gone through. Assumes nothing.
 use borrow.Author.Rules.{rules}
-use Rattle.job.proofs.run.go_few.Statement.{statement}
-use Rattle.job.proofs.run.go_few.Tie as tie
+use Rattle.job.proofs.way.go_few.Statement.{statement}
+use Rattle.job.proofs.way.go_few.Tie as tie
 
 go_slowly-requires : tie.Need-go_slowly-requires
 go_slowly-requires c κs = c.requires

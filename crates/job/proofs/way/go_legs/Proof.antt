@@ -1,8 +1,8 @@
 -- Either way the records are gone through. Assumes nothing.
 use native.Mathlib.Omega.{arith}
 use Rattle.rules.proofs.BookLaws.{accepted_facts}
-use Rattle.job.proofs.run.go_legs.Statement.{statement}
-use Rattle.job.proofs.run.go_legs.Tie as tie
+use Rattle.job.proofs.way.go_legs.Statement.{statement}
+use Rattle.job.proofs.way.go_legs.Tie as tie
 
 find-few-requires : tie.Need-find_few-requires
 find-few-requires c κs = let k = accepted_facts _ _ c.requires.0 in (omega arith, omega arith)

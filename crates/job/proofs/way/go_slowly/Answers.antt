@@ -9,8 +9,8 @@ use Rattle.job.proofs.WordsLaws.{kept_more}
 use Rattle.job.proofs.WakeLaws.{records_le}
 use Rattle.job.proofs.LegLaws.{carries_each-le}
 use Rattle.job.proofs.WentLaws.{counts-before, went_none, before_went, went_next, went_ended}
-use Rattle.job.proofs.run.go_slowly.Goals as goal
-use Rattle.job.proofs.run.go_slowly.Goals.{In-loop-at}
+use Rattle.job.proofs.way.go_slowly.Goals as goal
+use Rattle.job.proofs.way.go_slowly.Goals.{In-loop-at}
 
 pub loop-at-init : goal.loop-at-init
 loop-at-init c = record { went = went_none c.requires.before; known = c.requires.before.known }

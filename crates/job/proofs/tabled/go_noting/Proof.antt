@@ -13,8 +13,8 @@ use Rattle.job.proofs.AdmissionLaws.{admitted_for-whole}
 use Rattle.job.proofs.RunLaws.{encode_gone, light_gone}
 use Rattle.job.proofs.WakeLaws.{head_fits}
 use Rattle.job.proofs.WentLaws.{before_gone, gone_went}
-use Rattle.job.proofs.run.go_noting.Statement.{statement}
-use Rattle.job.proofs.run.go_noting.Tie as tie
+use Rattle.job.proofs.tabled.go_noting.Statement.{statement}
+use Rattle.job.proofs.tabled.go_noting.Tie as tie
 
 abbrev start : tie.After-note_records → tie.Start
 start c = c.before.before.before.before.before.before.before.before.before.before.before

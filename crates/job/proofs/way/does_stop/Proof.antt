@@ -2,8 +2,8 @@
 use mathlib.Core.Bool.{false≢true}
 use mathlib.Core.Path.{sym, ◌∙◌}
 use borrow.Author.Rules.{rules}
-use Rattle.job.proofs.run.does_stop.Statement.{statement}
-use Rattle.job.proofs.run.does_stop.Tie as tie
+use Rattle.job.proofs.way.does_stop.Statement.{statement}
+use Rattle.job.proofs.way.does_stop.Tie as tie
 
 returns-2 : tie.Need-returns
 returns-2 c = λ e. absurd (false≢true (sym e ∙ c.if-not-stop.false))
