@@ -160,7 +160,7 @@ pub(crate) fn write(h: Head, place: u32, aside: &Aside, from: &[u8], w: &[u64], 
 fn join(low: u32, high: u32) -> u64
     ensures joined { (result ≡ low + 4294967296 * high) × (low < 4294967296) }
 {
-    low as u64 + FOUR_BYTES * (high as u64)
+    u64::from(low) + FOUR_BYTES * u64::from(high)
 }
 
 // The same of a reason, which one byte holds, behind an index.

@@ -56,9 +56,8 @@ fn find_place(d: Destination) -> usize
     ensures place { result ≡ co2_place d }
 {
     match d {
-        Destination::Fossil => FOSSIL,
+        Destination::Fossil | Destination::Nowhere => FOSSIL,
         Destination::Biomass => BIOMASS,
-        Destination::Nowhere => FOSSIL,
     }
 }
 
@@ -67,8 +66,7 @@ fn keep(d: Destination, x: Ug) -> u64
     ensures kept { result ≡ co2_kept d x.0 }
 {
     match d {
-        Destination::Fossil => x.0,
-        Destination::Biomass => x.0,
+        Destination::Fossil | Destination::Biomass => x.0,
         Destination::Nowhere => 0,
     }
 }
@@ -85,7 +83,7 @@ pub(crate) fn add(w: &mut [u64], k: usize, x: u64)
         return;
     }
     w[k] = sum - FULL;
-    w[HIGH + k] = w[HIGH + k] + 1;
+    w[HIGH + k] += 1;
 }
 
 // The ledger g of place k with what the records give.
@@ -97,10 +95,8 @@ pub(crate) fn gather(g: Ledger, k: usize, w: &[u64]) -> Ledger
     let low = w[k];
     let high = w[HIGH + k];
     // Hours and anodes give to one ledger alone.
-    if low == 0 {
-        if high == 0 {
-            return g;
-        }
+    if low == 0 && high == 0 {
+        return g;
     }
     if k < CH4 {
         return ledger::add_ug(raise(g, CO2_TONNES, high), Ug(low));
@@ -113,9 +109,8 @@ fn raise(g: Ledger, tonnes: u64, times: u64) -> Ledger
     requires light { Canonical g × (g.tonnes + tonnes * times ≤ most_tonnes) }
     ensures raised { (total result ≡ total g + tonnes * times * tonne) × Sound result }
 {
-    let rest = g.rest;
     Ledger {
         tonnes: g.tonnes + tonnes * times,
-        rest,
+        ..g
     }
 }

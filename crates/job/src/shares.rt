@@ -30,10 +30,8 @@ pub(crate) fn add(d: &mut [u64; 1024], x: Share)
     requires room { (slice_index d.old (x.at + x.way) + x.burned < 18446744073709551616) × (slice_index d.old (x.at + 8) + x.carbon < 18446744073709551616) }
     ensures shared { d.new ≡ shared d.old x }
 {
-    let at = x.at + x.way;
-    d[at] = d[at] + x.burned;
-    let carbon = x.at + CARBON;
-    d[carbon] = d[carbon] + x.carbon;
+    d[x.at + x.way] += x.burned;
+    d[x.at + CARBON] += x.carbon;
 }
 
 // Gives the ledgers' words what all shares come to.
@@ -104,9 +102,10 @@ fn find_co2(biomass: bool) -> usize
     ensures place { result ≡ co2_place_of biomass }
 {
     if biomass {
-        return ledgers::BIOMASS;
+        ledgers::BIOMASS
+    } else {
+        ledgers::FOSSIL
     }
-    ledgers::FOSSIL
 }
 
 // x × factor more at place i, in coarse units and the rest.
@@ -115,9 +114,8 @@ fn weigh(sums: &mut [u64; 8], i: usize, x: u64, factor: u64)
     requires room { (slice_index sums.old i + x / coarse * factor < 18446744073709551616) × (slice_index sums.old (state.ledgers + i) + x % coarse * factor < 18446744073709551616) }
     ensures weighed { sums.new ≡ weighed sums.old i x factor }
 {
-    sums[i] = sums[i] + x / COARSE * factor;
-    let rest = ledgers::COUNT + i;
-    sums[rest] = sums[rest] + x % COARSE * factor;
+    sums[i] += x / COARSE * factor;
+    sums[ledgers::COUNT + i] += x % COARSE * factor;
 }
 
 // Gives all sums to the ledgers' words.
@@ -139,8 +137,7 @@ fn pour_at(w: &mut [u64], i: usize, units: u64, rest: u64)
     requires kept { Kept (carries - pour_each) w.old }
     ensures poured { w.new ≡ poured w.old i units rest }
 {
-    let high = ledgers::COUNT + i;
-    w[high] = w[high] + units / FULL;
+    w[ledgers::COUNT + i] += units / FULL;
     ledgers::add(w, i, units % FULL * COARSE);
     ledgers::add(w, i, rest);
 }

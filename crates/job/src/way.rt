@@ -109,21 +109,10 @@ pub(crate) fn go_slowly(
     ensures went { Went h book.now place until stop aside.old w.old result aside.new w.new }
 {
     for at in place..until {
-        if does_stop(book, h, at, stop) {
+        if stop && record::is_repeatable(book, h, at as usize) {
             return at;
         }
         leg::take_slowly(book, h, at, by_unit, by_fuel, table, aside, w);
     }
     until
-}
-
-fn does_stop(book: &[u8], h: Head, i: u32, stop: bool) -> bool
-    requires opened { opened book.now ≡ accepted h }
-    requires there { i < h.n }
-    ensures never { stop ≡ false → result ≡ false }
-{
-    if !stop {
-        return false;
-    }
-    record::is_repeatable(book, h, i as usize)
 }

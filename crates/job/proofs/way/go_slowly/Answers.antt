@@ -18,13 +18,9 @@ loop-at-init c = record { went = went_none c.requires.before; known = c.requires
 there : (c : In-loop-at) → c.loop-at.at < c.args.h.n
 there c = lt_of_lt_of_le c.loop-at-test.true c.requires.before.end_le
 
-pub returns-then-does_stop : goal.returns-then-does_stop
-returns-then-does_stop c =
-    record {
-      went =
-          went_ended c.loop-at.invariant.went
-          (λ e. absurd (false≢true (sym (c.does_stop.ensures.never e) ∙ c.if-does_stop.true)));
-    }
+pub returns-then-is_repeatable : goal.returns-then-is_repeatable
+returns-then-is_repeatable c =
+    record { went = went_ended c.loop-at.invariant.went (λ e. absurd (false≢true (sym e ∙ c.if-stop.true))) }
 
 pub take_slowly-requires-clause-there : goal.take_slowly-requires-clause-there
 take_slowly-requires-clause-there c =
