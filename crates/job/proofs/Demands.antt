@@ -18,6 +18,8 @@ use Rattle.std.specs.Prelude.{Err}
 use Rattle.choice.specs.Tests.{choose}
 use Rattle.mass.specs.Figures.{kg_of, must_report}
 use Rattle.rules.specs.declared.book.Head.{Head}
+use Rattle.rules.specs.declared.record.Reason.{Reason}
+use Rattle.rules.specs.Outcome.{reason_number}
 use Rattle.rules.specs.Bytes.{line, lines, lines_in}
 use Rattle.rules.specs.Fields.{warming_set}
 use Rattle.rules.specs.Book.{length_ok, trailer_ok, unit_ok, fuel_ok, lines_sound, trailer, head_of, unit_lines, fuel_lines, refused, accepted, opened, SetApart}
@@ -175,7 +177,7 @@ pub record Demand2 (k : List ℕ) (h : Head) (c : List ℕ) : Type 0 where
   pub ledger : (i : ℕ) → mass (decode c).masses i ≡ sum_to (λ j. mass (gives (outcome_at h k j)) i) (done_in c)
   pub aside : aside_in c ≡ sum_to (λ i. aside_of (outcome_at h k i)) (done_in c)
   -- It tells the first record that was set aside, and why.
-  pub told : 0 < aside_in c → outcome_at h k (index_in c) ≡ Err (reason_in c)
+  pub told : 0 < aside_in c → (r : Reason) × (outcome_at h k (index_in c) ≡ Err r) × (reason_number r ≡ reason_in c)
   pub none_before : 0 < aside_in c → (j : ℕ) → j < index_in c → aside_of (outcome_at h k j) ≡ 0
   -- Totals are withheld exactly when a record was set aside or the book isn't finished.
   pub report : Reports k h c

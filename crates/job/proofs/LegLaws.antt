@@ -9,6 +9,7 @@ use Rattle.std.specs.Prelude.{Ok, Err}
 use Rattle.mass.specs.Ledger.{records_foreseen}
 use Rattle.rules.specs.declared.book.Head.{Head}
 use Rattle.rules.specs.declared.entry.Entry.{Entry}
+use Rattle.rules.specs.declared.record.Reason.{Reason}
 use Rattle.rules.specs.Outcome.{Outcome}
 use Rattle.rules.specs.Bytes.{line}
 use Rattle.rules.specs.Book.{fuel_lines}
@@ -30,7 +31,7 @@ pub aside_lt : {a p n : ℕ} → a ≤ p → p < n → n ≤ records_foreseen �
 aside_lt l m f = omega arith
 
 -- ---- a record that is judged by the book's lines
-pub took_aside : (h : Head) (k : List ℕ) (p : ℕ) (a : Aside) (w : List ℕ) (b : Aside) (r : ℕ) → outcome_at h k p ≡ Err r
+pub took_aside : (h : Head) (k : List ℕ) (p : ℕ) (a : Aside) (w : List ℕ) (b : Aside) (r : Reason) → outcome_at h k p ≡ Err r
     → counts_at (p + 1) b ≡ counted (counts_at p a) (Err r) → Took h k p a w b w
 took_aside h k p a w b r o c = record {
   counts = c ∙ ap (counted (counts_at p a)) (sym o);

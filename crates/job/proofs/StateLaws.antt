@@ -15,7 +15,8 @@ use Rattle.rules.specs.declared.book.Head.{Head}
 use Rattle.rules.specs.declared.entry.Destination.{Destination}
 use Rattle.rules.specs.declared.entry.Destination.TheVariants.{Fossil, Biomass, Nowhere}
 use Rattle.rules.specs.declared.entry.Entry.{Entry}
-use Rattle.rules.specs.Outcome.{Outcome}
+use Rattle.rules.specs.declared.record.Reason.{Reason}
+use Rattle.rules.specs.Outcome.{reason_number, Outcome}
 use Rattle.rules.specs.Book.{opened, accepted}
 use Rattle.rules.specs.Record.{last_reason, outcome_at}
 use Rattle.rules.specs.Bounds.{Bounded}
@@ -61,19 +62,19 @@ run-first h k p (suc n) =
     (ap (λ (i : ℕ). after (first h k (p + n)) (outcome_at h k i)) (first_done h k (p + n)))
 
 -- ---- the first record set aside is told, and a later one changes nothing
-pub counted-first : (c : Counts) (r : ℕ) → c.aside ≡ 0
-    → ((counted c (Err r)).index ≡ c.done) × ((counted c (Err r)).reason ≡ r)
+pub counted-first : (c : Counts) (r : Reason) → c.aside ≡ 0
+    → ((counted c (Err r)).index ≡ c.done) × ((counted c (Err r)).reason ≡ reason_number r)
 unfolding counted
 counted-first c r e =
     let none = eq-eqb c.aside 0 e in
     (choose_t c.index none refl, choose_t c.reason none refl)
 
-pub counted_later : (c : Counts) (r : ℕ) → (c.aside ≡ 0 → ⊥)
+pub counted_later : (c : Counts) (r : Reason) → (c.aside ≡ 0 → ⊥)
     → ((counted c (Err r)).index ≡ c.index) × ((counted c (Err r)).reason ≡ c.reason)
 unfolding counted
 counted_later c r e =
     let some = ne_eqb c.aside 0 e in
-    (choose_f c.done some refl, choose_f r some refl)
+    (choose_f c.done some refl, choose_f (reason_number r) some refl)
 
 -- ---- what an outcome gives to a ledger
 pub given_parts : (e : Entry) (i : ℕ) →
@@ -225,10 +226,10 @@ first_aside h k (suc n) =
     let o = outcome_at h k n in
     counted_aside (first h k n).counts o ∙ ap (λ (v : ℕ). v + aside_of o) (first_aside h k n)
 
--- ---- of the first n records, the first that is set aside is record i, for the reason r
+-- ---- of the first n records, the first that is set aside is record i, for the reason with the number r
 pub record FirstAside (h : Head) (k : List ℕ) (n i r : ℕ) : Type 0 where
   pub index_lt : i < n
-  pub set_aside : outcome_at h k i ≡ Err r
+  pub set_aside : (m : Reason) × (outcome_at h k i ≡ Err m) × (reason_number m ≡ r)
   pub none_before : (j : ℕ) → j < i → aside_of (outcome_at h k j) ≡ 0
 
 sum_to-zero : (f : ℕ → ℕ) (n j : ℕ) → sum_to f n ≡ 0 → j < n → f j ≡ 0
@@ -264,7 +265,7 @@ module _ (h : Head) (k : List ℕ) where
       let none = sym (first_aside h k n) ∙ z in
       first_aside_as (sym (told.0 ∙ first_done h k n)) (sym told.1) (record {
         index_lt = omega arith;
-        set_aside = e;
+        set_aside = (r, e, refl);
         none_before = λ j m. sum_to-zero (λ i. aside_of (outcome_at h k i)) n j none m;
       }))
       (λ z.

@@ -28,6 +28,7 @@ use Rattle.rules.specs.declared.book.Head.{Head}
 use Rattle.rules.specs.declared.sorting.Share.{Share}
 use Rattle.rules.specs.declared.weighing.Grained.{Grained}
 use Rattle.rules.specs.declared.weighing.Grained.TheVariants as grained
+use Rattle.rules.specs.declared.record.Reason.TheVariants.{Repeated}
 use Rattle.rules.specs.Bytes.{line, lines}
 use Rattle.rules.specs.Book.{unit_lines, fuel_lines}
 use Rattle.rules.specs.Record.{outcome_at}
@@ -124,5 +125,5 @@ grained_by g (grained.Fossil x) w = added w fossil (g * x.0)
 
 abbrev pub AsideBy : ℕ → Grained → Aside → Aside → Type 0
 AsideBy p grained.Unsure a b = b ≡ a
-AsideBy p grained.Repeated a b = counts_at (p + 1) b ≡ counted (counts_at p a) (Err 8)
+AsideBy p grained.Repeated a b = counts_at (p + 1) b ≡ counted (counts_at p a) (Err Repeated)
 AsideBy p (grained.Fossil x) a b = b ≡ a

@@ -21,7 +21,7 @@ use Rattle.choice.specs.Tests.{choose}
 use Rattle.rules.specs.declared.book.Head.{Head}
 use Rattle.rules.specs.declared.entry.Destination.{Destination}
 use Rattle.rules.specs.declared.entry.Destination.TheVariants.{Fossil, Biomass, Nowhere}
-use Rattle.rules.specs.Outcome.{Outcome}
+use Rattle.rules.specs.Outcome.{reason_number, Outcome}
 use Rattle.rules.specs.Record.{outcome_at}
 use Rattle.job.specs.declared.counts.Counts.{Counts}
 
@@ -87,7 +87,7 @@ counted c (Err k) = record {
   done = c.done + 1;
   aside = c.aside + 1;
   index = choose (nat_eq c.aside 0) c.done c.index;
-  reason = choose (nat_eq c.aside 0) k c.reason;
+  reason = choose (nat_eq c.aside 0) (reason_number k) c.reason;
 }
 counted c (Ok e) = record { done = c.done + 1; aside = c.aside; index = c.index; reason = c.reason }
 

@@ -17,7 +17,7 @@ use crate::counts::Aside;
 use crate::{ledgers, shares};
 use mass::hour;
 use rules::book::Head;
-use rules::record::Outcome;
+use rules::record::Reason;
 use rules::sorting::Share;
 use rules::weighing::Grained;
 use rules::{hints, index, record, sorting, table, weighing};
@@ -201,7 +201,7 @@ fn take_grained(place: u32, grained: Grained, worth: u64, aside: &mut Aside, w: 
     match grained {
         Grained::Unsure => Taken::Unsure,
         Grained::Repeated => {
-            set_aside(aside, place, 8);
+            set_aside(aside, place, Reason::Repeated);
             Taken::Done
         }
         Grained::Fossil(x) => {
@@ -237,13 +237,13 @@ pub(crate) fn take_slowly(
 }
 
 // One record more is set aside, that at this place. Only the first such is told by its index and its reason.
-pub(crate) fn set_aside(aside: &mut Aside, place: u32, reason: u8)
+pub(crate) fn set_aside(aside: &mut Aside, place: u32, reason: Reason)
     requires room { aside.old.count < 4294967295 }
     ensures counted { counts_at (place + 1) aside.new ≡ counted (counts_at place aside.old) (Err reason) }
 {
     if aside.count == 0 {
         aside.index = place;
-        aside.reason = reason;
+        aside.reason = record::number_reason(reason);
     }
     aside.count += 1;
 }

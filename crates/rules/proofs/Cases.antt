@@ -12,6 +12,7 @@ use Rattle.mass.specs.Ledger.{tonne}
 use Rattle.mass.specs.Figures.{decisive, must_report}
 use Rattle.mass.proofs.Cases as mass
 use Rattle.rules.specs.declared.entry.Destination.TheVariants.{Fossil}
+use Rattle.rules.specs.declared.record.Reason.TheVariants.{NoMethod}
 use Rattle.rules.specs.Outcome.{Outcome}
 use Rattle.rules.specs.Bytes.{word, bytes_of}
 use Rattle.rules.specs.Fields.{moisture}
@@ -64,9 +65,9 @@ pub record WorkedSums : Type 0 where
   pub p1 : burned 2500 1 0 0 0 ≡ counted 1 1900000000000 34200000000 3420000000
   pub p2 : burned 2500 1 1 39000 0 ≡ counted 2 1950000000000 35100000000 3510000000
   pub p3 : burned 2500 1 2 0 520000 ≡ counted 3 1905280000000 34200000000 3420000000
-  pub p4 : burned 2501 1 0 0 0 ≡ Err 6
+  pub p4 : burned 2501 1 0 0 0 ≡ Err NoMethod
   pub p5 : burned 2501 1 1 39000 0 ≡ counted 2 1950000000000 35100000000 3510000000
-  pub p6 : burned 2501 0 1 39000 0 ≡ Err 6
+  pub p6 : burned 2501 0 1 39000 0 ≡ Err NoMethod
   -- 12.5 and 2,000,000
   pub p7 : measured 0x4148_0000 0x49F4_2400 ≡ counted 0 12950000000000 0 0
   -- 0.25 and 0.25

@@ -6,6 +6,8 @@ use Rattle.mass.specs.declared.hour.Hour.{Hour}
 use Rattle.mass.specs.declared.hour.Hour.TheVariants.{Usable, Unusable}
 use Rattle.rules.specs.declared.book.Head.{Head}
 use Rattle.rules.specs.declared.entry.Destination.TheVariants.{Fossil}
+use Rattle.rules.specs.declared.record.Reason.{Reason}
+use Rattle.rules.specs.declared.record.Reason.TheVariants.{WrongForm, NoUnit, OutOfRange, NoMonitor, Repeated}
 use Rattle.rules.specs.Outcome.{Outcome}
 use Rattle.rules.specs.Bytes.{line}
 use Rattle.rules.specs.Fields.{number, monitored, kind, unit_number, fuelled}
@@ -32,11 +34,11 @@ unfolding co2_alone
 co2_alone-n2o x = refl
 
 -- ---- one test, and then all of them
-co2_check : (t : Bool) (k : ℕ) (x : Outcome) → Co2Alone x → Co2Alone (check t k x)
+co2_check : (t : Bool) (k : Reason) (x : Outcome) → Co2Alone x → Co2Alone (check t k x)
 unfolding check
 co2_check t k x p = if_choose Co2Alone t (λ passed. p) (λ failed. tt)
 
-co2_listed : (x k : ℕ) (ls : List (List ℕ)) (rest : List ℕ → Outcome) → ((l : List ℕ) → Co2Alone (rest l))
+co2_listed : (x : ℕ) (k : Reason) (ls : List (List ℕ)) (rest : List ℕ → Outcome) → ((l : List ℕ) → Co2Alone (rest l))
     → Co2Alone (listed x ls k rest)
 unfolding listed
 co2_listed x k [] rest p = tt
@@ -45,34 +47,34 @@ co2_listed x k (y ∷ ls) rest p =
 
 co2_hour_read : (l u : List ℕ) (x : Hour) → Co2Alone (hour_read l u x)
 unfolding hour_read hour_entry co2_alone
-co2_hour_read l u (Usable r) = co2_check (monitored u) 5 _ refl
+co2_hour_read l u (Usable r) = co2_check (monitored u) NoMonitor _ refl
 co2_hour_read l u (Unusable y) = tt
 
 co2_hour_judged : (l u : List ℕ) → Co2Alone (hour_judged l u)
 unfolding hour_judged
-co2_hour_judged l u = co2_check (moisture_form l u) 1 _ (co2_check (hour_range l) 4 _ (co2_hour_read l u _))
+co2_hour_judged l u = co2_check (moisture_form l u) WrongForm _ (co2_check (hour_range l) OutOfRange _ (co2_hour_read l u _))
 
 module _ (l : List ℕ) (units : List (List ℕ)) where
   co2_hour_outcome : Co2Alone (hour_outcome l units)
   unfolding hour_outcome
-  co2_hour_outcome = co2_check (hour_form l) 1 _ (co2_listed (unit_number l) 2 units _ (co2_hour_judged l))
+  co2_hour_outcome = co2_check (hour_form l) WrongForm _ (co2_listed (unit_number l) NoUnit units _ (co2_hour_judged l))
 
   co2_anodes_outcome : Co2Alone (anodes_outcome l units)
   unfolding anodes_outcome anodes_entry co2_alone
   co2_anodes_outcome =
-      co2_check (anodes_form l) 1 _
-      (co2_listed (unit_number l) 2 units _ (λ u. co2_check (anodes_ranges l) 4 _ refl))
+      co2_check (anodes_form l) WrongForm _
+      (co2_listed (unit_number l) NoUnit units _ (λ u. co2_check (anodes_ranges l) OutOfRange _ refl))
 
   co2_unfuelled_outcome : Co2Alone (unfuelled_outcome l units)
   unfolding unfuelled_outcome
   co2_unfuelled_outcome =
       if_choose Co2Alone (eqb (kind l) 2) (λ hourly. co2_hour_outcome)
-      (λ other. co2_check (eqb (kind l) 4) 1 _ co2_anodes_outcome)
+      (λ other. co2_check (eqb (kind l) 4) WrongForm _ co2_anodes_outcome)
 
 co2_unless_repeated : (b : Bool) (o : Outcome) → Co2Alone o → Co2Alone (unless_repeated b o)
 unfolding unless_repeated
 co2_unless_repeated b (Err k) p = tt
-co2_unless_repeated b (Ok e) p = co2_check (not b) 8 (Ok e) p
+co2_unless_repeated b (Ok e) p = co2_check (not b) Repeated (Ok e) p
 
 pub co2_outcome_at : (h : Head) (s : List ℕ) (i : ℕ) → fuelled (line i s) ≡ false → Co2Alone (outcome_at h s i)
 unfolding outcome_at

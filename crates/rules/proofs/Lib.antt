@@ -19,6 +19,7 @@ pub mod NotedLaws
 pub mod KindLaws
 pub mod MethodLaws
 pub mod EntryLaws
+pub mod OutcomeLaws
 pub mod RecordLaws
 pub mod OnceLaws
 pub mod MaskLaws

@@ -5,6 +5,7 @@ use mathlib.Core.List.Memᴰ
 use mathlib.Core.List.{Memᴰ}
 use borrow.Author.Tests.{eqb-false}
 use Rattle.choice.proofs.TestsLaws.{also_l, also_r, if_choose}
+use Rattle.rules.specs.declared.record.Reason.{Reason}
 use Rattle.rules.specs.Outcome.{Outcome}
 use Rattle.rules.specs.Fields.{number}
 use Rattle.rules.specs.Book.{lines_ok}
@@ -24,7 +25,7 @@ module _ (x : ℕ) (y : List ℕ) (ls : List (List ℕ)) where
   listed_cons a i = record { among = Memᴰ.tail i.among; has = i.has }
 
 -- What holds if there is none, and if any is found, holds of the outcome.
-pub if_listed : (G : Outcome → Type 0) (x k : ℕ) (ls : List (List ℕ)) (rest : List ℕ → Outcome)
+pub if_listed : (G : Outcome → Type 0) (x : ℕ) (k : Reason) (ls : List (List ℕ)) (rest : List ℕ → Outcome)
     → (Lacks x ls → G (Err k)) → ((a : List ℕ) → Listed x ls a → G (rest a)) → G (listed x ls k rest)
 unfolding listed
 if_listed G x k [] rest none found = none (λ a i. Memᴰ.not-nil i.among)

@@ -6,6 +6,8 @@ use Rattle.choice.proofs.Splitting.{if_lt, if_eq}
 use Rattle.choice.proofs.TestsLaws.{also_t, also_f, choose_t, choose_f}
 use Rattle.rules.specs.declared.listing.Sort.{Sort}
 use Rattle.rules.specs.declared.listing.Sort.TheVariants.{Unit, Fuel}
+use Rattle.rules.specs.declared.record.Reason.{Reason}
+use Rattle.rules.specs.declared.record.Reason.TheVariants.{NoUnit}
 use Rattle.rules.specs.Outcome.{Outcome}
 use Rattle.rules.specs.Bytes.{zeros, line, lines, lines_in}
 use Rattle.rules.specs.Fields.{number}
@@ -38,14 +40,14 @@ blank_from-le Fuel = omega arith
 record Absent (x n j : ℕ) (s : List ℕ) : Type 0 where
   lacks : (i : ℕ) → i < n → number_at i s ≡ x → ⊥
   place_is : place x j (lines n s) ≡ None
-  listed_is : (k : ℕ) (rest : List ℕ → Outcome) → listed x (lines n s) k rest ≡ Err k
+  listed_is : (k : Reason) (rest : List ℕ → Outcome) → listed x (lines n s) k rest ≡ Err k
 
 -- Line i is the first that has it.
 record First (x n j i : ℕ) (s : List ℕ) : Type 0 where
   within : i < n
   has : number_at i s ≡ x
   place_is : place x j (lines n s) ≡ Some (j + i)
-  listed_is : (k : ℕ) (rest : List ℕ → Outcome) → listed x (lines n s) k rest ≡ rest (line i s)
+  listed_is : (k : Reason) (rest : List ℕ → Outcome) → listed x (lines n s) k rest ≡ rest (line i s)
 
 absent_zero : (x j : ℕ) (s : List ℕ) → Absent x 0 j s
 unfolding place listed lines
@@ -186,7 +188,7 @@ between_half s x low half width y u r l e h lower upper b =
     rw (at, end) (omega arith, between_up s x (low + half) y r l e low (low + width) reached b))
 
 -- ---- what `listed` makes of r, which a search for y gave
-module _ (x k : ℕ) (rest : List ℕ → Outcome) where
+module _ (x : ℕ) (k : Reason) (rest : List ℕ → Outcome) where
   pub listed_at : {r : Option ℕ} {y p : ℕ} (s : List ℕ) → r ≡ place y 0 (lines_in s) → y ≡ x → r ≡ Some p
       → (p < length s / 32) × (listed x (lines_in s) k rest ≡ rest (line p s))
   unfolding lines_in
@@ -211,7 +213,7 @@ module _ (x k : ℕ) (rest : List ℕ → Outcome) where
 -- The line that was found is there.
 pub place_lt : {r : Option ℕ} {p : ℕ} (x : ℕ) (s : List ℕ) → r ≡ place x 0 (lines_in s) → r ≡ Some p
     → p < length s / 32
-place_lt x s e q = (listed_at x 0 (λ u. Err 0) s e refl q).0
+place_lt x s e q = (listed_at x NoUnit (λ u. Err NoUnit) s e refl q).0
 
 -- The line that was found has the number.
 pub place-number : {r : Option ℕ} {p : ℕ} (x : ℕ) (s : List ℕ) → r ≡ place x 0 (lines_in s) → r ≡ Some p

@@ -5,6 +5,8 @@ use mathlib.Core.Bool.{false≢true}
 use Rattle.choice.proofs.Splitting.{if_test}
 use Rattle.choice.proofs.TestsLaws.{also_t, also_f, also_l, also_r, either_t, either_f, choose_t, choose_f, if_choose}
 use Rattle.rules.specs.declared.entry.Entry.{Entry}
+use Rattle.rules.specs.declared.record.Reason.{Reason}
+use Rattle.rules.specs.declared.record.Reason.TheVariants.{WrongForm, NoUnit, OutOfRange, Repeated}
 use Rattle.rules.specs.Outcome.{Outcome}
 use Rattle.rules.specs.Bytes.{line, lines_in}
 use Rattle.rules.specs.Fields.{kind, unit_number, period, fuelled}
@@ -44,21 +46,21 @@ unfit t none has = if_test t (λ yes. absurd (false≢true (sym none ∙ has yes
 
 -- ---- one test more
 -- What is set aside already stays so.
-pub unless_repeated_aside : {o : Outcome} {k : ℕ} (b : Bool) → o ≡ Err k → unless_repeated b o ≡ Err k
+pub unless_repeated_aside : {o : Outcome} {k : Reason} (b : Bool) → o ≡ Err k → unless_repeated b o ≡ Err k
 unfolding unless_repeated
 unless_repeated_aside b e = ap (unless_repeated b) e
 
 pub unless_repeated_again : {b : Bool} {o : Outcome} {e : Entry} → b ≡ true → o ≡ Ok e
-    → unless_repeated b o ≡ Err 8
+    → unless_repeated b o ≡ Err Repeated
 unfolding unless_repeated
-unless_repeated_again {b} again counts = ap (unless_repeated b) counts ∙ check_f 8 _ (ap not again)
+unless_repeated_again {b} again counts = ap (unless_repeated b) counts ∙ check_f Repeated _ (ap not again)
 
 pub unless_repeated-first : {b : Bool} (o : Outcome) → b ≡ false → unless_repeated b o ≡ o
 unfolding unless_repeated
 unless_repeated-first (Err k) first = refl
-unless_repeated-first (Ok e) first = check_t 8 (ap not first) refl
+unless_repeated-first (Ok e) first = check_t Repeated (ap not first) refl
 
-aside : {o : Outcome} {k : ℕ} (a b : Bool) → o ≡ Err k → unless_repeated a o ≡ unless_repeated b o
+aside : {o : Outcome} {k : Reason} (a b : Bool) → o ≡ Err k → unless_repeated a o ≡ unless_repeated b o
 aside a b e = unless_repeated_aside a e ∙ sym (unless_repeated_aside b e)
 
 module _ (l units t : List ℕ) (before : List (List ℕ)) (so_far : Shows before units t) where
@@ -81,19 +83,19 @@ module _ (l units t : List ℕ) (before : List (List ℕ)) (so_far : Shows befor
   -- It is enough that a record whose period has no bit is set aside.
   agree_listed : (formed : Bool) (rest : List ℕ → Outcome) → repeatable l ≡ true
       → ((u : List ℕ) → has_bit (kind l) (period l) ≡ false → Agree (rest u))
-      → Agree (check formed 1 (listed (unit_number l) (lines_in units) 2 rest))
+      → Agree (check formed WrongForm (listed (unit_number l) (lines_in units) NoUnit rest))
   agree_listed formed rest once out =
-      if_test formed (λ right. go right found refl) (λ wrong. aside _ _ (check_f 1 _ wrong))
+      if_test formed (λ right. go right found refl) (λ wrong. aside _ _ (check_f WrongForm _ wrong))
     where
       whole : Outcome
-      whole = check formed 1 (listed (unit_number l) (lines_in units) 2 rest)
+      whole = check formed WrongForm (listed (unit_number l) (lines_in units) NoUnit rest)
 
       go : formed ≡ true → (r : Option ℕ) → r ≡ found → Agree whole
-      go right None e = aside _ _ (check_t 1 right (listed_nothing (unit_number l) 2 rest units e refl refl))
+      go right None e = aside _ _ (check_t WrongForm right (listed_nothing (unit_number l) NoUnit rest units e refl refl))
       go right (Some j) e =
           if_test (has_bit (kind l) (period l))
           (λ has. ap (λ (b : Bool). unless_repeated b whole) (was_repeated once has (sym e)))
-          (λ none. subst Agree (sym (check_t 1 right (listed_at (unit_number l) 2 rest units e refl refl).1))
+          (λ none. subst Agree (sym (check_t WrongForm right (listed_at (unit_number l) NoUnit rest units e refl refl).1))
           (out (line j units) none))
 
   -- An hour past the year, and anodes of no month, are set aside.
@@ -101,8 +103,8 @@ module _ (l units t : List ℕ) (before : List (List ℕ)) (so_far : Shows befor
   unfolding hour_judged
   out_of_year hourly u none =
       if_test (moisture_form l u)
-      (λ told. aside _ _ (check_t 1 told (check_f 4 _ (unfit (hour_range l) none (has_bit-hour_range l hourly)))))
-      (λ told. aside _ _ (check_f 1 _ told))
+      (λ told. aside _ _ (check_t WrongForm told (check_f OutOfRange _ (unfit (hour_range l) none (has_bit-hour_range l hourly)))))
+      (λ told. aside _ _ (check_f WrongForm _ told))
 
   agree_hour : kind l ≡ 2 → Agree (hour_outcome l (lines_in units))
   unfolding hour_outcome
@@ -112,15 +114,15 @@ module _ (l units t : List ℕ) (before : List (List ℕ)) (so_far : Shows befor
   unfolding anodes_outcome
   agree_anodes used =
       agree_listed (anodes_form l) _ (repeatable_anodes l used) (λ u none.
-      aside _ _ (check_f 4 _ (unfit (anodes_ranges l) none (has_bit-anodes_ranges l used))))
+      aside _ _ (check_f OutOfRange _ (unfit (anodes_ranges l) none (has_bit-anodes_ranges l used))))
 
   agree_unfuelled : Agree (unfuelled_outcome l (lines_in units))
   unfolding unfuelled_outcome
   agree_unfuelled =
       if_choose Agree (eqb (kind l) 2) (λ hourly. agree_hour (eqb-true _ _ hourly)) (λ no_hour.
       if_test (eqb (kind l) 4)
-      (λ used. subst Agree (sym (check_t 1 used refl)) (agree_anodes (eqb-true _ _ used)))
-      (λ other. aside _ _ (check_f 1 _ other)))
+      (λ used. subst Agree (sym (check_t WrongForm used refl)) (agree_anodes (eqb-true _ _ used)))
+      (λ other. aside _ _ (check_f WrongForm _ other)))
 
 -- ---- what the code gives of a record of no fuel, with a table of the lines before it and without one
 module _ {o : Outcome} {m : List ℕ} (before : List (List ℕ)) (l units t : List ℕ) (at : m ≡ l)

@@ -6,31 +6,34 @@ use Rattle.choice.proofs.Splitting.{if_lt}
 use Rattle.choice.proofs.TestsLaws.{also_t, also_l, also_r, if_choose}
 use Rattle.rules.specs.declared.book.Head.{Head}
 use Rattle.rules.specs.declared.entry.Entry.{Entry}
-use Rattle.rules.specs.Outcome.{Outcome}
+use Rattle.rules.specs.declared.record.Reason.{Reason}
+use Rattle.rules.specs.declared.record.Reason.TheVariants.{Repeated}
+use Rattle.rules.specs.Outcome.{reason_number, Outcome}
 use Rattle.rules.specs.Bytes.{line, lines, lines_in}
 use Rattle.rules.specs.Fields.{kind, unit_number, period}
 use Rattle.rules.specs.Book.{unit_ok, fuel_ok, lines_sound, unit_lines, fuel_lines, opened, accepted}
 use Rattle.rules.specs.Repeat.{stands_among, repeated}
 use Rattle.rules.specs.Record.{last_reason, check, unless_repeated, outcome_after, outcome_at}
 use Rattle.rules.specs.Reason.{Applies, Reasons}
+use Rattle.rules.proofs.OutcomeLaws.{reason_number-within, reason_number-inj}
 use Rattle.rules.proofs.BookLaws.{accepted_facts}
 use Rattle.rules.proofs.RepeatLaws.{stands-among, if_stands}
 use Rattle.rules.proofs.ListedLaws.{once_lines_ok}
-use Rattle.rules.proofs.AloneLaws.{clash, applies_within, Clear, clear_next, Decided, Alone, alone_outcome_of}
+use Rattle.rules.proofs.AloneLaws.{clash, Clear, clear_next, Decided, Alone, alone_outcome_of}
 
-unlike : (k : ℕ) (e : Entry) → Err k ≡ Ok e → ⊥
+unlike : (k : Reason) (e : Entry) → Err k ≡ Ok e → ⊥
 unlike k e q = let never : ◌≡◌ {A = ℕ} 0 1 = cc in absurd (omega arith)
 
 -- ---- one record
 module _ (before : List (List ℕ)) (l : List ℕ) (units fuels : List (List ℕ)) where
   -- ---- the last reason
-  sent_repeated : repeated l before ≡ true → Applies before l units fuels last_reason
+  sent_repeated : repeated l before ≡ true → Applies before l units fuels Repeated
   unfolding repeated stands_among
   sent_repeated h =
       if_stands (kind l) (unit_number l) (period l) before (also_r _ _ h)
       (λ e i is. Applies.sent_before e (also_l _ _ h) i is.kind_is is.unit_is is.period_is)
 
-  repeated_sent : Applies before l units fuels last_reason → repeated l before ≡ true
+  repeated_sent : Applies before l units fuels Repeated → repeated l before ≡ true
   unfolding repeated stands_among
   repeated_sent (Applies.sent_before e p i q u w) =
       also_t p (stands-among _ _ _ before e i (record { kind_is = q; unit_is = u; period_is = w }))
@@ -42,7 +45,7 @@ module _ (before : List (List ℕ)) (l : List ℕ) (units fuels : List (List ℕ
   decided_unless_repeated (Ok e) d =
       if_choose (Decided before l units fuels (last_reason + 1)) (not (repeated l before))
       (λ first. record {
-        clear = clear_next before l units fuels last_reason d.clear
+        clear = clear_next before l units fuels Repeated d.clear
             (λ a. clash (repeated_sent a) (not-true _ first));
         by_fuel = d.by_fuel;
         by_hour = d.by_hour;
@@ -51,18 +54,18 @@ module _ (before : List (List ℕ)) (l : List ℕ) (units fuels : List (List ℕ
       (λ again. (sent_repeated (not-false _ again), d.clear))
 
   -- ---- all reasons
-  none_clear : Clear before l units fuels (last_reason + 1) → (k : ℕ) → Applies before l units fuels k → ⊥
-  none_clear clear k a = let most = (applies_within before l units fuels k a).1 in clear k (omega arith) a
+  none_clear : Clear before l units fuels (last_reason + 1) → (k : Reason) → Applies before l units fuels k → ⊥
+  none_clear clear k a = let most = (reason_number-within k).1 in clear k (omega arith) a
 
   reasons_decided : (o : Outcome) → Decided before l units fuels (last_reason + 1) o
       → Reasons before l units fuels o
   reasons_decided (Err m) d = record {
     set_aside = λ k. (
-      λ q. let same : m ≡ k = cc in subst (λ (k : ℕ). Applies before l units fuels k × Clear before l units fuels k) same d,
+      λ q. let same : m ≡ k = cc in subst (λ (k : Reason). Applies before l units fuels k × Clear before l units fuels (reason_number k)) same d,
       λ a.
-          if_lt m k (λ less. absurd (a.1 m less d.0))
-          (λ up. if_lt k m (λ less. absurd (d.1 k less a.0))
-          (λ down. let same : m ≡ k = omega arith in ap Err same)),
+          if_lt (reason_number m) (reason_number k) (λ less. absurd (a.1 m less d.0))
+          (λ up. if_lt (reason_number k) (reason_number m) (λ less. absurd (d.1 k less a.0))
+          (λ down. ap Err (reason_number-inj m k (omega arith)))),
     );
     counts = (λ q. absurd (unlike m q.0 q.1), λ none. absurd (none m d.0));
     gives_fuel = λ e u f q. absurd (unlike m e q);

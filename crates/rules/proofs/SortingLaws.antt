@@ -11,6 +11,7 @@ use Rattle.rules.specs.declared.book.Head.{Head}
 use Rattle.rules.specs.declared.entry.Destination.TheVariants.{Fossil}
 use Rattle.rules.specs.Outcome.{Outcome}
 use Rattle.rules.specs.declared.sorting.Share.{Share}
+use Rattle.rules.specs.declared.record.Reason.TheVariants.{WrongForm, NoUnit, NoFuel, OutOfRange, NoMethod, NoHeat}
 use Rattle.rules.specs.Bytes.{line}
 use Rattle.rules.specs.Fields.{monitored, default_heat, ch4_factor, n2o_factor, flags, fuelled, heat_measured, heat_low, month, amount, heat}
 use Rattle.rules.specs.Book.{unit_lines, fuel_lines}
@@ -252,7 +253,7 @@ judged : {l u f : List ℕ} → Passes l u f → fuel_judged l u f ≡ Ok (fuel_
 unfolding fuel_judged
 judged {l} {u} {f} t =
     let used = heat_in_use-above l t.heats f t.heated in
-    check_t 4 t.ranges (check_t 6 (lt-ltb _ _ t.permitted) (check_t 7 (lt-ltb _ _ used) refl))
+    check_t OutOfRange t.ranges (check_t NoMethod (lt-ltb _ _ t.permitted) (check_t NoHeat (lt-ltb _ _ used) refl))
 
 module _ {h : Head} {s : List ℕ} {i : ℕ} {m us fs : List ℕ} {j k : ℕ} (w : Found h s i m us fs j k)
     (t : Passes (line i s) (line j (unit_lines h s)) (line k (fuel_lines h s))) where
@@ -260,7 +261,7 @@ module _ {h : Head} {s : List ℕ} {i : ℕ} {m us fs : List ℕ} {j k : ℕ} (w
   unfolding outcome_at fuel_outcome
   counts =
       outcome_after-fuel _ _ _ _ t.fuel
-      ∙ check_t 1 t.formed (listed-stands (unit_stands w.unit) 2 _ ∙ listed-stands (fuel-stands w) 3 _ ∙ judged t)
+      ∙ check_t WrongForm t.formed (listed-stands (unit_stands w.unit) NoUnit _ ∙ listed-stands (fuel-stands w) NoFuel _ ∙ judged t)
 
   pub settled :
       let l = line i s in

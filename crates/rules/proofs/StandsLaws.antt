@@ -2,6 +2,7 @@
 -- an entry without one. So the other columns have what this line says. Assumes nothing.
 use Rattle.std.proofs.Common.{◌≡◌, ℕ, ◌+◌, ◌*◌, ◌/◌, ◌<◌, ◌≤◌, Bool, true, List, length, get_or, sym, refl, ap, ◌∙◌, le_trans, le_of_eq, le_of_lt, zero-add, lit≤, Some}
 use Rattle.rules.specs.declared.book.Head.{Head}
+use Rattle.rules.specs.declared.record.Reason.{Reason}
 use Rattle.rules.specs.Outcome.{Outcome}
 use Rattle.rules.specs.Bytes.{byte, line, lines_in}
 use Rattle.rules.specs.Fields.{number, unit_number, fuel_number}
@@ -27,7 +28,7 @@ module _ {x j : ℕ} {s : List ℕ} (w : Stands x j s) where
   pub place-stands : place x 0 (lines_in s) ≡ Some j
   place-stands = sym (place_mid s x j x w.rising w.there (sym w.has) refl)
 
-  pub listed-stands : (k : ℕ) (rest : List ℕ → Outcome) → listed x (lines_in s) k rest ≡ rest (line j s)
+  pub listed-stands : (k : Reason) (rest : List ℕ → Outcome) → listed x (lines_in s) k rest ≡ rest (line j s)
   listed-stands k rest = (listed_at x k rest s (sym place-stands) refl refl).1
 
 -- ---- what the column of the numbers has

@@ -35,6 +35,8 @@ use Rattle.mass.specs.declared.hour.Hour.{Hour}
 use Rattle.mass.specs.declared.hour.Hour.TheVariants.{Usable, Unusable}
 use Rattle.mass.specs.Hour.{hour_of}
 use Rattle.rules.specs.declared.book.Head.{Head}
+use Rattle.rules.specs.declared.record.Reason.{Reason}
+use Rattle.rules.specs.declared.record.Reason.TheVariants.{WrongForm, NoUnit, NoFuel, OutOfRange, NoMonitor, NoMethod, NoHeat, Repeated}
 use Rattle.rules.specs.Outcome.{Outcome}
 use Rattle.rules.specs.Bytes.{line, lines, lines_in}
 use Rattle.rules.specs.Fields.{number, monitored, dry, fuel_kind, fuel_class, molar_volume, kind, flags, unit_number, fuel_number, fuelled, analysed, heat_measured, carbon_flagged, heat_low, month, amount, heat, carbon, fuel_record_blank, molecular_weight, gas_blank, hour, percent_bits, flow_bits, moisture, hour_blank, metal, anode_use, sulphur, ash, other_impurities, anodes_blank}
@@ -46,10 +48,10 @@ use Rattle.rules.specs.Repeat.{repeated}
 abbrev pub last_reason : ℕ
 last_reason = 8
 
-unfoldable pub check : Bool → ℕ → Outcome → Outcome
+unfoldable pub check : Bool → Reason → Outcome → Outcome
 check t k rest = choose t rest (Err k)
 
-unfoldable pub listed : ℕ → List (List ℕ) → ℕ → (List ℕ → Outcome) → Outcome
+unfoldable pub listed : ℕ → List (List ℕ) → Reason → (List ℕ → Outcome) → Outcome
 listed x [] k rest = Err k
 listed x (l ∷ ls) k rest = choose (number l == x) (rest l) (listed x ls k rest)
 
@@ -129,49 +131,49 @@ anodes_ranges l =
 -- ---- fuel records
 unfoldable pub fuel_judged : List ℕ → List ℕ → List ℕ → Outcome
 fuel_judged l u f =
-    check (fuel_ranges l f) 4
-    (check (nat_lt 0 (method_of l u f)) 6
-    (check (nat_lt 0 (heat_in_use l f).0) 7
+    check (fuel_ranges l f) OutOfRange
+    (check (nat_lt 0 (method_of l u f)) NoMethod
+    (check (nat_lt 0 (heat_in_use l f).0) NoHeat
     (Ok (fuel_entry l u f))))
 
 unfoldable pub fuel_outcome : List ℕ → List (List ℕ) → List (List ℕ) → Outcome
 fuel_outcome l units fuels =
-    check (fuel_form l) 1
-    (listed (unit_number l) units 2 (λ u.
-    listed (fuel_number l) fuels 3 (λ f.
+    check (fuel_form l) WrongForm
+    (listed (unit_number l) units NoUnit (λ u.
+    listed (fuel_number l) fuels NoFuel (λ f.
     fuel_judged l u f)))
 
 -- ---- monitor hours
 unfoldable pub hour_read : List ℕ → List ℕ → Hour → Outcome
-hour_read l u (Usable r) = check (monitored u) 5 (Ok (hour_entry l r))
-hour_read l u (Unusable x) = Err 4
+hour_read l u (Usable r) = check (monitored u) NoMonitor (Ok (hour_entry l r))
+hour_read l u (Unusable x) = Err OutOfRange
 
 unfoldable pub hour_judged : List ℕ → List ℕ → Outcome
 hour_judged l u =
-    check (moisture_form l u) 1
-    (check (hour_range l) 4
+    check (moisture_form l u) WrongForm
+    (check (hour_range l) OutOfRange
     (hour_read l u (hour_of (percent_bits l) (flow_bits l))))
 
 unfoldable pub hour_outcome : List ℕ → List (List ℕ) → Outcome
 hour_outcome l units =
-    check (hour_form l) 1
-    (listed (unit_number l) units 2 (λ u.
+    check (hour_form l) WrongForm
+    (listed (unit_number l) units NoUnit (λ u.
     hour_judged l u))
 
 -- ---- anodes
 -- Any listed unit will do.
 unfoldable pub anodes_outcome : List ℕ → List (List ℕ) → Outcome
 anodes_outcome l units =
-    check (anodes_form l) 1
-    (listed (unit_number l) units 2 (λ u.
-    check (anodes_ranges l) 4
+    check (anodes_form l) WrongForm
+    (listed (unit_number l) units NoUnit (λ u.
+    check (anodes_ranges l) OutOfRange
     (Ok (anodes_entry l))))
 
 -- ---- a record by itself
 unfoldable pub unfuelled_outcome : List ℕ → List (List ℕ) → Outcome
 unfuelled_outcome l units =
     choose (kind l == 2) (hour_outcome l units)
-    (check (kind l == 4) 1 (anodes_outcome l units))
+    (check (kind l == 4) WrongForm (anodes_outcome l units))
 
 unfoldable pub outcome_of : List ℕ → List (List ℕ) → List (List ℕ) → Outcome
 outcome_of l units fuels = choose (fuelled l) (fuel_outcome l units fuels) (unfuelled_outcome l units)
@@ -179,7 +181,7 @@ outcome_of l units fuels = choose (fuelled l) (fuel_outcome l units fuels) (unfu
 -- ---- reason 8: the same hour or month twice
 unfoldable pub unless_repeated : Bool → Outcome → Outcome
 unless_repeated b (Err k) = Err k
-unless_repeated b (Ok e) = check (not b) 8 (Ok e)
+unless_repeated b (Ok e) = check (not b) Repeated (Ok e)
 
 unfoldable pub outcome_after : List (List ℕ) → List ℕ → List (List ℕ) → List (List ℕ) → Outcome
 outcome_after before l units fuels = unless_repeated (repeated l before) (outcome_of l units fuels)

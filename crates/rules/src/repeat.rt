@@ -5,7 +5,7 @@ ghost use Rattle.rules.specs.Repeat.{stands_among, repeatable, repeated};
 ghost use Rattle.rules.specs.Record.{unless_repeated};
 ghost use Rattle.rules.specs.Key.{Start, Keyed, stands_in};
 
-use crate::record::Outcome;
+use crate::record::{Outcome, Reason};
 use crate::{bytes, field};
 
 // Kind, unit and period in the first eight bytes of a record.
@@ -29,7 +29,7 @@ pub(crate) fn withhold(o: Outcome, repeated: bool) -> Outcome
         Err(_) => o,
         Ok(_) => {
             if repeated {
-                return Err(8);
+                return Err(Reason::Repeated);
             }
             o
         }

@@ -13,7 +13,8 @@ use Rattle.rules.specs.declared.entry.Destination.TheVariants.{Fossil, Biomass, 
 use Rattle.rules.specs.declared.entry.Entry.{Entry}
 use Rattle.rules.specs.declared.reader.Seen.{Seen}
 use Rattle.rules.specs.declared.reader.Seen.TheVariants.{Refused, Missing, Record}
-use Rattle.rules.specs.Outcome.{Outcome}
+use Rattle.rules.specs.declared.record.Reason.{Reason}
+use Rattle.rules.specs.Outcome.{reason_number, Outcome}
 use Rattle.rules.specs.Book.{fault_number}
 use Rattle.rules.specs.Reader.{Sight, turned_away, missing, shown, sight}
 use Rattle.rules.proofs.ReaderLaws.{sight-refused, sight-missing, sight_record}
@@ -35,10 +36,6 @@ module _ (k m : ℕ) where
   pub method_text-hour : m ≡ 0 → (k ≡ 4 → ⊥) → method_text k m ≡ ascii " hour"
   unfolding method_text
   method_text-hour e other = choose_t _ (eq-eqb m 0 e) (choose_f _ (ne_eqb k 4 other) refl)
-
-pub outcome_text_set_aside : {o : Outcome} (k r : ℕ) → o ≡ Err r → outcome_text k o ≡ field (ascii " reason ") r
-unfolding outcome_text
-outcome_text_set_aside k r e = ap (outcome_text k) e
 
 -- ---- what was seen
 module _ (i k : ℕ) {r : Seen} where
@@ -76,7 +73,7 @@ masses_text-le e =
 
 outcome_text-le : (k : ℕ) (o : Outcome) → AtMost 120 (outcome_text k o)
 unfolding outcome_text
-outcome_text-le k (Err r) = wider (field-le (ascii " reason ") r) (omega arith)
+outcome_text-le k (Err r) = wider (field-le (ascii " reason ") (reason_number r)) (omega arith)
 outcome_text-le k (Ok e) =
     append-le (append-le (method_text-le k e.method) (ledger_text-le e.destination)) (masses_text-le e)
 

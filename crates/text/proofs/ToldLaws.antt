@@ -13,7 +13,7 @@ use Rattle.rules.specs.declared.book.Head.{Head}
 use Rattle.rules.specs.declared.entry.Destination.{Destination}
 use Rattle.rules.specs.declared.entry.Destination.TheVariants.{Fossil, Biomass, Nowhere}
 use Rattle.rules.specs.declared.entry.Entry.{Entry}
-use Rattle.rules.specs.Outcome.{Outcome}
+use Rattle.rules.specs.Outcome.{reason_number, Outcome}
 use Rattle.rules.specs.Book.{Answer, refused, accepted, opened}
 use Rattle.rules.specs.Reader.{Sight, turned_away, missing, shown}
 use Rattle.job.specs.State.{first}
@@ -186,7 +186,7 @@ plain_masses_text e =
 
 plain_outcome_text : (k : ℕ) (o : Outcome) → Plain (outcome_text k o)
 unfolding outcome_text
-plain_outcome_text k (Err r) = plain_field (ascii " reason ") r (simp worked-out)
+plain_outcome_text k (Err r) = plain_field (ascii " reason ") (reason_number r) (simp worked-out)
 plain_outcome_text k (Ok e) =
     plain_append (plain_append (plain_method_text k e.method) (plain_ledger_text e.destination)) (plain_masses_text e)
 

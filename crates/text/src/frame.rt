@@ -9,11 +9,11 @@ ghost use Rattle.text.specs.Frame.{argument_ok, head_ok, frame_in, asked_in, cal
 use crate::page::Page;
 use crate::{number, page};
 use mass::{Ng, Ug};
-use rules::book;
 use rules::bytes::{are_zero, read_word};
 use rules::entry::{Destination, Entry};
 use rules::reader::Seen;
 use rules::record::Outcome;
+use rules::{book, record};
 
 #[derive(Clone, Copy)]
 pub struct Frame {
@@ -231,7 +231,7 @@ fn tell_outcome(o: Outcome) -> Told
     ensures told { result ≡ told_of (shown o) }
 {
     match o {
-        Err(reason) => tell_uncounted(0, reason as u64, 0),
+        Err(reason) => tell_uncounted(0, record::number_reason(reason) as u64, 0),
         Ok(e) => tell_counted(e),
     }
 }

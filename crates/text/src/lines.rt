@@ -10,6 +10,7 @@ use crate::page::Page;
 use crate::{number, page, report};
 use rules::entry::{Destination, Entry};
 use rules::reader::Seen;
+use rules::record;
 use rules::record::Outcome;
 
 // The method of an hour and of anodes.
@@ -45,7 +46,7 @@ fn say_outcome(p: Page, kind: u8, o: Outcome) -> Page
     ensures said { result ≡ extended p (outcome_text kind o) }
 {
     match o {
-        Err(reason) => number::say_field(p, b" reason ", reason as u64),
+        Err(reason) => number::say_field(p, b" reason ", record::number_reason(reason) as u64),
         Ok(e) => say_entry(p, kind, e),
     }
 }

@@ -13,14 +13,15 @@ use Rattle.choice.proofs.TestsLaws.{also_t, also_f, choose_t, choose_f}
 use Rattle.rules.specs.declared.entry.Destination.{Destination}
 use Rattle.rules.specs.declared.entry.Destination.TheVariants.{Fossil, Biomass, Nowhere}
 use Rattle.rules.specs.declared.entry.Entry.{Entry}
-use Rattle.rules.specs.Outcome.{Outcome}
+use Rattle.rules.specs.declared.record.Reason.{Reason}
+use Rattle.rules.specs.Outcome.{reason_number, reason_numbered, Outcome}
 use Rattle.rules.specs.Reader.{turned_away, missing, shown, sight_at}
 use Rattle.rules.specs.Bounds.{Bounded}
+use Rattle.rules.proofs.OutcomeLaws.{reason_number-within, reason_numbered-number}
 use Rattle.rules.proofs.ReaderLaws.{sight_at-each}
 use Rattle.wetherstep.specs.Face.{packed}
 use Rattle.wetherstep.proofs.FaceLaws.{packed_sum}
 use Rattle.wetherstep.proofs.ToldLaws.{told_number-packed, told_reason-packed}
-use Rattle.rules.specs.Record.{last_reason}
 use Rattle.wetherstep_record.specs.Face.{no_record, ledger_number, record_word, masses_of, masses_after}
 use Rattle.wetherstep_record.specs.Told.{told_method, told_ledger, told_counts, destination_told, entry_told, record_told}
 
@@ -56,11 +57,12 @@ told_counts-missing =
     told_counts-packed 0 0 no_record 0 (lit< tt) (lit< tt) (lit< tt)
     ∙ also_t (also_t refl refl) refl
 
-told_counts_aside : (k : ℕ) → 1 ≤ k → k ≤ last_reason → told_counts (record_word (shown (Err k))) ≡ false
+told_counts_aside : (k : Reason) → told_counts (record_word (shown (Err k))) ≡ false
 unfolding record_word
-told_counts_aside k l m =
-    told_counts-packed 0 k 0 0 (lit< tt) (omega arith) (lit< tt)
-    ∙ also_f _ (also_t refl (ne_eqb k 0 (λ z. omega arith)))
+told_counts_aside k =
+    let within = reason_number-within k in
+    told_counts-packed 0 (reason_number k) 0 0 (lit< tt) (omega arith) (lit< tt)
+    ∙ also_f _ (also_t refl (ne_eqb (reason_number k) 0 (λ z. omega arith)))
 
 told_counts-counted : (e : Entry) → e.method ≤ 4 → told_counts (record_word (shown (Ok e))) ≡ true
 unfolding record_word
@@ -112,11 +114,13 @@ record_told-record_word k i ms =
     at (Err r) w =
         let least = w.0 in
         let most = w.1 in
-        let told = told_reason-packed 0 r 0 0 0 (lit< tt) (omega arith) in
-        choose_f _ (told_counts_aside r least most)
-        (choose_f _ (ap (ltb 0) (told_number-packed 0 r 0 0 0 (lit< tt)))
-        (choose_t _ (ap (ltb 0) told ∙ lt-ltb 0 r (omega arith))
-        (ap (λ (x : ℕ). shown (Err x)) told)))
+        let n = reason_number r in
+        let told = told_reason-packed 0 n 0 0 0 (lit< tt) (omega arith) in
+        choose_f _ (told_counts_aside r)
+        (choose_f _ (ap (ltb 0) (told_number-packed 0 n 0 0 0 (lit< tt)))
+        (choose_t _ (ap (ltb 0) told ∙ lt-ltb 0 n (omega arith))
+        (ap (λ (x : ℕ). shown (Err (reason_numbered x))) told
+        ∙ ap (λ (x : Reason). shown (Err x)) (reason_numbered-number r))))
     at (Ok e) w =
         choose_t _ (told_counts-counted e w.0)
         (ap (λ (x : Entry). shown (Ok x)) (entry_told-counted e w.0))

@@ -8,7 +8,7 @@ ghost use Rattle.wetherstep_record.specs.Face.{ledger_number, record_word, masse
 use rules::entry::{Destination, Entry};
 use rules::reader::Seen;
 use rules::record::Outcome;
-use rules::{book, reader};
+use rules::{book, reader, record};
 
 // What one of each field is worth in a word.
 const REASON_UNIT: u64 = 256;
@@ -45,7 +45,7 @@ fn tell_outcome(o: Outcome, masses: &mut [u64; 3]) -> u64
     ensures masses { masses.new ≡ masses_after (shown o) masses.old }
 {
     match o {
-        Err(reason) => pack(ACCEPTED, reason, 0, 0),
+        Err(reason) => pack(ACCEPTED, record::number_reason(reason), 0, 0),
         Ok(e) => tell_counted(e, masses),
     }
 }

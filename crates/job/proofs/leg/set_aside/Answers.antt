@@ -16,8 +16,9 @@ returns c =
       counted = elim c.if-aside-eq0.branch [
         | then-aside-eq0 w ↦
             let told = counted-first now a.reason w.if-aside-eq0.true in
+            let number = w.number_reason-aside.ensures.number ∙ sym told.1 in
             ap (λ (b : Aside). counts_at (a.place + 1) (record { count = b.count + 1; index = b.index; reason = b.reason })) w.aside-is
-            ∙ (λ i. record { done = a.place + 1; aside = a.aside.now.count + 1; index = sym told.0 i; reason = sym told.1 i })
+            ∙ (λ i. record { done = a.place + 1; aside = a.aside.now.count + 1; index = sym told.0 i; reason = number i })
         | else-aside-eq0 w ↦
             let told = counted_later now a.reason w.if-aside-eq0.false in
             ap (λ (b : Aside). counts_at (a.place + 1) (record { count = b.count + 1; index = b.index; reason = b.reason })) w.aside-is

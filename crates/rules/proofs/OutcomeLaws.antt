@@ -1,0 +1,37 @@
+-- The numbers of reasons: from 1 to the last, and each tells its reason. Assumes nothing.
+use Rattle.std.proofs.Common.{◌≡◌, ◌≤◌, sym, refl, ap, ◌∙◌, lit≤}
+use Rattle.choice.proofs.TestsLaws.{choose_t, choose_f}
+use Rattle.rules.specs.declared.record.Reason.{Reason}
+use Rattle.rules.specs.declared.record.Reason.TheVariants.{WrongForm, NoUnit, NoFuel, OutOfRange, NoMonitor, NoMethod, NoHeat, Repeated}
+use Rattle.rules.specs.Outcome.{reason_number, reason_numbered}
+use Rattle.rules.specs.Record.{last_reason}
+
+pub reason_number-within : (k : Reason) → (1 ≤ reason_number k) × (reason_number k ≤ last_reason)
+reason_number-within WrongForm = (lit≤ tt, lit≤ tt)
+reason_number-within NoUnit = (lit≤ tt, lit≤ tt)
+reason_number-within NoFuel = (lit≤ tt, lit≤ tt)
+reason_number-within OutOfRange = (lit≤ tt, lit≤ tt)
+reason_number-within NoMonitor = (lit≤ tt, lit≤ tt)
+reason_number-within NoMethod = (lit≤ tt, lit≤ tt)
+reason_number-within NoHeat = (lit≤ tt, lit≤ tt)
+reason_number-within Repeated = (lit≤ tt, lit≤ tt)
+
+pub reason_numbered-number : (k : Reason) → reason_numbered (reason_number k) ≡ k
+unfolding reason_numbered
+reason_numbered-number WrongForm = choose_t _ refl refl
+reason_numbered-number NoUnit = choose_f _ refl (choose_t _ refl refl)
+reason_numbered-number NoFuel = choose_f _ refl (choose_f _ refl (choose_t _ refl refl))
+reason_numbered-number OutOfRange = choose_f _ refl (choose_f _ refl (choose_f _ refl (choose_t _ refl refl)))
+reason_numbered-number NoMonitor =
+    choose_f _ refl (choose_f _ refl (choose_f _ refl (choose_f _ refl (choose_t _ refl refl))))
+reason_numbered-number NoMethod =
+    choose_f _ refl (choose_f _ refl (choose_f _ refl (choose_f _ refl (choose_f _ refl (choose_t _ refl refl)))))
+reason_numbered-number NoHeat =
+    choose_f _ refl (choose_f _ refl (choose_f _ refl (choose_f _ refl (choose_f _ refl (choose_f _ refl
+    (choose_t _ refl refl))))))
+reason_numbered-number Repeated =
+    choose_f _ refl (choose_f _ refl (choose_f _ refl (choose_f _ refl (choose_f _ refl (choose_f _ refl
+    (choose_f _ refl refl))))))
+
+pub reason_number-inj : (j k : Reason) → reason_number j ≡ reason_number k → j ≡ k
+reason_number-inj j k e = sym (reason_numbered-number j) ∙ ap reason_numbered e ∙ reason_numbered-number k
