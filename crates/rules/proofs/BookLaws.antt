@@ -1,12 +1,12 @@
 -- A trailer that is right, the answer by the first test that fails, and what is known of a book that is
 -- accepted. Assumes nothing.
-use Rattle.std.proofs.Common.{◌≡◌, ℕ, ◌-◌, ◌*◌, ◌/◌, ◌%◌, ◌≤◌, true, false, eqb, List, length, sym, refl, ap, ◌∙◌, subst, arith, eqb-true, leb-true, Result, Ok, Err}
+use Rattle.std.proofs.Common.{◌≡◌, ℕ, ◌+◌, ◌-◌, ◌*◌, ◌/◌, ◌%◌, ◌≤◌, true, false, eqb, List, length, sym, refl, ap, ◌∙◌, subst, arith, eqb-true, leb-true, Result, Ok, Err}
 use Rattle.choice.specs.Tests.{choose}
 use Rattle.choice.proofs.TestsLaws.{also_l, also_r, choose_t, choose_f, worked-out}
 use Rattle.rules.specs.declared.book.Head.{Head}
 use Rattle.rules.specs.declared.book.Fault.{Fault}
 use Rattle.rules.specs.declared.book.Fault.TheVariants.{Length, Trailer, Units, Fuels}
-use Rattle.rules.specs.Bytes.{part}
+use Rattle.rules.specs.Bytes.{part, line}
 use Rattle.rules.specs.Fields.{unit_start, fuel_start, year, warming_set}
 use Rattle.rules.specs.Book.{longest_book, length_ok, starts_ok, trailer_ok, unit_ok, fuel_ok, lines_sound, trailer, head_of, unit_lines, fuel_lines, Answer, refused, accepted, opened, answer, fault_number}
 use Rattle.rules.proofs.NumberLaws.{opened-accepted}
@@ -15,12 +15,25 @@ use Rattle.rules.proofs.NumberLaws.{opened-accepted}
 pub record RightLength (s : List ℕ) : Type 0 where
   pub least : 32 ≤ length s
   pub most : length s ≤ longest_book
+  pub whole : length s % 32 ≡ 0
 
 pub length_ok→right : (s : List ℕ) → length_ok s ≡ true → RightLength s
 unfolding length_ok
 length_ok→right s h =
     let range = also_l _ _ h in
-    record { least = leb-true _ _ (also_l _ _ range); most = leb-true _ _ (also_r _ _ range) }
+    record {
+      least = leb-true _ _ (also_l _ _ range);
+      most = leb-true _ _ (also_r _ _ range);
+      whole = eqb-true _ _ (also_r _ _ h);
+    }
+
+-- The trailer is the last line.
+pub trailer-line : (s : List ℕ) → length_ok s ≡ true → line ((length s - 32) / 32) s ≡ trailer s
+trailer-line s h =
+    let right = length_ok→right s h in
+    let start : 32 * ((length s - 32) / 32) ≡ length s - 32 = omega (arith, right.least, right.whole) in
+    let end : 32 * ((length s - 32) / 32) + 32 ≡ length s = omega (arith, right.least, right.whole) in
+    λ i. part (start i) (end i) s
 
 pub record RightTrailer (t : List ℕ) (e : ℕ) : Type 0 where
   pub whole : unit_start t % 32 ≡ 0

@@ -1,9 +1,10 @@
 -- Words by their bytes and by their parts, the bytes of a part and of a number, and lines one by one.
 -- Assumes nothing.
-use Rattle.std.proofs.Common.{◌≡◌, ℕ, zero, suc, ◌+◌, ◌-◌, ◌*◌, ◌/◌, ◌%◌, ◌^◌, ◌<◌, ◌≤◌, Bool, false, eqb, List, [], ◌∷◌, ◌++◌, length, take, drop, sym, refl, ap, ◌∙◌, subst, ap₂, zero-le, lt_of_lt_of_le, le_of_suc-le-suc, mul-le-mul_right, mul_assoc, mul-le-mul_left, one-mul, mul-zero, zero-add, mul-suc, div-one, add-one, arith, lit<, length-take, get_or-drop, drop-cons, get_or-take, drop-drop, pow-add, eq-eqb, ne_eqb}
+use Rattle.std.proofs.Common.{◌≡◌, ℕ, zero, suc, ◌+◌, ◌-◌, ◌*◌, ◌/◌, ◌%◌, ◌^◌, ◌<◌, ◌≤◌, Bool, false, eqb, List, [], ◌∷◌, ◌++◌, length, take, drop, sym, refl, ap, ◌∙◌, subst, ap₂, zero-le, lt_of_lt_of_le, le_of_suc-le-suc, mul-le-mul_right, mul_assoc, mul-le-mul_left, one-mul, mul-zero, zero-add, mul-suc, div-one, add-one, arith, lit<, length-take, get_or-drop, drop-cons, get_or-take, drop-drop, pow-add, eq-eqb, ne_eqb, get_or}
 use native.Mathlib.Nat.{sub-zero, div-div-eq-div-mul, pow-succ', pow-le-pow_right}
 use lib.Bits.{bit_or, or_add_and, and_le_l, and_le_r}
 use lib.ListN.{get_or-eq_default}
+use Rattle.std.specs.Simd.{first_chunks}
 use Rattle.choice.specs.Tests.{◌also◌}
 use Rattle.choice.proofs.Splitting.{if_eq, if_lt}
 use Rattle.choice.proofs.TestsLaws.{also_t, also_f, also_pass, also_fail}
@@ -281,3 +282,9 @@ lines-suc (suc n) s =
 
 pub lines_snoc : (n : ℕ) (s : List ℕ) → lines (n + 1) s ≡ lines n s ++ (line n s ∷ [])
 lines_snoc n s = ap (λ (m : ℕ). lines m s) (add-one n) ∙ lines-suc n s
+
+-- A part's whole lines are its chunks of 32 bytes.
+pub line-chunk : (n k : ℕ) (s : List ℕ) → k < n → get_or (first_chunks 32 n s) k [] ≡ line k s
+line-chunk zero k s h = absurd (omega arith)
+line-chunk (suc n) zero s h = sym (line-take 0 s)
+line-chunk (suc n) (suc k) s h = line-chunk n k (drop 32 s) (omega arith) ∙ sym (line-suc k s)

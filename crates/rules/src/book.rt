@@ -3,8 +3,9 @@ ghost use Rattle.std.specs.Prelude.{◌≡◌, ◌≤◌, true, length};
 ghost use Rattle.rules.specs.Book.{length_ok, starts_ok, trailer_ok, unit_ok, fuel_ok, lines_sound, unit_lines, fuel_lines, opened, accepted, fault_number, answer};
 ghost use Rattle.rules.specs.Listing.{Rising};
 
+use crate::bytes::Line;
 use crate::listing::Sort;
-use crate::{listing, trailer};
+use crate::{bytes, listing, trailer};
 
 // What is known of a book that was opened.
 #[derive(Clone, Copy)]
@@ -80,7 +81,7 @@ pub fn open(s: &[u8]) -> Result<Head, Fault>
     }
     let length = s.len();
     let end = length - 32;
-    let t = &s[end..];
+    let t = bytes::take_line(s, end / 32);
     if !is_trailer_right(t, end) {
         return Err(Fault::Trailer);
     }
@@ -112,8 +113,7 @@ fn is_length_right(s: &[u8]) -> bool
     (32 <= n) & (n <= LONGEST_BOOK) & (n % 32 == 0)
 }
 
-fn is_trailer_right(t: &[u8], e: usize) -> bool
-    requires whole { 32 ≤ length t.now }
+fn is_trailer_right(t: &Line, e: usize) -> bool
     ensures trailer { result ≡ trailer_ok t.now e }
 {
     let signed = trailer::is_signed(t);

@@ -94,12 +94,14 @@ fn gather_few(s: &[u8], from: usize, to: usize) -> u64
     read_word(s, from, 4) | read_word(s, at, to - at)
 }
 
+// A line of a book.
+pub(crate) type Line = [u8; 32];
+
 // Line k of a part that holds whole lines.
-pub(crate) fn take_line(s: &[u8], k: usize) -> &[u8]
+pub(crate) fn take_line(s: &[u8], k: usize) -> &Line
     requires there { k < length s.now / 32 }
-    ensures line { (result.now ≡ spec.line k s.now) × (length result.now ≡ 32) }
+    ensures line { result.now ≡ spec.line k s.now }
 {
-    let a = 32 * k;
-    let e = a + 32;
-    &s[a..e]
+    let (lines, _) = s.as_chunks::<32>();
+    &lines[k]
 }

@@ -5,6 +5,7 @@ ghost use Rattle.rules.specs.Book.{fuel_ok};
 ghost use Rattle.rules.specs.Record.{heat_limit, fuel_ranges, anodes_ranges};
 ghost use Rattle.rules.specs.Entry.{measured_heat, heat_in_use, co2_by_carbon, co2_by, destination_by, entry_by, co2_alone, impurities, anodes_entry};
 
+use crate::bytes::Line;
 use crate::{field, listed};
 use mass::anode::{AnodeUse, Impurities, Metal};
 use mass::fuel::{Amount, Carbon, Co2Factor, Heat, LowHeat, TraceFactor};
@@ -31,8 +32,7 @@ pub struct Entry {
 }
 
 // What the record gives by this method and with this heat in use.
-pub(crate) fn make_entry(method: u8, h: Heat, l: &[u8], f: &[u8]) -> Entry
-    requires whole { (32 ≤ length l.now) × (32 ≤ length f.now) }
+pub(crate) fn make_entry(method: u8, h: Heat, l: &Line, f: &Line) -> Entry
     requires ranges { fuel_ranges l.now f.now ≡ true }
     requires fuel { fuel_ok f.now ≡ true }
     requires used { h ≡ heat_in_use l.now f.now }
@@ -53,8 +53,7 @@ pub(crate) fn make_entry(method: u8, h: Heat, l: &[u8], f: &[u8]) -> Entry
 }
 
 // The heat in use.
-pub(crate) fn find_heat(l: &[u8], f: &[u8]) -> Heat
-    requires whole { (32 ≤ length l.now) × (32 ≤ length f.now) }
+pub(crate) fn find_heat(l: &Line, f: &Line) -> Heat
     requires ranges { fuel_ranges l.now f.now ≡ true }
     ensures heat { result ≡ heat_in_use l.now f.now }
 {
@@ -65,8 +64,7 @@ pub(crate) fn find_heat(l: &[u8], f: &[u8]) -> Heat
 }
 
 // The heat that the record gives.
-pub(crate) fn find_measured(l: &[u8]) -> Heat
-    requires whole { 32 ≤ length l.now }
+pub(crate) fn find_measured(l: &Line) -> Heat
     requires range { heat l.now ≤ heat_limit l.now }
     ensures heat { result ≡ measured_heat l.now }
 {
@@ -77,8 +75,7 @@ pub(crate) fn find_measured(l: &[u8]) -> Heat
     Heat(heat)
 }
 
-fn find_destination(by: u8, f: &[u8]) -> Destination
-    requires whole { 32 ≤ length f.now }
+fn find_destination(by: u8, f: &Line) -> Destination
     ensures ledger { result ≡ destination_by by f.now }
 {
     if by == 4 {
@@ -90,8 +87,7 @@ fn find_destination(by: u8, f: &[u8]) -> Destination
     Destination::Fossil
 }
 
-fn weigh_co2(method: u8, h: Heat, l: &[u8], f: &[u8]) -> Ug
-    requires whole { (32 ≤ length l.now) × (32 ≤ length f.now) }
+fn weigh_co2(method: u8, h: Heat, l: &Line, f: &Line) -> Ug
     requires ranges { fuel_ranges l.now f.now ≡ true }
     requires fuel { fuel_ok f.now ≡ true }
     requires used { h ≡ heat_in_use l.now f.now }
@@ -107,8 +103,7 @@ fn weigh_co2(method: u8, h: Heat, l: &[u8], f: &[u8]) -> Ug
     fuel::weigh_by_heat(a, h, Co2Factor(listed::co2_factor(f)))
 }
 
-fn weigh_carbon(l: &[u8], f: &[u8]) -> Ug
-    requires whole { (32 ≤ length l.now) × (32 ≤ length f.now) }
+fn weigh_carbon(l: &Line, f: &Line) -> Ug
     requires ranges { fuel_ranges l.now f.now ≡ true }
     requires fuel { fuel_ok f.now ≡ true }
     ensures co2 { result ≡ co2_by_carbon l.now f.now }
@@ -136,8 +131,7 @@ pub(crate) fn give_co2(co2: Ug) -> Entry
     }
 }
 
-pub(crate) fn make_anodes_entry(l: &[u8]) -> Entry
-    requires whole { 32 ≤ length l.now }
+pub(crate) fn make_anodes_entry(l: &Line) -> Entry
     requires ranges { anodes_ranges l.now ≡ true }
     ensures entry { result ≡ anodes_entry l.now }
 {
@@ -148,8 +142,7 @@ pub(crate) fn make_anodes_entry(l: &[u8]) -> Entry
 }
 
 // Three fields of two bytes add up to more than two bytes hold.
-pub(crate) fn sum_impurities(l: &[u8]) -> u32
-    requires whole { 32 ≤ length l.now }
+pub(crate) fn sum_impurities(l: &Line) -> u32
     ensures sum { result ≡ impurities l.now }
 {
     let sulphur = field::sulphur(l);

@@ -7,6 +7,7 @@ ghost use Rattle.rules.specs.Index.{no_number, column_of, way_of, moist_below, l
 ghost use Rattle.rules.specs.Listing.{Rising};
 
 use crate::book::Head;
+use crate::bytes::Line;
 use crate::{bytes, listed, method, range};
 
 // How many entries the columns of units have together, and those of fuels.
@@ -59,8 +60,7 @@ fn note_unit_lines(s: &[u8], units: &mut [u32; 256], hints: &mut [u8; 1024])
 
 // The column of a fuel's flags that counts in the unit: that of all where some method is permitted with any of them, or
 // that of a large unit without a monitor.
-fn find_column(u: &[u8]) -> u32
-    requires whole { 32 ≤ length u.now }
+fn find_column(u: &Line) -> u32
     ensures column { result ≡ column_of u.now }
 {
     if listed::is_monitored(u) {
@@ -73,8 +73,7 @@ fn find_column(u: &[u8]) -> u32
 }
 
 // 4 where the CO2 of fuel isn't counted.
-fn find_way(u: &[u8]) -> u32
-    requires whole { 32 ≤ length u.now }
+fn find_way(u: &Line) -> u32
     ensures way { result ≡ way_of u.now }
 {
     if listed::is_monitored(u) {
@@ -84,8 +83,7 @@ fn find_way(u: &[u8]) -> u32
 }
 
 // What the moisture of an hour stays below; 0 where there are no hours.
-fn find_moist(u: &[u8]) -> u32
-    requires whole { 32 ≤ length u.now }
+fn find_moist(u: &Line) -> u32
     ensures below { result ≡ moist_below u.now }
 {
     if !listed::is_monitored(u) {
@@ -125,8 +123,7 @@ fn note_fuel_lines(s: &[u8], fuels: &mut [u32; 320], hints: &mut [u8; 1024])
 
 // A bit for each of eight flags: whether a record of the fuel with these has a heat in use and, in a large unit without a
 // monitor, a method. There the carbon is measured, or the heat of natural gas or of distillate oil.
-fn find_large(f: &[u8]) -> u32
-    requires whole { 32 ≤ length f.now }
+fn find_large(f: &Line) -> u32
     ensures large { result ≡ large_flags f.now }
 {
     let class = listed::fuel_class(f);
@@ -138,8 +135,7 @@ fn find_large(f: &[u8]) -> u32
 
 // The same of flags with which there is a heat in use: a measured one, the fuel's default, or the low value of
 // natural gas, which is a measured one.
-fn find_allowed(f: &[u8]) -> u32
-    requires whole { 32 ≤ length f.now }
+fn find_allowed(f: &Line) -> u32
     ensures allowed { result ≡ allowed_flags f.now }
 {
     let mut flags = 0x0a;
@@ -153,8 +149,7 @@ fn find_allowed(f: &[u8]) -> u32
 }
 
 // The molar volume of a gas, 0 of other fuel.
-fn find_volume(f: &[u8]) -> u32
-    requires whole { 32 ≤ length f.now }
+fn find_volume(f: &Line) -> u32
     ensures volume { result ≡ volume_of f.now }
 {
     if listed::fuel_kind(f) == 3 {

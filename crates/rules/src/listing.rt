@@ -5,6 +5,7 @@ ghost use Rattle.rules.specs.Book.{unit_head_ok, kind_class_ok, molar_volume_ok,
 ghost use Rattle.rules.specs.Place.{place};
 ghost use Rattle.rules.specs.Listing.{line_ok, Rising, head_ok, blank_from};
 
+use crate::bytes::Line;
 use crate::{bytes, listed};
 
 #[derive(Clone, Copy)]
@@ -46,8 +47,7 @@ pub(crate) fn are_sound(s: &[u8], sort: Sort) -> bool
     ok
 }
 
-fn is_head_right(l: &[u8], sort: Sort) -> bool
-    requires whole { 32 ≤ length l.now }
+fn is_head_right(l: &Line, sort: Sort) -> bool
     ensures head { result ≡ head_ok sort l.now }
 {
     match sort {
@@ -67,8 +67,7 @@ fn blank_from(sort: Sort) -> usize
 }
 
 // The flags and the byte behind them, which must be 0, are one number: 2 would be dry gas without a monitor.
-fn is_unit_head_right(u: &[u8]) -> bool
-    requires whole { 32 ≤ length u.now }
+fn is_unit_head_right(u: &Line) -> bool
     ensures head { result ≡ unit_head_ok u.now }
 {
     let flags = bytes::read_word(u, 2, 2);
@@ -76,8 +75,7 @@ fn is_unit_head_right(u: &[u8]) -> bool
     (flags <= 3) & (flags != 2) & (1 <= rating) & (rating <= 100000)
 }
 
-fn is_fuel_head_right(f: &[u8]) -> bool
-    requires whole { 32 ≤ length f.now }
+fn is_fuel_head_right(f: &Line) -> bool
     ensures head { result ≡ fuel_head_ok f.now }
 {
     let fits = do_agree(listed::fuel_kind(f), listed::fuel_class(f));

@@ -2,6 +2,7 @@
 ghost use Rattle.std.specs.Prelude.{◌≡◌, ◌≤◌, length};
 ghost use Rattle.rules.specs.Method.{method_of};
 
+use crate::bytes::Line;
 use crate::{field, listed};
 
 // 250.0 MMBtu/h, in tenths.
@@ -9,8 +10,7 @@ pub(crate) const SMALL_RATING: u64 = 2500;
 
 // 0 where none is permitted. A measured heat that isn't permitted is no ground to fall back to the
 // default.
-pub(crate) fn choose_method(l: &[u8], u: &[u8], f: &[u8]) -> u8
-    requires whole { (32 ≤ length l.now) × (32 ≤ length u.now) × (32 ≤ length f.now) }
+pub(crate) fn choose_method(l: &Line, u: &Line, f: &Line) -> u8
     ensures chosen { result ≡ method_of l.now u.now f.now }
 {
     if listed::is_monitored(u) {

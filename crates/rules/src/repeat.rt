@@ -5,6 +5,7 @@ ghost use Rattle.rules.specs.Repeat.{stands_among, repeatable, repeated};
 ghost use Rattle.rules.specs.Record.{unless_repeated};
 ghost use Rattle.rules.specs.Key.{Start, Keyed, stands_in};
 
+use crate::bytes::Line;
 use crate::record::{Outcome, Reason};
 use crate::{bytes, field};
 
@@ -37,8 +38,7 @@ pub(crate) fn withhold(o: Outcome, repeated: bool) -> Outcome
 }
 
 // Whether a unit has one such record for each hour, or for each month.
-pub(crate) fn is_repeatable(l: &[u8]) -> bool
-    requires whole { 32 ≤ length l.now }
+pub(crate) fn is_repeatable(l: &Line) -> bool
     ensures repeatable { result ≡ repeatable l.now }
 {
     let kind = field::kind(l);
@@ -99,8 +99,7 @@ fn has_key(book: &[u8], j: usize, key: u64) -> bool
     read_key(bytes::take_line(book, j)) == key
 }
 
-fn read_key(l: &[u8]) -> u64
-    requires whole { 32 ≤ length l.now }
+fn read_key(l: &Line) -> u64
     ensures key { Keyed l.now result }
 {
     read_start(l) & MASK
@@ -108,8 +107,7 @@ fn read_key(l: &[u8]) -> u64
 
 // The first eight bytes. They are read by fields, which the mask's proof tells apart, and compile to one
 // load.
-fn read_start(l: &[u8]) -> u64
-    requires whole { 32 ≤ length l.now }
+fn read_start(l: &Line) -> u64
     ensures start { Start l.now result }
 {
     let kind = bytes::widen(l[0]);

@@ -10,6 +10,7 @@ ghost use Rattle.rules.specs.Sorting.{heat_limits, Settled, NoGas};
 ghost use Rattle.rules.specs.AtOnce.{form_right, heat_right, carbon_right, gas_right, allowed_by, amount_burned};
 
 use crate::book::Head;
+use crate::bytes::Line;
 use crate::{bytes, entry, field, index};
 use mass::fuel::Amount;
 use mass::gas::{CarbonShare, MolarVolume, MolecularWeight};
@@ -76,8 +77,7 @@ pub fn sort_fuel(
     })
 }
 
-fn is_form_right(l: &[u8]) -> bool
-    requires whole { 32 ≤ length l.now }
+fn is_form_right(l: &Line) -> bool
     ensures right { result ≡ form_right l.now }
 {
     let flags = field::flags(l);
@@ -91,8 +91,7 @@ fn is_form_right(l: &[u8]) -> bool
 }
 
 // The most heat is looked up by the flags, so that no jump hangs on these: of a book's flags a processor foresees half.
-fn is_heat_right(l: &[u8], limits: &[u32; 8]) -> bool
-    requires whole { 32 ≤ length l.now }
+fn is_heat_right(l: &Line, limits: &[u32; 8]) -> bool
     requires limits { limits.now ≡ heat_limits }
     ensures right { result ≡ heat_right l.now }
 {
@@ -101,8 +100,7 @@ fn is_heat_right(l: &[u8], limits: &[u32; 8]) -> bool
     (flags as u32 % 2 <= heat) & (heat <= limits[flags as usize % 8])
 }
 
-fn is_carbon_right(l: &[u8], limit: u32) -> bool
-    requires whole { 32 ≤ length l.now }
+fn is_carbon_right(l: &Line, limit: u32) -> bool
     requires small { limit ≤ 4000000 }
     ensures right { result ≡ carbon_right limit l.now }
 {
@@ -112,16 +110,14 @@ fn is_carbon_right(l: &[u8], limit: u32) -> bool
 }
 
 // Whether a method is permitted and there is a heat in use, by a bit for each of eight flags.
-fn is_allowed(l: &[u8], allowed: u32) -> bool
-    requires whole { 32 ≤ length l.now }
+fn is_allowed(l: &Line, allowed: u32) -> bool
     ensures allowed { result ≡ allowed_by l.now allowed }
 {
     let flags = field::flags(l) as u32 % 32;
     (allowed >> flags) % 2 == 1
 }
 
-fn find_burned(l: &[u8]) -> u64
-    requires whole { 32 ≤ length l.now }
+fn find_burned(l: &Line) -> u64
     requires right { heat_right l.now ≡ true }
     ensures burned { result ≡ amount_burned l.now }
 {
@@ -175,8 +171,7 @@ pub fn sort_gas(
     })
 }
 
-fn is_gas_right(l: &[u8]) -> bool
-    requires whole { 32 ≤ length l.now }
+fn is_gas_right(l: &Line) -> bool
     ensures right { result ≡ gas_right l.now }
 {
     let flags = field::flags(l);

@@ -10,6 +10,7 @@ ghost use Rattle.rules.specs.Table as spec;
 ghost use Rattle.rules.specs.Marks as marks;
 
 use crate::book::Head;
+use crate::bytes::Line;
 use crate::{bytes, field, listing};
 
 // How many words a row has: 138 × 64 bits for 8,784 hours and 12 months.
@@ -55,8 +56,7 @@ fn note_lines(book: &[u8], n: usize, units: &[u8], hints: &[u8], table: &mut [u6
     }
 }
 
-fn note_line(l: &[u8], units: &[u8], hints: &[u8], table: &mut [u64])
-    requires whole { 32 ≤ length l.now }
+fn note_line(l: &Line, units: &[u8], hints: &[u8], table: &mut [u64])
     requires rising { Rising units.now }
     requires table { spec.is_table units.now table.old ≡ true }
     ensures noted { table.new ≡ spec.noted l.now units.now table.old }
@@ -71,8 +71,7 @@ fn note_line(l: &[u8], units: &[u8], hints: &[u8], table: &mut [u64])
 
 // Notes the unit and period of the record l, the unit's place being found, and tells whether they were
 // noted before.
-pub(crate) fn note(l: &[u8], units: &[u8], unit: Option<usize>, table: &mut [u64]) -> bool
-    requires whole { 32 ≤ length l.now }
+pub(crate) fn note(l: &Line, units: &[u8], unit: Option<usize>, table: &mut [u64]) -> bool
     requires found { unit ≡ place (unit_number l.now) 0 (lines_in units.now) }
     requires table { spec.is_table units.now table.old ≡ true }
     ensures was { result ≡ marks.was_noted l.now units.now table.old }
@@ -93,8 +92,7 @@ pub(crate) fn note(l: &[u8], units: &[u8], unit: Option<usize>, table: &mut [u64
 }
 
 // The same of any words: what is no table tells nothing, and is left alone.
-pub(crate) fn ask(l: &[u8], units: &[u8], unit: Option<usize>, table: &mut [u64]) -> bool
-    requires whole { 32 ≤ length l.now }
+pub(crate) fn ask(l: &Line, units: &[u8], unit: Option<usize>, table: &mut [u64]) -> bool
     requires few { length units.now / 32 ≤ 64 }
     requires found { unit ≡ place (unit_number l.now) 0 (lines_in units.now) }
     ensures told { result ≡ marks.told l.now units.now table.old }

@@ -12,7 +12,7 @@ is-heat-measured-requires c κs = search rules
 find-measured-requires : tie.Need-find_measured-requires
 find-measured-requires c κs =
     let h = c.requires in
-    (h.0.0, heat_limit-le _ _ h.1 (is c.is_heat_measured.ensures c.if-is_heat_measured.true))
+    heat_limit-le _ _ h (is c.is_heat_measured.ensures c.if-is_heat_measured.true)
 
 returns : tie.Need-returns-then-is_heat_measured
 unfolding heat_in_use

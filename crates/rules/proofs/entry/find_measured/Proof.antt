@@ -18,7 +18,7 @@ find-high-requires : tie.Need-find_high-requires
 find-high-requires c κs =
     let h = c in
     let low = is c.is_heat_low.ensures c.if-is_heat_low.true in
-    le_trans (le_of_eq h.heat-heat.ensures) (heat_limit-low _ low h.requires.1)
+    le_trans (le_of_eq h.heat-heat.ensures) (heat_limit-low _ low h.requires)
 
 returns : tie.Need-returns-then-is_heat_low
 unfolding measured_heat

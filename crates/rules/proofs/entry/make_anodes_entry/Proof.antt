@@ -20,7 +20,7 @@ weigh-requires c κs =
     let metal = c.metal.ensures in
     let used = c.anode_use.ensures in
     let sum = c.sum_impurities.ensures in
-    let reach = anodes_reach _ c.requires.1 in
+    let reach = anodes_reach _ c.requires in
     record {
       metal_le = le_trans (le_of_eq metal) reach.metal_le;
       use_le = le_trans (le_of_eq used) reach.use_le;

@@ -7,13 +7,13 @@ use Rattle.rules.proofs.entry.make_entry.Statement.{statement}
 use Rattle.rules.proofs.entry.make_entry.Tie as tie
 
 abbrev entry : tie.After-amount → tie.Start
-entry c = c.before.before.before.before.before
+entry c = c.before.before.before
 
 in_reach : (c : tie.After-amount) → Reach (entry c).args.l.now (entry c).args.f.now
-in_reach c = let h = (entry c).requires in reach _ _ h.1.0 h.1.1.0
+in_reach c = let h = (entry c).requires in reach _ _ h.0 h.1.0
 
 used : (c : tie.After-amount) → (entry c).args.h ≡ heat_in_use (entry c).args.l.now (entry c).args.f.now
-used c = (entry c).requires.1.1.1
+used c = (entry c).requires.1.1
 
 find-destination-requires : tie.Need-find_destination-destination-requires
 find-destination-requires c κs = search rules

@@ -14,7 +14,7 @@ in_reach : (c : tie.After-carbon-carbon) →
     Reach a.l.now a.f.now
 in_reach c =
     let h = c.requires in
-    reach _ _ h.1.0 h.1.1
+    reach _ _ h.0 h.1
 
 amount-requires : tie.Need-amount-requires
 amount-requires c κs = search rules

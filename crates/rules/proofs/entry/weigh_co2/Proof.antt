@@ -8,10 +8,10 @@ use Rattle.rules.proofs.entry.weigh_co2.Statement.{statement}
 use Rattle.rules.proofs.entry.weigh_co2.Tie as tie
 
 abbrev entry : tie.After-amount → tie.Start
-entry c = c.before.before.before.before.before
+entry c = c.before.before.before
 
 used : (c : tie.After-amount) → (entry c).args.h ≡ heat_in_use (entry c).args.l.now (entry c).args.f.now
-used c = (entry c).requires.1.1.1
+used c = (entry c).requires.1.1
 
 returns : tie.Need-returns-then-method-eq4
 unfolding co2_by
@@ -20,7 +20,7 @@ returns c = sym (choose_t _ (eq-eqb _ _ c.if-method-eq4.true) refl)
 weigh-carbon-requires : tie.Need-weigh_carbon-requires
 weigh-carbon-requires c κs =
     let h = c.requires in
-    (h.0, (h.1.0, h.1.1.0))
+    (h.0, h.1.0)
 
 returns-2 : tie.Need-returns-then-method-eq3
 unfolding co2_by
@@ -40,7 +40,7 @@ weigh-by-heat-requires c κs =
     let amount = a.amount.ensures in
     let factor = c.co2_factor.ensures in
     let h = (entry a.before).requires in
-    let r = (reach _ _ h.1.0 h.1.1.0).by_co2 in
+    let r = (reach _ _ h.0 h.1.0).by_co2 in
     let heat-in = le_trans (le_of_eq (λ i. (used a.before i).0)) r.heat_le in
     record { amount_le = omega arith; heat_le = heat-in; factor_le = omega arith }
 

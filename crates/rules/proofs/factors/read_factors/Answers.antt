@@ -8,7 +8,7 @@ use Rattle.rules.proofs.factors.read_factors.Goals as goal
 pub returns : goal.returns
 unfolding factors_of
 returns c =
-    let is-line = c.take_line-f.ensures.line.0 ∙ ap (line c.args.k) c.fuel_lines.ensures.lines in
+    let is-line = c.take_line-f.ensures.line ∙ ap (line c.args.k) c.fuel_lines.ensures.lines in
     record {
       factors = λ i. record {
         heat = (c.default_heat.ensures.field ∙ ap default_heat is-line) i;

@@ -9,7 +9,7 @@ loop-j-init c =
 
 pub overflow_cast-fuels : goal.overflow_cast-fuels
 overflow_cast-fuels c =
-    let below = number-line-lt c.args.s.now c.loop-j.j (λ i. (c.type_inv.s i).fits) c.take_line-f.ensures.line.0 c.number-number.ensures.field in
+    let below = number-line-lt c.args.s.now c.loop-j.j (λ i. (c.type_inv.s i).fits) c.take_line-f.ensures.line c.number-number.ensures.field in
     omega arith
 
 pub loop-j-preserved : goal.loop-j-preserved
@@ -17,7 +17,7 @@ loop-j-preserved c =
     let few : c.loop-j.j < 64 = omega (arith, c.requires.rising.few) in
     let inv = c.loop-j.invariant in
     record {
-      columns = fuel_columns_next few inv.columns c.take_line-f.ensures.line.0
+      columns = fuel_columns_next few inv.columns c.take_line-f.ensures.line
           c.number-number.ensures.field
           c.find_large.ensures.large
           c.find_allowed.ensures.allowed

@@ -15,7 +15,7 @@ scanned : (c : After-number-number)
     Scanned ok s (length s / 32) scan.i scan.before c.take_line-l.result.now c.number-number.result (lines_sound ok s)
 scanned c = record {
   left = c.lines.invariant.left;
-  line_is = c.take_line-l.ensures.line.0;
+  line_is = c.take_line-l.ensures.line;
   number_is = c.number-number.ensures.field;
   there = c.lines-test.true;
 }

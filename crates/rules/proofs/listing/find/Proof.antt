@@ -21,7 +21,7 @@ returns : tie.Need-returns-then-number-x
 returns c =
     let read = c in
     let there = read in
-    let number_is = read.number.ensures ∙ ap number read.take_line.ensures.0 in
+    let number_is = read.number.ensures ∙ ap number read.take_line.ensures in
     let rising = there.requires in
     place_mid _ _ _ _ rising there.if-hint-s.true number_is c.if-number-x.true
 

@@ -29,13 +29,13 @@ start c = c.before.before.before.before
 number_is : (c : tie.After-number-number invariant-loop decreases-loop) →
     let loop = (turn c).loop-width in
     c.number-number.result ≡ number_at (loop.low + loop.width / 2) (start (turn c)).args.s.now
-number_is c = c.number-number.ensures ∙ ap number c.take_line.ensures.0
+number_is c = c.number-number.ensures ∙ ap number c.take_line.ensures
 
 number_lt : (c : tie.After-number-number invariant-loop decreases-loop) → c.number-number.result < 65536
 number_lt c =
     let loop = (turn c).loop-width in
     number-line-lt (start (turn c)).args.s.now (loop.low + loop.width / 2) (bytes (turn c).before.before.before)
-    c.take_line.ensures.0 c.number-number.ensures
+    c.take_line.ensures c.number-number.ensures
 
 mid-lt : (c : tie.In-loop-width invariant-loop decreases-loop) →
     let loop = c.loop-width in
@@ -85,7 +85,7 @@ returns-2 c =
     let read = c in
     let ended = read in
     let rising = ended.requires in
-    place_mid _ _ _ _ rising (omega arith) (read.number.ensures ∙ ap number read.take_line-2.ensures.0) c.if-number-x.true
+    place_mid _ _ _ _ rising (omega arith) (read.number.ensures ∙ ap number read.take_line-2.ensures) c.if-number-x.true
 
 returns-3 : tie.Need-returns invariant-loop decreases-loop
 returns-3 c =
@@ -94,7 +94,7 @@ returns-3 c =
     let known = read in
     let s = known.args.s.now in
     let x = known.args.x in
-    let number_is = read.number.ensures ∙ ap number read.take_line-2.ensures.0 in
+    let number_is = read.number.ensures ∙ ap number read.take_line-2.ensures in
     if_lt x 65536
     (λ small.
     let whole : x % 65536 ≡ x = omega arith in

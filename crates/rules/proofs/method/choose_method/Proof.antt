@@ -11,7 +11,7 @@ use Rattle.rules.proofs.method.choose_method.Tie as tie
 
 -- ---- the lines, and what is known of them on the way
 abbrev entry : tie.Else-is_monitored → tie.Start
-entry c = c.before.before.before.before.before
+entry c = c.before.before
 
 abbrev record-line : tie.Else-is_monitored → List ℕ
 record-line c = (entry c).args.l.now

@@ -16,7 +16,7 @@ returns : tie.Need-returns-then-i-book
 unfolding kind_at
 returns c =
     c.kind.ensures
-    ∙ ap kind c.take_line.ensures.0
+    ∙ ap kind c.take_line.ensures
     ∙ sym (choose_t _ (lt-ltb _ _ c.if-i-book.true) refl)
 
 returns-2 : tie.Need-returns

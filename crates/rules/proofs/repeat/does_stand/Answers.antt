@@ -7,7 +7,7 @@ use Rattle.rules.proofs.repeat.does_stand.Goals.{After-read_key-key, else-loop-j
 
 -- The key is that of record i.
 own : (c : After-read_key-key) → Keyed (line c.args.i c.args.book.now) c.read_key-key.result
-own c = subst (λ (l : List ℕ). Keyed l c.read_key-key.result) c.take_line.ensures.line.0 c.read_key-key.ensures.key
+own c = subst (λ (l : List ℕ). Keyed l c.read_key-key.result) c.take_line.ensures.line c.read_key-key.ensures.key
 
 pub returns-then-is_one_of_four : goal.returns-then-is_one_of_four
 returns-then-is_one_of_four c =

@@ -15,7 +15,7 @@ returns : tie.Need-returns
 returns c =
     let a = c.args in
     let read = c.read_key in
-    let key = subst (λ (l : List ℕ). Keyed l read.result) c.take_line.ensures.0 read.ensures in
+    let key = subst (λ (l : List ℕ). Keyed l read.result) c.take_line.ensures read.ensures in
     λ l h. stands_in_one l a.j a.book.now h key
 
 pub has_key_spec : {M : Type 1} → statement M

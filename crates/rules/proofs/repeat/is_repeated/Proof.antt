@@ -15,7 +15,7 @@ returns : tie.Need-returns-then-not-is_repeatable
 unfolding repeated
 returns c =
     let told = c in
-    sym (also_f _ (is (told.is_repeatable.ensures ∙ ap repeatable told.take_line.ensures.0) c.if-not-is_repeatable.true))
+    sym (also_f _ (is (told.is_repeatable.ensures ∙ ap repeatable told.take_line.ensures) c.if-not-is_repeatable.true))
 
 does-stand-requires : tie.Need-does_stand-requires
 does-stand-requires c κs = search rules
@@ -26,7 +26,7 @@ returns-2 c =
     let test = c in
     let told = test in
     c.does_stand.ensures
-    ∙ sym (also_t (is (told.is_repeatable.ensures ∙ ap repeatable told.take_line.ensures.0) test.if-not-is_repeatable.false) refl)
+    ∙ sym (also_t (is (told.is_repeatable.ensures ∙ ap repeatable told.take_line.ensures) test.if-not-is_repeatable.false) refl)
 
 pub is_repeated_spec : {M : Type 1} → statement M
 is_repeated_spec =

@@ -8,7 +8,7 @@ use Rattle.rules.proofs.sorting.find_burned.Statement.{statement}
 use Rattle.rules.proofs.sorting.find_burned.Tie as tie
 
 find-measured-requires : tie.Need-find_measured-heat-requires
-find-measured-requires c κs = (search rules, heat_limit_right _ c.requires.1)
+find-measured-requires c κs = heat_limit_right _ c.requires
 
 mul-result : tie.Need-overflow_mul-result
 mul-result c =
@@ -16,7 +16,7 @@ mul-result c =
     let begun = found in
     let heat-is : found.find_measured-heat.result.0 ≡ (measured_heat begun.args.l.now).0 =
     λ i. (found.find_measured-heat.ensures i).0 in
-    let few = measured_heat-le _ (heat_limit_right _ begun.requires.1) in
+    let few = measured_heat-le _ (heat_limit_right _ begun.requires) in
     let product : c.amount.result * (found.find_measured-heat.result.0 + 1 - found.flags.result % 2)
     ≤ 4294967295 * 200001 = mul-le-mul {n₂ = 4294967295} {m₂ = 200001} (omega arith) (omega arith) in
     omega arith

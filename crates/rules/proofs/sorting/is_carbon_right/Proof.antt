@@ -8,7 +8,7 @@ mul-result : tie.Need-overflow_mul-result
 mul-result c =
     let limit = c.args.limit in
     let product : limit * (c.flags.result / 2 % 2) ≤ 4000000 * 1 =
-    mul-le-mul {m₂ = 1} c.requires.1 (omega arith) in
+    mul-le-mul {m₂ = 1} c.requires (omega arith) in
     omega arith
 
 returns : tie.Need-returns

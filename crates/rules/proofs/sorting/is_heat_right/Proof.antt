@@ -10,7 +10,7 @@ unfolding heat_right
 returns c =
     let flags = c.flags-flags.ensures in
     let heat = c.heat-heat.ensures in
-    let limits = c.requires.1 in
+    let limits = c.requires in
     both (λ i. leb (flags i % 2) (heat i)) (λ i. leb (heat i) (get_or (limits i) (flags i % 8) 0))
 
 pub is_heat_right_spec : {M : Type 1} → statement M

@@ -90,7 +90,7 @@ found c =
       unit = record {
         book = need.0;
         bytes = bytes l;
-        line_is = l.take_line-l.ensures.0;
+        line_is = l.take_line-l.ensures;
         units = need.1.1.0.0;
         few = unit-few l;
         has = (tests c).unit_has ∙ l.unit_number-unit.ensures;
@@ -138,7 +138,7 @@ element-copy-out-is-carbon-right : tie.Need-bounds-fuels-k-2
 element-copy-out-is-carbon-right c = omega (arith, fuel-few (compared c))
 
 is-carbon-right-requires : tie.Need-is_carbon_right-carbon_right-requires
-is-carbon-right-requires c κs = (search rules, carbon-limit-le (compared c.before))
+is-carbon-right-requires c κs = carbon-limit-le (compared c.before)
 
 add-column : tie.Need-overflow_add-column
 add-column c = omega (arith, unit-few (compared c.before.before))
@@ -162,7 +162,7 @@ element-copy-out-is-allowed : tie.Need-bounds-fuels-column
 element-copy-out-is-allowed c = omega (arith, fuel-few (compared c.before.before.before))
 
 is-heat-right-requires : tie.Need-is_heat_right-heat_right-requires
-is-heat-right-requires c κs = (search rules, (begun (compared c.before.before.before.before.before)).requires.1.1.1.2)
+is-heat-right-requires c κs = (begun (compared c.before.before.before.before.before)).requires.1.1.1.2
 
 mul-carbon : tie.Need-overflow_mul-carbon
 mul-carbon c =
@@ -189,7 +189,7 @@ add-t53 : tie.Need-overflow_add-result-2
 add-t53 c = let told = looked c.before.before.before in omega (arith, fuel-few told, way-le told)
 
 find-burned-requires : tie.Need-find_burned-requires
-find-burned-requires c κs = (search rules, (tests c.before.before.before.before).heats)
+find-burned-requires c κs = (tests c.before.before.before.before).heats
 
 returns-2 : tie.Need-returns
 returns-2 c =

@@ -74,7 +74,7 @@ found c =
       unit = record {
         book = need.0;
         bytes = bytes l;
-        line_is = l.take_line-l.ensures.0;
+        line_is = l.take_line-l.ensures;
         units = need.1.1.0.0;
         few = unit-few l;
         has = (tests c).unit_has ∙ l.unit_number-unit.ensures;
@@ -143,7 +143,7 @@ element-copy-out-is-allowed : tie.Need-bounds-fuels-k-3
 element-copy-out-is-allowed c = omega (arith, fuel-few (compared c.before))
 
 is-heat-right-requires : tie.Need-is_heat_right-heat_right-requires
-is-heat-right-requires c κs = (search rules, (begun (compared c.before.before.before)).requires.1.1.1.2)
+is-heat-right-requires c κs = (begun (compared c.before.before.before)).requires.1.1.1.2
 
 add-way : tie.Need-overflow_add-way
 add-way c = omega (arith, unit-few (looked c))
@@ -179,7 +179,7 @@ add-t55 : tie.Need-overflow_add-result
 add-t55 c = let done = c in omega (arith, fuel-few (looked done.before.before.before.before.before), way-le done.before.before.before.before.before)
 
 find-burned-requires : tie.Need-find_burned-requires
-find-burned-requires c κs = (search rules, (tests c.before.before.before.before.before.before).heats)
+find-burned-requires c κs = (tests c.before.before.before.before.before.before).heats
 
 returns-2 : tie.Need-returns
 returns-2 c =

@@ -22,7 +22,7 @@ note-requires : tie.Need-note-requires
 note-requires c κs =
     let test = c in
     let p = test.requires in
-    (p.0, (p.1.1, is test.is_table.ensures test.if-not-is_table.false))
+    (p.1, is test.is_table.ensures test.if-not-is_table.false)
 
 same-length-2 : tie.Need-shape_of-table
 same-length-2 c = search rules

@@ -12,10 +12,10 @@ use Rattle.rules.proofs.table.note.Statement.{statement}
 use Rattle.rules.proofs.table.note.Tie as tie
 
 abbrev entry : tie.After-has_bit → tie.Start
-entry c = c.before.before.before.before.before.before
+entry c = c.before.before.before.before.before
 
 abbrev start : tie.Else-not-has_bit → tie.Start
-start c = c.before.before.before.before.before.before.before
+start c = c.before.before.before.before.before.before
 
 -- The test that the code makes is of the record's kind and period.
 asked : (c : tie.After-has_bit) →
@@ -42,8 +42,8 @@ there : (c : tie.After-find_bit-bit) →
 there c =
     let passed = c in
     let begun = start passed.before.before in
-    row_there _ _ _ _ (roomy _ _ begun.requires.1.1).rows
-    (place_lt _ _ begun.requires.1.0 c.in-Some.is)
+    row_there _ _ _ _ (roomy _ _ begun.requires.1).rows
+    (place_lt _ _ begun.requires.0 c.in-Some.is)
     (subst (λ (b : ℕ). b < 8832) (sym (bit_is c)) (bit_of-lt _ _ (has passed.before.before)))
 
 kind-requires : tie.Need-kind-kind-requires
@@ -69,7 +69,7 @@ enum_told c = search rules
 returns-2 : tie.Need-returns-in_default
 returns-2 c =
     let passed = c in
-    let none = noted_nothing _ _ _ (has passed.before) (start passed.before).requires.1.0 refl c.in_default.is in
+    let none = noted_nothing _ _ _ (has passed.before) (start passed.before).requires.0 refl c.in_default.is in
     (none.was_noted_then, none.now_noted)
 
 find-bit-requires : tie.Need-find_bit-bit-requires
@@ -92,7 +92,7 @@ returns-3 c =
     let asked_of = set in
     let bit = asked_of in
     let passed = bit in
-    let now-set = noted_at _ _ _ (has passed.before.before.before.before.before.before.before) (start passed.before.before.before.before.before.before.before).requires.1.0 refl
+    let now-set = noted_at _ _ _ (has passed.before.before.before.before.before.before.before) (start passed.before.before.before.before.before.before.before).requires.0 refl
     (bit_is bit.before.before.before.before.before) bit.in-Some.is asked_of.is_marked-was.ensures set.mark.ensures in
     (now-set.was_noted_then, now-set.now_noted)
 

@@ -33,11 +33,8 @@ note-requires : tie.Need-note-was-requires
 note-requires c κs =
     let found = c in
     let begun = c in (
-      begun.requires.0,
-      (
-        found.find-unit.ensures ∙ ap (λ (x : ℕ). place x 0 (lines_in begun.args.units.now)) found.unit_number.ensures,
-        begun.requires.1.1,
-      ),
+      found.find-unit.ensures ∙ ap (λ (x : ℕ). place x 0 (lines_in begun.args.units.now)) found.unit_number.ensures,
+      begun.requires.1,
     )
 
 same_length : tie.Need-shape_of-table

@@ -15,5 +15,5 @@ note_line-requires-clause-table c = is_table-length _ _ _ c.loop-i.auto.table âˆ
 pub loop-i-preserved : goal.loop-i-preserved
 loop-i-preserved c =
     let a = c.args in
-    noted_all_next a.book.now a.units.now a.table.now c.loop-i.i c.take_line.ensures.line.0
+    noted_all_next a.book.now a.units.now a.table.now c.loop-i.i c.take_line.ensures.line
     (c.note_line.ensures.noted âˆ™ ap (noted_in c.take_line.result.now a.units.now) c.loop-i.invariant)
