@@ -8,7 +8,7 @@ use rules::reader;
 use std::io::Error;
 use std::rt::Env;
 use text::frame;
-use text::frame::{Asked, Broken, Frame};
+use text::frame::{Broken, Call, Frame};
 use text::page::Page;
 use wetherstep::face;
 
@@ -94,10 +94,10 @@ fn answer_next<R: Input + Print + Complain>(
     if n < head.len() {
         return Err(Stopped::Broken(Broken::Cut));
     }
-    match frame::read(&head) {
-        Asked::Stop => Err(Stopped::Broken(Broken::Head)),
-        Asked::Call(f) => answer_frame(rt, f, long, short),
-    }
+    let Some(f) = frame::read(&head) else {
+        return Err(Stopped::Broken(Broken::Head));
+    };
+    answer_frame(rt, f, long, short)
 }
 
 // The longer of the two goes where it fits.
@@ -123,13 +123,7 @@ fn answer_in<R: Input + Print + Complain>(
     let n = f.book;
     let m = f.checkpoint;
     let k = f.out;
-    if first.len() < n {
-        return Err(Stopped::Broken(Broken::Head));
-    }
-    if first.len() - n < m {
-        return Err(Stopped::Broken(Broken::Head));
-    }
-    if second.len() < k {
+    if first.len() < n || first.len() - n < m || second.len() < k {
         return Err(Stopped::Broken(Broken::Head));
     }
     answer_parts(rt, f, &mut first[..n + m], &mut second[..k])
@@ -169,16 +163,14 @@ fn call_on(f: Frame, parts: &[u8], out: &mut [u8]) -> Page {
 }
 
 fn call(f: Frame, book: &[u8], checkpoint: &[u8], out: &mut [u8]) -> Page {
-    if f.call == 1 {
-        return frame::answer_call(face::wetherstep_fresh(book, out));
+    match f.call {
+        Call::Fresh => frame::answer_call(face::wetherstep_fresh(book, out)),
+        Call::Wake => {
+            frame::answer_call(face::wetherstep_wake(book, checkpoint, f.argument, out))
+        }
+        Call::Report => report(book, checkpoint),
+        Call::Record => frame::answer_record(reader::look(book, f.argument as usize)),
     }
-    if f.call == 2 {
-        return frame::answer_call(face::wetherstep_wake(book, checkpoint, f.argument, out));
-    }
-    if f.call == 3 {
-        return report(book, checkpoint);
-    }
-    frame::answer_record(reader::look(book, f.argument as usize))
 }
 
 fn report(book: &[u8], checkpoint: &[u8]) -> Page {

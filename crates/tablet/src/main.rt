@@ -14,7 +14,6 @@ use roster::plants::Listed;
 use std::random::RandomSource;
 use std::rt::{Env, Files};
 use text::budget;
-use text::budget::Budget;
 
 // 16 of the longest lines come to 130,880 bytes: what is longer is wrong in what is read of it.
 pub(crate) const LIST_ROOM: usize = 131072;
@@ -31,10 +30,10 @@ fn run<R: Env + Files + Print + Alloc + RandomSource + Complain>(rt: &R) -> Ende
     let Ok(n) = rt.arg(2, &mut word) else {
         return misuse(rt);
     };
-    match budget::read(&word[..n]) {
-        Budget::Wrong => misuse(rt),
-        Budget::Records(b) => read_path(rt, b),
-    }
+    let Some(b) = budget::read(&word[..n]) else {
+        return misuse(rt);
+    };
+    read_path(rt, b)
 }
 
 fn misuse<R: Complain>(rt: &R) -> Ended {

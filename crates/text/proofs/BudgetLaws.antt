@@ -11,10 +11,10 @@ use lib.ListN.{length, get_or, drop, length-append, drop_of_length-le}
 use lib.Seq.{drop-cons}
 use borrow.Author.Tests.{le-leb, lt-leb, leb-true}
 use Rattle.choice.specs.Tests.{choose, ◌also◌}
-use Rattle.choice.proofs.Splitting.{if_lt}
+use Rattle.choice.proofs.Splitting.{if_test, if_lt}
 use Rattle.choice.proofs.TestsLaws.{also_t, also_f, also_l, also_r, choose_t, choose_f}
-use Rattle.text.specs.declared.budget.Budget.{Budget}
-use Rattle.text.specs.declared.budget.Budget.TheVariants.{Records, Wrong}
+use Rattle.std.specs.Prelude.{Option, Some, None}
+use Rattle.std.specs.Char.{is_ascii_digit}
 use Rattle.text.specs.Words.{digit, decimal}
 use Rattle.text.specs.Budget.{highest, is_digit, all_digits, value_from, value_of, budget_in}
 use Rattle.text.proofs.WordsLaws.{decimal-few, decimal_many}
@@ -29,11 +29,16 @@ is_digit-digit : (d : ℕ) → d < 10 → is_digit (digit d) ≡ true
 unfolding is_digit
 is_digit-digit d l = also_t (le-leb 48 (48 + d) (omega arith)) (le-leb (48 + d) 57 (omega arith))
 
--- ---- what is left: the budget that the digits of v and then those of w say
-unfoldable pub budget_from : ℕ → List ℕ → Budget
-budget_from v w = choose (all_digits w also leb (value_from v w) highest) (Records (value_from v w)) Wrong
+-- The same as of std.
+pub is_digit-ascii : (b : ℕ) → is_ascii_digit b ≡ is_digit b
+unfolding is_digit ◌also◌
+is_digit-ascii b = if_test (leb 48 b) (λ e. rw e) (λ e. rw e)
 
-pub budget_in-nil : (w : List ℕ) → length w ≡ 0 → Wrong ≡ budget_in w
+-- ---- what is left: the budget that the digits of v and then those of w say
+unfoldable pub budget_from : ℕ → List ℕ → Option ℕ
+budget_from v w = choose (all_digits w also leb (value_from v w) highest) (Some (value_from v w)) None
+
+pub budget_in-nil : (w : List ℕ) → length w ≡ 0 → None ≡ budget_in w
 unfolding budget_in
 budget_in-nil w z =
     sym (choose_f _ (none w z) refl)
@@ -44,11 +49,11 @@ budget_in-nil w z =
 pub budget_in_some : (w : List ℕ) → 1 ≤ length w → budget_from 0 w ≡ budget_in w
 unfolding budget_in budget_from
 budget_in_some w l =
-    sym (ap (λ (t : Bool). choose (t also leb (value_of w) highest) (Records (value_of w)) Wrong)
+    sym (ap (λ (t : Bool). choose (t also leb (value_of w) highest) (Some (value_of w)) None)
     (also_t (le-leb 1 (length w) l) refl))
 
 -- The byte at i is next.
-module _ {x : Budget} (v : ℕ) (w : List ℕ) (i : ℕ) (there : i < length w) (whole : budget_from v (drop i w) ≡ x) where
+module _ {x : Option ℕ} (v : ℕ) (w : List ℕ) (i : ℕ) (there : i < length w) (whole : budget_from v (drop i w) ≡ x) where
   next : budget_from v (get_or w i 0 ∷ drop (i + 1) w) ≡ x
   next =
       let after : suc i ≡ i + 1 = omega arith in
@@ -59,10 +64,10 @@ module _ {x : Budget} (v : ℕ) (w : List ℕ) (i : ℕ) (there : i < length w) 
   unfolding budget_from all_digits value_from
   budget_from_digit h =
       let value = value_from (v * 10 + (get_or w i 0 - 48)) (drop (i + 1) w) in
-      sym (ap (λ (t : Bool). choose (t also leb value highest) (Records value) Wrong) (also_t h refl))
+      sym (ap (λ (t : Bool). choose (t also leb value highest) (Some value) None) (also_t h refl))
       ∙ next
 
-  pub budget_from_other : is_digit (get_or w i 0) ≡ false → Wrong ≡ x
+  pub budget_from_other : is_digit (get_or w i 0) ≡ false → None ≡ x
   unfolding budget_from all_digits
   budget_from_other h = sym (choose_f _ (also_f _ (also_f (all_digits (drop (i + 1) w)) h)) refl) ∙ next
 
@@ -71,7 +76,7 @@ unfolding value_from
 value_from-le v [] = omega arith
 value_from-le v (b ∷ w) = omega (arith, value_from-le (v * 10 + (b - 48)) w)
 
-pub budget_from_above : {x : Budget} (v : ℕ) (w : List ℕ) → budget_from v w ≡ x → highest < v → Wrong ≡ x
+pub budget_from_above : {x : Option ℕ} (v : ℕ) (w : List ℕ) → budget_from v w ≡ x → highest < v → None ≡ x
 unfolding budget_from
 budget_from_above v w whole l =
     let above : leb (value_from v w) highest ≡ false = lt-leb (value_from v w) highest (omega (arith, value_from-le v w)) in
@@ -81,11 +86,11 @@ budget_from_above v w whole l =
     last true e = also_t refl e
     last false {b} e = also_f b refl
 
-pub budget_from_end : {x : Budget} (v : ℕ) (w : List ℕ) (i : ℕ) → length w ≤ i → budget_from v (drop i w) ≡ x
-    → v ≤ highest → Records v ≡ x
+pub budget_from_end : {x : Option ℕ} (v : ℕ) (w : List ℕ) (i : ℕ) → length w ≤ i → budget_from v (drop i w) ≡ x
+    → v ≤ highest → Some v ≡ x
 unfolding budget_from all_digits value_from
 budget_from_end v w i all whole l =
-    sym (choose_t Wrong (also_t refl (le-leb v highest l)) refl)
+    sym (choose_t None (also_t refl (le-leb v highest l)) refl)
     ∙ ap (budget_from v) (sym (drop_of_length-le w {i = i} all))
     ∙ whole
 
@@ -131,9 +136,9 @@ says_decimal (suc f) n l h =
     (says_many (decimal (n / 10)) n (says_decimal f (n / 10) (omega (arith, pow-suc 10 f)) (omega arith))))
 
 -- A budget written in decimal is read as the same budget.
-pub budget_in-decimal : (b : ℕ) → b ≤ highest → budget_in (decimal b) ≡ Records b
+pub budget_in-decimal : (b : ℕ) → b ≤ highest → budget_in (decimal b) ≡ Some b
 unfolding budget_in
 budget_in-decimal b l =
     let says = says_decimal 10 b (omega arith) (omega arith) in
     let low : leb (value_of (decimal b)) highest ≡ true = le-leb (value_of (decimal b)) highest (omega (arith, says.value)) in
-    choose_t Wrong (also_t (also_t (le-leb 1 _ says.some) says.digits) low) (ap Records says.value)
+    choose_t None (also_t (also_t (le-leb 1 _ says.some) says.digits) low) (ap Some says.value)

@@ -1,16 +1,17 @@
 -- What frames say, part by part; each answer is 64 bytes long, and what is told of a broken frame fits on a page.
 -- Assumes nothing.
-use Prim.Native.Nat.{ℕ, suc, ◌+◌, ◌<◌, ◌≤◌}
-use mathlib.Core.Bool.{Bool, true, false}
-use mathlib.Core.List.{List, ◌∷◌, ◌++◌}
+use Prim.Native.Nat.{ℕ, ◌+◌}
+use mathlib.Core.Bool.{Bool, true, false, ◌&&◌}
+use mathlib.Core.List.{List, [], ◌∷◌, ◌++◌}
 use mathlib.Core.Path.{◌≡◌, refl, sym, ap, ap₂, ◌∙◌}
 use native.Mathlib.Omega.{arith}
 use lib.Dec.{eqb}
-use lib.ListN.{length, get_or, drop, length-append, drop_of_length-le}
-use lib.Seq.{drop-cons}
+use lib.ListN.{length, length-append}
 use borrow.Author.Tests.{eq-eqb, ne_eqb}
-use Rattle.choice.specs.Tests.{choose, ◌also◌}
-use Rattle.choice.proofs.Splitting.{if_eq}
+use Rattle.std.specs.Prelude.{Some, None}
+use Rattle.std.specs.Cmp.Lexicographic.{pointwise}
+use Rattle.choice.specs.Tests.{choose}
+use Rattle.choice.proofs.Splitting.{if_test, if_eq}
 use Rattle.choice.proofs.TestsLaws.{also_t, also_f, choose_t, choose_f}
 use Rattle.rules.specs.declared.book.Fault.{Fault}
 use Rattle.rules.specs.declared.reader.Seen.TheVariants.{Refused, Missing, Record}
@@ -20,7 +21,6 @@ use Rattle.rules.specs.Book.{fault_number}
 use Rattle.rules.specs.Reader.{shown, sight}
 use Rattle.rules.proofs.BytesLaws.{length-bytes_of}
 use Rattle.rules.proofs.ReaderLaws.{sight-refused, sight-missing, sight_record}
-use Rattle.text.specs.declared.frame.Asked.TheVariants.{Call, Stop}
 use Rattle.text.specs.declared.frame.Broken.{Broken}
 use Rattle.text.specs.declared.frame.Broken.TheVariants.{Head, Cut}
 use Rattle.text.specs.declared.frame.Frame.{Frame}
@@ -35,18 +35,18 @@ use Rattle.text.proofs.WordsLaws.{AtMost, append-le, word-le, field-le, wider}
 
 -- ---- the head of a call
 module _ (head : List ℕ) where
-  pub asked_in-length : (length head ≡ head_size → ⊥) → Stop ≡ asked_in head
+  pub asked_in-length : (length head ≡ head_size → ⊥) → None ≡ asked_in head
   unfolding asked_in
   asked_in-length n = sym (choose_f _ (also_f (head_ok head) (ne_eqb (length head) head_size n)) refl)
 
   module _ (whole : length head ≡ head_size) where
-    pub asked_in_bad : head_ok head ≡ false → Stop ≡ asked_in head
+    pub asked_in_bad : head_ok head ≡ false → None ≡ asked_in head
     unfolding asked_in
     asked_in_bad h = sym (choose_f _ (also_t (eq-eqb (length head) head_size whole) h) refl)
 
-    pub asked_in_right : {f : Frame} → head_ok head ≡ true → f ≡ frame_in head → Call f ≡ asked_in head
+    pub asked_in_right : {f : Frame} → head_ok head ≡ true → f ≡ frame_in head → Some f ≡ asked_in head
     unfolding asked_in
-    asked_in_right h e = ap Call e ∙ sym (choose_t Stop (also_t (eq-eqb (length head) head_size whole) h) refl)
+    asked_in_right h e = ap Some e ∙ sym (choose_t None (also_t (eq-eqb (length head) head_size whole) h) refl)
 
 -- ---- how long each answer is
 record Long (s : List ℕ) (m : ℕ) : Type 0 where
@@ -106,30 +106,16 @@ length-told_bytes t =
 pub answer-page_of : {p q : Page} (t : List ℕ) → p ≡ blank → q ≡ extended p t → length t ≡ answer_size → q ≡ page_of t
 answer-page_of t e d l = extended-blank t e d (omega arith)
 
--- ---- figures that a report left as they were: those at i are next
-module _ {r : Bool} (xs ys : List ℕ) (i : ℕ) (whole : same (drop i xs) (drop i ys) ≡ r) where
-  module _ (l : i < length xs) (m : i < length ys) where
-    next : (eqb (get_or xs i 0) (get_or ys i 0) also same (drop (i + 1) xs) (drop (i + 1) ys)) ≡ r
-    unfolding same
-    next =
-        let after : suc i ≡ i + 1 = omega arith in
-        let left = drop-cons xs i 0 l ∙ ap (λ (j : ℕ). get_or xs i 0 ∷ drop j xs) after in
-        let right = drop-cons ys i 0 m ∙ ap (λ (j : ℕ). get_or ys i 0 ∷ drop j ys) after in
-        sym (ap₂ same left right) ∙ whole
-
-    pub same_next : get_or xs i 0 ≡ get_or ys i 0 → same (drop (i + 1) xs) (drop (i + 1) ys) ≡ r
-    same_next e = sym (also_t (eq-eqb (get_or xs i 0) (get_or ys i 0) e) refl) ∙ next
-
-    pub same_other : (get_or xs i 0 ≡ get_or ys i 0 → ⊥) → false ≡ r
-    same_other n =
-        sym (also_f (same (drop (i + 1) xs) (drop (i + 1) ys)) (ne_eqb (get_or xs i 0) (get_or ys i 0) n))
-        ∙ next
-
-  pub same_end : length xs ≤ i → length ys ≤ i → true ≡ r
-  unfolding same
-  same_end l m =
-      sym (ap₂ same (drop_of_length-le xs {i = i} l) (drop_of_length-le ys {i = i} m))
-      ∙ whole
+-- ---- figures that a report left as they were
+pub same-pointwise : (xs ys : List ℕ) → pointwise eqb xs ys ≡ same xs ys
+unfolding same
+same-pointwise [] [] = refl
+same-pointwise [] (y ∷ ys) = refl
+same-pointwise (x ∷ xs) [] = refl
+same-pointwise (x ∷ xs) (y ∷ ys) =
+    if_test (eqb x y)
+    (λ e. ap (λ (b : Bool). b && pointwise eqb xs ys) e ∙ same-pointwise xs ys ∙ sym (also_t e refl))
+    (λ e. ap (λ (b : Bool). b && pointwise eqb xs ys) e ∙ sym (also_f (same xs ys) e))
 
 -- ---- what is told of what was seen
 pub told_of-refused : {t : Told} {n : ℕ} (x : Fault) → n ≡ fault_number x → t ≡ uncounted n 0 0

@@ -1,17 +1,17 @@
 -- A refusal is looked for byte by byte. Assumes nothing.
 use Prim.Native.Nat.{ℕ, suc, ◌+◌, ◌-◌, ◌<◌, ◌≤◌}
-use mathlib.Core.Bool.{Bool, true, false}
+use mathlib.Core.Bool.{Bool, true, false, ◌&&◌}
 use mathlib.Core.List.{List, [], ◌∷◌}
 use mathlib.Core.Path.{◌≡◌, refl, sym, ap, ◌∙◌}
 use native.Mathlib.Omega.{arith}
 use lib.Dec.{eqb}
 use lib.ListN.{length, get_or, take, drop, length-drop, drop_of_length-le}
 use lib.Seq.{take_all, drop-cons}
+use borrow.Author.Tests.{eq-eqb, ne_eqb}
+use Rattle.std.specs.Cmp.Lexicographic.{pointwise}
 use Rattle.choice.specs.Tests.{◌also◌, ◌either◌}
-use Rattle.choice.proofs.Splitting.{if_test}
+use Rattle.choice.proofs.Splitting.{if_eq}
 use Rattle.choice.proofs.TestsLaws.{also_t, also_f, either_t, either_f}
-use Rattle.roster.specs.Bytes.{same}
-use Rattle.roster.proofs.BytesLaws.{same-nil, same-cons}
 use Rattle.text.specs.Words.{ascii}
 use Rattle.text.specs.Refusal.{begins, tells}
 
@@ -22,22 +22,19 @@ drop_next t i l =
     drop-cons t i 0 l ∙ ap (λ (j : ℕ). get_or t i 0 ∷ drop j t) after
 
 -- ---- the word at the front of a text
-pub begins_short : (w t : List ℕ) → length t < length w → false ≡ begins w t
+pub begins-pointwise : (w t : List ℕ) → pointwise eqb w (take (length w) t) ≡ begins w t
 unfolding begins
-begins_short [] t l = absurd (omega arith)
-begins_short (x ∷ w) [] l = refl
-begins_short (x ∷ w) (y ∷ t) l =
-    if_test (eqb y x)
-    (λ e. begins_short w t (omega arith) ∙ sym (also_t e refl))
-    (λ e. sym (also_f (begins w t) e))
-
-pub begins-same : (w t : List ℕ) → length w ≤ length t → same (take (length w) t) w ≡ begins w t
-unfolding begins
-begins-same [] t l = same-nil
-begins-same (x ∷ w) [] l = absurd (omega arith)
-begins-same (x ∷ w) (y ∷ t) l =
-    same-cons y x (take (length w) t) w
-    ∙ ap (λ (b : Bool). eqb y x also b) (begins-same w t (omega arith))
+begins-pointwise [] t = refl
+begins-pointwise (x ∷ w) [] = refl
+begins-pointwise (x ∷ w) (y ∷ t) =
+    if_eq y x
+    (λ e.
+    ap (λ (b : Bool). b && pointwise eqb w (take (length w) t)) (eq-eqb x y (sym e))
+    ∙ begins-pointwise w t
+    ∙ sym (also_t (eq-eqb y x e) refl))
+    (λ n.
+    ap (λ (b : Bool). b && pointwise eqb w (take (length w) t)) (ne_eqb x y (λ q. n (sym q)))
+    ∙ sym (also_f (begins w t) (ne_eqb y x n)))
 
 -- ---- one byte more
 abbrev refused_at : Bool → List ℕ → Bool

@@ -5,13 +5,11 @@
 --     all_digits w      every byte of w is
 --     value_from v w    the number that the digits of v and then those of w say
 --     value_of w        the number that the digits of w say
---     budget_in w       the budget that w says: digits alone, at least one, of a number up to the highest
+--     budget_in w       the budget that w says: digits alone, at least one, of a number up to the highest; or none
 --
 -- Laws: proofs/BudgetLaws.antt. Definitions only.
-use Rattle.std.specs.Prelude.{ℕ, ◌+◌, ◌-◌, ◌*◌, Bool, true, List, [], ◌∷◌, nat_le, length}
+use Rattle.std.specs.Prelude.{ℕ, ◌+◌, ◌-◌, ◌*◌, Bool, true, List, [], ◌∷◌, nat_le, length, Option, Some, None}
 use Rattle.choice.specs.Tests.{choose, ◌also◌}
-use Rattle.text.specs.declared.budget.Budget.{Budget}
-use Rattle.text.specs.declared.budget.Budget.TheVariants.{Records, Wrong}
 
 abbrev pub highest : ℕ
 highest = 4294967295
@@ -30,6 +28,6 @@ value_from v (b ∷ w) = value_from (v * 10 + (b - 48)) w
 abbrev pub value_of : List ℕ → ℕ
 value_of w = value_from 0 w
 
-unfoldable pub budget_in : List ℕ → Budget
+unfoldable pub budget_in : List ℕ → Option ℕ
 budget_in w =
-    choose (nat_le 1 (length w) also all_digits w also nat_le (value_of w) highest) (Records (value_of w)) Wrong
+    choose (nat_le 1 (length w) also all_digits w also nat_le (value_of w) highest) (Some (value_of w)) None

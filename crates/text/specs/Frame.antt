@@ -7,8 +7,9 @@
 --     gap_in head, blank_in head    the bytes that no field names are 0
 --     argument_ok k x               x is right beside call k: any budget (2), any index (4), else 0
 --     head_ok head                  24 bytes that break no rule of a head
+--     call_of n                     the call of the number n
 --     frame_in head                 what they say
---     asked_in head                 the call that any bytes ask for; what is no right head stops
+--     asked_in head                 the call that any bytes ask for; what is no right head asks for none
 --     call_answer w                 answers a fresh start or a wake that gave the reply word w
 --     number_of w                   the number in a reply word: 0 if the call was accepted
 --     figure fs i                   figure i of the six that a report fills: five in kg, then the decision
@@ -26,7 +27,7 @@
 --     broken_text i x               the line on frame i, counted from 0, at which the answers end
 --
 -- Laws: proofs/FrameLaws.antt. Definitions only.
-use Rattle.std.specs.Prelude.{ℕ, ◌+◌, ◌%◌, Bool, true, false, List, [], ◌∷◌, ◌++◌, nat_le, nat_eq, length, slice_index, Ok, Err}
+use Rattle.std.specs.Prelude.{ℕ, ◌+◌, ◌%◌, Bool, true, false, List, [], ◌∷◌, ◌++◌, nat_le, nat_eq, length, slice_index, Option, Some, None, Ok, Err}
 use Rattle.choice.specs.Tests.{choose, ◌also◌, ◌either◌}
 use Rattle.rules.specs.declared.entry.Destination.{Destination}
 use Rattle.rules.specs.declared.entry.Destination.TheVariants.{Fossil, Biomass, Nowhere}
@@ -34,8 +35,8 @@ use Rattle.rules.specs.Outcome.{reason_number}
 use Rattle.rules.specs.Bytes.{word, zeros, bytes_of}
 use Rattle.rules.specs.Reader.{Sight, turned_away, missing, shown}
 use Rattle.text.specs.declared.frame.Frame.{Frame}
-use Rattle.text.specs.declared.frame.Asked.{Asked}
-use Rattle.text.specs.declared.frame.Asked.TheVariants.{Call, Stop}
+use Rattle.text.specs.declared.frame.Call.{Call}
+use Rattle.text.specs.declared.frame.Call.TheVariants as call
 use Rattle.text.specs.declared.frame.Told.{Told}
 use Rattle.text.specs.declared.frame.Broken.{Broken}
 use Rattle.text.specs.declared.frame.Broken.TheVariants.{Head, Cut}
@@ -82,17 +83,21 @@ head_ok head =
     also nat_le (book_in head + checkpoint_in head + out_in head) most_behind
     also blank_in head
 
+-- A right head has one of the four.
+unfoldable pub call_of : ℕ → Call
+call_of n = choose (nat_eq n 1) call.Fresh (choose (nat_eq n 2) call.Wake (choose (nat_eq n 3) call.Report call.Record))
+
 unfoldable pub frame_in : List ℕ → Frame
 frame_in head = record {
-  call = call_in head;
+  call = call_of (call_in head);
   argument = argument_in head;
   book = book_in head;
   checkpoint = checkpoint_in head;
   out = out_in head;
 }
 
-unfoldable pub asked_in : List ℕ → Asked
-asked_in head = choose (nat_eq (length head) head_size also head_ok head) (Call (frame_in head)) Stop
+unfoldable pub asked_in : List ℕ → Option Frame
+asked_in head = choose (nat_eq (length head) head_size also head_ok head) (Some (frame_in head)) None
 
 -- ---- the answer to a fresh start or a wake
 unfoldable pub call_answer : ℕ → List ℕ

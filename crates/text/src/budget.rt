@@ -1,41 +1,27 @@
 // A budget, read from an argument.
 ghost use Rattle.std.specs.Prelude.{◌≡◌};
-ghost use Rattle.text.specs.Budget.{is_digit, budget_in};
-
-#[derive(Clone, Copy)]
-pub enum Budget {
-    Records(u32),
-    // The word is no decimal number of 32 bits.
-    Wrong,
-}
+ghost use Rattle.text.specs.Budget.{budget_in};
 
 const HIGHEST: u64 = 4294967295;
 
-pub fn read(word: &[u8]) -> Budget
+// The number that the word says; none, if it is no decimal number of 32 bits. The `parse` of std also takes
+// a sign.
+pub fn read(word: &[u8]) -> Option<u32>
     ensures budget { result ≡ budget_in word.now }
 {
-    if word.len() == 0 {
-        return Budget::Wrong;
+    if word.is_empty() {
+        return None;
     }
     let mut v: u64 = 0;
-    let mut i = 0;
-    while i < word.len() {
-        let b = word[i];
-        if !is_digit(b) {
-            return Budget::Wrong;
+    for b in word {
+        if !b.is_ascii_digit() {
+            return None;
         }
-        v = v * 10 + (b - 48) as u64;
+        v = v * 10 + (b - b'0') as u64;
         // More digits only make it greater, and it must not outgrow 64 bits.
         if HIGHEST < v {
-            return Budget::Wrong;
+            return None;
         }
-        i += 1;
     }
-    Budget::Records(v as u32)
-}
-
-fn is_digit(b: u8) -> bool
-    ensures digit { result ≡ is_digit b }
-{
-    (48 <= b) & (b <= 57)
+    Some(v as u32)
 }

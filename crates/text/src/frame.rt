@@ -4,7 +4,7 @@ ghost use Rattle.choice.specs.Tests.{choose};
 ghost use Rattle.rules.specs.Reader.{shown, sight};
 ghost use Rattle.text.specs.Page.{page_of};
 ghost use Rattle.text.specs.Extended.{extended};
-ghost use Rattle.text.specs.Frame.{argument_ok, head_ok, frame_in, asked_in, call_answer, same, figures_part, change_part, report_part, report_answer, ledger_number, uncounted, told_of, told_bytes, record_answer, breach_text, broken_text};
+ghost use Rattle.text.specs.Frame.{argument_ok, head_ok, call_of, frame_in, asked_in, call_answer, same, figures_part, change_part, report_part, report_answer, ledger_number, uncounted, told_of, told_bytes, record_answer, breach_text, broken_text};
 
 use crate::page::Page;
 use crate::{number, page};
@@ -15,23 +15,25 @@ use rules::reader::Seen;
 use rules::record::Outcome;
 use rules::{book, record};
 
+// What a frame calls.
+#[derive(Clone, Copy)]
+pub enum Call {
+    Fresh,
+    Wake,
+    Report,
+    // A look at one record.
+    Record,
+}
+
 #[derive(Clone, Copy)]
 pub struct Frame {
-    // 1 fresh start, 2 wake, 3 report, 4 one record.
-    pub call: u8,
+    pub call: Call,
     // The budget of a wake, the index of a record, and else 0.
     pub argument: u32,
     // How many bytes of each follow the head: MOST_BEHIND at most, together.
     pub book: usize,
     pub checkpoint: usize,
     pub out: usize,
-}
-
-#[derive(Clone, Copy)]
-pub enum Asked {
-    Call(Frame),
-    // The bytes are no right head: nothing is answered from here on.
-    Stop,
 }
 
 // Why the answers end at a frame.
@@ -63,16 +65,17 @@ const BLANK: usize = 20;
 // The most bytes behind a head: book, checkpoint and buffer together.
 pub const MOST_BEHIND: u64 = 5242880;
 
-pub fn read(head: &[u8]) -> Asked
+// What the bytes ask for; none, if they are no right head: nothing is answered from here on.
+pub fn read(head: &[u8]) -> Option<Frame>
     ensures asked { result ≡ asked_in head.now }
 {
     if head.len() != SIZE {
-        return Asked::Stop;
+        return None;
     }
     if is_right(head) {
-        return Asked::Call(take_frame(head));
+        return Some(take_frame(head));
     }
-    Asked::Stop
+    None
 }
 
 fn is_right(head: &[u8]) -> bool
@@ -100,11 +103,12 @@ fn is_argument_right(call: u64, argument: u64) -> bool
     (call == 2) | (call == 4) | (argument == 0)
 }
 
+#[tactic(auto, unfolding(crate::specs::Frame::frame_in))]
 fn take_frame(head: &[u8]) -> Frame
     requires whole { length head.now ≡ 24 }
     ensures frame { result ≡ frame_in head.now }
 {
-    let call = read_word(head, CALL, 1) as u8;
+    let call = take_call(read_word(head, CALL, 1));
     let argument = read_word(head, ARGUMENT, 4) as u32;
     let book = read_word(head, BOOK, 4) as usize;
     let checkpoint = read_word(head, CHECKPOINT, 4) as usize;
@@ -115,6 +119,19 @@ fn take_frame(head: &[u8]) -> Frame
         book,
         checkpoint,
         out,
+    }
+}
+
+// The call of this number, 1 to 4.
+#[tactic(auto, unfolding(crate::specs::Frame::call_of, choice::specs::Tests::choose))]
+fn take_call(number: u64) -> Call
+    ensures call { result ≡ call_of number }
+{
+    match number {
+        1 => Call::Fresh,
+        2 => Call::Wake,
+        3 => Call::Report,
+        _ => Call::Record,
     }
 }
 
@@ -166,23 +183,7 @@ fn say_change(p: Page, before: [u64; 6], after: [u64; 6]) -> Page
 fn tell_change(before: [u64; 6], after: [u64; 6]) -> u64
     ensures change { result ≡ choose (same before after) 0 1 }
 {
-    if is_same(before, after) {
-        return 0;
-    }
-    1
-}
-
-fn is_same(xs: [u64; 6], ys: [u64; 6]) -> bool
-    ensures same { result ≡ same xs ys }
-{
-    let mut i = 0;
-    while i < 6 {
-        if xs[i] != ys[i] {
-            return false;
-        }
-        i += 1;
-    }
-    true
+    if before == after { 0 } else { 1 }
 }
 
 // What is told of a record, with 0 for what doesn't apply.

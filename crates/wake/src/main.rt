@@ -11,7 +11,6 @@ use files::{arguments, ended};
 use std::random::RandomSource;
 use std::rt::{Env, Files};
 use text::budget;
-use text::budget::Budget;
 
 fn main(rt: HostRuntime) {
     ended::tell(&rt, run(&rt));
@@ -49,10 +48,10 @@ fn read_budget<R: Env + Files + Print + Alloc + RandomSource + Complain>(
     let Ok(n) = rt.arg(3, &mut word) else {
         return misuse(rt);
     };
-    match budget::read(&word[..n]) {
-        Budget::Wrong => misuse(rt),
-        Budget::Records(b) => read_paths(rt, b, anew),
-    }
+    let Some(b) = budget::read(&word[..n]) else {
+        return misuse(rt);
+    };
+    read_paths(rt, b, anew)
 }
 
 fn read_paths<R: Env + Files + Print + Alloc + RandomSource + Complain>(
