@@ -3,23 +3,19 @@
 use Prim.Native.Nat.{ℕ, zero, suc, ◌<◌}
 use mathlib.Core.List.{List, [], ◌∷◌, append-nil}
 use mathlib.Core.Path.{◌≡◌, refl, sym, ap, ◌∙◌, subst}
+use Rattle.std.specs.Prelude.{Result, Ok, Err}
 use native.Mathlib.Nat.{le_of_lt}
 use native.Mathlib.Omega.{arith}
 use lib.ListN.{length, length-take, take-append-drop}
 use lib.Seq.{take_all}
-use Rattle.std.specs.Prelude.{Result, Ok, Err}
 use Rattle.io.proofs.Counting.{prefix_len_of_le}
 use Rattle.rules.specs.declared.book.Fault.TheVariants.{Length, Trailer, Units, Fuels}
 use Rattle.job.specs.declared.reply.Refusal.{Refusal}
 use Rattle.job.specs.declared.reply.Refusal.TheVariants.{Book, CheckpointLength, CheckpointUnsound, BufferLength}
-use Rattle.job.specs.declared.reply.Started.{Started}
-use Rattle.job.specs.declared.reply.Started.TheVariants.{NotStarted, Fresh}
-use Rattle.job.specs.declared.reply.Woken.{Woken}
-use Rattle.job.specs.declared.reply.Woken.TheVariants.{NotWoken, Moved}
 use Rattle.job.specs.Checkpoint.{checkpoint_size}
 use Rattle.job.specs.Reply.{Reply, reply, refusal_number, started, woken}
 use Rattle.job.specs.Wake.{fresh_reply, fresh_bytes}
-use Rattle.job.proofs.ReplyLaws.{started_inj, started_not_started, started-fresh, woken_not_woken, woken-moved}
+use Rattle.job.proofs.ReplyLaws.{started_inj, started-refused, started-fresh, woken-refused, woken-moved}
 use Rattle.job.proofs.WakeLaws.{fresh_bytes-kept}
 use Rattle.files.specs.declared.kept.Due.{Due}
 use Rattle.files.specs.declared.kept.Stopped.{Stopped}
@@ -31,8 +27,8 @@ use Rattle.files.proofs.PutLaws.{drop_past}
 -- ---- what is said of a place is said of no other
 number_inj : (x y : Refusal) → refusal_number x ≡ refusal_number y → x ≡ y
 number_inj x y e =
-    let told = started_not_started x ∙ ap (λ (n : ℕ). reply n []) e ∙ sym (started_not_started y) in
-    let same = started_inj (NotStarted x) (NotStarted y) told in
+    let told = started-refused x ∙ ap (λ (n : ℕ). reply n []) e ∙ sym (started-refused y) in
+    let same = started_inj (Err x) (Err y) told in
     cc
 
 pub placed_inj : (r s : Result ℕ Stopped) → placed r ≡ placed s → r ≡ s
@@ -60,14 +56,14 @@ counting-refused n CheckpointLength = refl
 counting-refused n CheckpointUnsound = refl
 counting-refused n BufferLength = refl
 
-module _ {s : Started} {w : Reply} (n : ℕ) (p : started s ≡ w) where
-  pub placed-refused : {x : Refusal} → s ≡ NotStarted x → placed (Err (Refused x)) ≡ replied (counting n w)
+module _ {s : Result (Unit {0}) Refusal} {w : Reply} (n : ℕ) (p : started s ≡ w) where
+  pub placed-refused : {x : Refusal} → s ≡ Err x → placed (Err (Refused x)) ≡ replied (counting n w)
   unfolding placed
   placed-refused {x} e =
-      let told : w ≡ reply (refusal_number x) [] = sym p ∙ ap started e ∙ started_not_started x in
+      let told : w ≡ reply (refusal_number x) [] = sym p ∙ ap started e ∙ started-refused x in
       sym (ap (λ (v : Reply). replied (counting n v)) told ∙ ap replied (counting-refused n x))
 
-  pub placed_at : s ≡ Fresh → placed (Ok n) ≡ replied (counting n w)
+  pub placed_at : s ≡ Ok tt → placed (Ok n) ≡ replied (counting n w)
   unfolding placed counting
   placed_at e =
       let told : w ≡ reply 0 [] = sym p ∙ ap started e ∙ started-fresh in
@@ -120,9 +116,9 @@ pub found_by_due : (r : Result ℕ Stopped) (k room now : List ℕ) {d e : Due} 
 found_by_due r k room now q = subst (λ (x : Due). FoundBy x r k room now) (sym q)
 
 -- ---- a wake's answer
-module _ {s : Woken} {w : Reply} (p : woken s ≡ w) where
-  pub reply-refused : {x : Refusal} → s ≡ NotWoken x → w ≡ reply (refusal_number x) []
-  reply-refused {x} e = sym p ∙ ap woken e ∙ woken_not_woken x
+module _ {s : Result ℕ Refusal} {w : Reply} (p : woken s ≡ w) where
+  pub reply-refused : {x : Refusal} → s ≡ Err x → w ≡ reply (refusal_number x) []
+  reply-refused {x} e = sym p ∙ ap woken e ∙ woken-refused x
 
-  pub reply-moved : {m : ℕ} → s ≡ Moved m → w ≡ reply 0 (m ∷ [])
+  pub reply-moved : {m : ℕ} → s ≡ Ok m → w ≡ reply 0 (m ∷ [])
   reply-moved {m} e = sym p ∙ ap woken e ∙ woken-moved m

@@ -10,7 +10,7 @@ use crate::complain::{Complain, tell};
 use crate::copy::Compared;
 use crate::{copy, path, real, save};
 use job::checkpoint;
-use job::reply::{Refusal, Started, Woken};
+use job::reply::Refusal;
 use rules::book;
 use std::io;
 use std::random::RandomSource;
@@ -165,8 +165,8 @@ fn begin(book: &[u8], out: &mut [u8]) -> Result<usize, Stopped>
     ensures bytes { out.new ≡ fresh_bytes book.now out.old }
 {
     match job::wake::fresh(book, out) {
-        Started::NotStarted(x) => Err(Stopped::Refused(x)),
-        Started::Fresh => Ok(out.len()),
+        Err(x) => Err(Stopped::Refused(x)),
+        Ok(()) => Ok(out.len()),
     }
 }
 
@@ -195,8 +195,8 @@ pub fn wake<R: Files + RandomSource + Complain>(
     ensures bytes { saved.new ≡ wake_bytes book.now from.now budget saved.old }
 {
     match job::wake::wake(book, from, budget, saved) {
-        Woken::NotWoken(x) => Err(Stopped::Refused(x)),
-        Woken::Moved(moved) => {
+        Err(x) => Err(Stopped::Refused(x)),
+        Ok(moved) => {
             settle(rt, due, whose, path, book)?;
             save::save(rt, whose, path, saved, b"")?;
             Ok(moved)

@@ -3,6 +3,7 @@
 use Prim.Native.Nat.{ℕ, ◌<◌}
 use mathlib.Core.Bool.{Bool, true, false}
 use mathlib.Core.List.{List, [], ◌∷◌}
+use Rattle.std.specs.Prelude.{Result, Ok, Err}
 use mathlib.Core.Path.{◌≡◌, refl, sym, ap, ◌∙◌}
 use native.Mathlib.Omega.{arith}
 use lib.Dec.{eqb}
@@ -12,56 +13,60 @@ use Rattle.mass.specs.declared.figures.Figures.{Figures}
 use Rattle.rules.specs.declared.book.Fault.TheVariants.{Length, Trailer, Units, Fuels}
 use Rattle.job.specs.declared.reply.Refusal.{Refusal}
 use Rattle.job.specs.declared.reply.Refusal.TheVariants.{Book, CheckpointLength, CheckpointUnsound, BufferLength}
-use Rattle.job.specs.declared.reply.Started.{Started}
-use Rattle.job.specs.declared.reply.Started.TheVariants.{NotStarted, Fresh}
-use Rattle.job.specs.declared.reply.Woken.{Woken}
-use Rattle.job.specs.declared.reply.Woken.TheVariants.{NotWoken, Moved}
-use Rattle.job.specs.declared.reply.Reported.{Reported}
-use Rattle.job.specs.declared.reply.Reported.TheVariants.{NotReported, Unfinished, RecordAside, Given}
-use Rattle.job.specs.declared.reply.Remaining.{Remaining}
-use Rattle.job.specs.declared.reply.Remaining.TheVariants.{Unknown, Left}
+use Rattle.job.specs.declared.reply.Report.{Report}
+use Rattle.job.specs.declared.reply.Report.TheVariants.{Unfinished, RecordAside, Given}
 use Rattle.job.specs.Reply.{Reply, reply, refusal_number, figure_values, started, woken, reported, remaining}
 
 -- ---- the reply of each answer
-pub started_not_started : (x : Refusal) → started (NotStarted x) ≡ reply (refusal_number x) []
+pub started-refused : (x : Refusal) → started (Err x) ≡ reply (refusal_number x) []
 unfolding started
-started_not_started x = refl
+started-refused x = refl
 
-pub started-fresh : started Fresh ≡ reply 0 []
+pub started-fresh : started (Ok tt) ≡ reply 0 []
 unfolding started
 started-fresh = refl
 
-pub woken_not_woken : (x : Refusal) → woken (NotWoken x) ≡ reply (refusal_number x) []
+pub woken-refused : (x : Refusal) → woken (Err x) ≡ reply (refusal_number x) []
 unfolding woken
-woken_not_woken x = refl
+woken-refused x = refl
 
-pub woken-moved : (m : ℕ) → woken (Moved m) ≡ reply 0 (m ∷ [])
+pub woken-moved : (m : ℕ) → woken (Ok m) ≡ reply 0 (m ∷ [])
 unfolding woken
 woken-moved m = refl
 
-pub reported_not_reported : (x : Refusal) → reported (NotReported x) ≡ reply (refusal_number x) []
+pub reported-refused : (x : Refusal) → reported (Err x) ≡ reply (refusal_number x) []
 unfolding reported
-reported_not_reported x = refl
+reported-refused x = refl
 
-pub reported_unfinished : (d : ℕ) → reported (Unfinished d) ≡ reply 40 (d ∷ [])
+pub reported_unfinished : (d : ℕ) → reported (Ok (Unfinished d)) ≡ reply 40 (d ∷ [])
 unfolding reported
 reported_unfinished d = refl
 
-pub reported_record_aside : (i k : ℕ) → reported (RecordAside i k) ≡ reply 41 (i ∷ k ∷ [])
+pub reported_record_aside : (i k : ℕ) → reported (Ok (RecordAside i k)) ≡ reply 41 (i ∷ k ∷ [])
 unfolding reported
 reported_record_aside i k = refl
 
-pub reported-given : (f : Figures) → reported (Given f) ≡ reply 0 (figure_values f)
+pub reported-given : (f : Figures) → reported (Ok (Given f)) ≡ reply 0 (figure_values f)
 unfolding reported
 reported-given f = refl
 
-pub remaining_unknown : (x : Refusal) → remaining (Unknown x) ≡ reply (refusal_number x) []
+pub remaining-refused : (x : Refusal) → remaining (Err x) ≡ reply (refusal_number x) []
 unfolding remaining
-remaining_unknown x = refl
+remaining-refused x = refl
 
-pub remaining_left : (m : ℕ) → remaining (Left m) ≡ reply 0 (m ∷ [])
+pub remaining_left : (m : ℕ) → remaining (Ok m) ≡ reply 0 (m ∷ [])
 unfolding remaining
 remaining_left m = refl
+
+-- An answer that is `Ok`, by what is known of the report in it.
+pub report_known : {r : Result Report Refusal} {p q : Report} → r ≡ Ok p → p ≡ q → r ≡ Ok q
+report_known e f = e ∙ ap Ok f
+
+-- A wake and a count of the records left reply a count alike.
+pub woken_remaining : (r : Result ℕ Refusal) → woken r ≡ remaining r
+unfolding woken remaining
+woken_remaining (Err x) = refl
+woken_remaining (Ok m) = refl
 
 pub figure_values_six : (f : Figures) {m : ℕ} → choose f.reportable 1 0 ≡ m
     → figure_values f
@@ -111,83 +116,83 @@ refusal_number_told CheckpointUnsound = refl
 refusal_number_told BufferLength = refl
 
 -- ---- a fresh start
-begun : Reply → Started
-begun (reply n vs) = pick (eqb n 0) Fresh (NotStarted (refusal n))
+begun : Reply → Result (Unit {0}) Refusal
+begun (reply n vs) = pick (eqb n 0) (Ok tt) (Err (refusal n))
 
-begun-started : (r : Started) → begun (started r) ≡ r
+begun-started : (r : Result (Unit {0}) Refusal) → begun (started r) ≡ r
 unfolding begun pick refusal started
-begun-started (NotStarted (Book Length)) = refl
-begun-started (NotStarted (Book Trailer)) = refl
-begun-started (NotStarted (Book Units)) = refl
-begun-started (NotStarted (Book Fuels)) = refl
-begun-started (NotStarted CheckpointLength) = refl
-begun-started (NotStarted CheckpointUnsound) = refl
-begun-started (NotStarted BufferLength) = refl
-begun-started Fresh = refl
+begun-started (Err (Book Length)) = refl
+begun-started (Err (Book Trailer)) = refl
+begun-started (Err (Book Units)) = refl
+begun-started (Err (Book Fuels)) = refl
+begun-started (Err CheckpointLength) = refl
+begun-started (Err CheckpointUnsound) = refl
+begun-started (Err BufferLength) = refl
+begun-started (Ok tt) = refl
 
-pub started_inj : (r s : Started) → started r ≡ started s → r ≡ s
+pub started_inj : (r s : Result (Unit {0}) Refusal) → started r ≡ started s → r ≡ s
 started_inj r s e = sym (begun-started r) ∙ ap begun e ∙ begun-started s
 
 -- ---- a wake
-moved : Reply → Woken
-moved (reply n []) = NotWoken (refusal n)
-moved (reply n (m ∷ vs)) = Moved m
+moved : Reply → Result ℕ Refusal
+moved (reply n []) = Err (refusal n)
+moved (reply n (m ∷ vs)) = Ok m
 
-moved-woken : (r : Woken) → moved (woken r) ≡ r
+moved-woken : (r : Result ℕ Refusal) → moved (woken r) ≡ r
 unfolding moved woken
-moved-woken (NotWoken x) = ap NotWoken (refusal_number_told x)
-moved-woken (Moved m) = refl
+moved-woken (Err x) = ap Err (refusal_number_told x)
+moved-woken (Ok m) = refl
 
-pub woken_inj : (r s : Woken) → woken r ≡ woken s → r ≡ s
+pub woken_inj : (r s : Result ℕ Refusal) → woken r ≡ woken s → r ≡ s
 woken_inj r s e = sym (moved-woken r) ∙ ap moved e ∙ moved-woken s
 
 -- ---- a report
-said : Reply → Reported
-said (reply n []) = NotReported (refusal n)
-said (reply n (a ∷ [])) = Unfinished a
-said (reply n (a ∷ b ∷ [])) = RecordAside a b
-said (reply n (a ∷ b ∷ c ∷ [])) = NotReported (refusal n)
-said (reply n (a ∷ b ∷ c ∷ d ∷ [])) = NotReported (refusal n)
-said (reply n (a ∷ b ∷ c ∷ d ∷ e ∷ [])) = NotReported (refusal n)
-said (reply n (a ∷ b ∷ c ∷ d ∷ e ∷ m ∷ vs)) = Given (record {
+said : Reply → Result Report Refusal
+said (reply n []) = Err (refusal n)
+said (reply n (a ∷ [])) = Ok (Unfinished a)
+said (reply n (a ∷ b ∷ [])) = Ok (RecordAside a b)
+said (reply n (a ∷ b ∷ c ∷ [])) = Err (refusal n)
+said (reply n (a ∷ b ∷ c ∷ d ∷ [])) = Err (refusal n)
+said (reply n (a ∷ b ∷ c ∷ d ∷ e ∷ [])) = Err (refusal n)
+said (reply n (a ∷ b ∷ c ∷ d ∷ e ∷ m ∷ vs)) = Ok (Given (record {
   fossil = record { 0 = a };
   biomass = record { 0 = b };
   ch4 = record { 0 = c };
   n2o = record { 0 = d };
   co2e = record { 0 = e };
   reportable = eqb m 1;
-})
+}))
 
 one_or-none : (t : Bool) → eqb (choose t 1 0) 1 ≡ t
 one_or-none true = ap (λ (m : ℕ). eqb m 1) (choose_t 0 refl refl)
 one_or-none false = ap (λ (m : ℕ). eqb m 1) (choose_f 1 refl refl)
 
-said_reported : (r : Reported) → said (reported r) ≡ r
+said_reported : (r : Result Report Refusal) → said (reported r) ≡ r
 unfolding said reported figure_values
-said_reported (NotReported x) = ap NotReported (refusal_number_told x)
-said_reported (Unfinished d) = refl
-said_reported (RecordAside i k) = refl
-said_reported (Given f) = λ i. Given (record {
+said_reported (Err x) = ap Err (refusal_number_told x)
+said_reported (Ok (Unfinished d)) = refl
+said_reported (Ok (RecordAside i k)) = refl
+said_reported (Ok (Given f)) = λ i. Ok (Given (record {
   fossil = f.fossil;
   biomass = f.biomass;
   ch4 = f.ch4;
   n2o = f.n2o;
   co2e = f.co2e;
   reportable = one_or-none f.reportable i;
-})
+}))
 
-pub reported_inj : (r s : Reported) → reported r ≡ reported s → r ≡ s
+pub reported_inj : (r s : Result Report Refusal) → reported r ≡ reported s → r ≡ s
 reported_inj r s e = sym (said_reported r) ∙ ap said e ∙ said_reported s
 
 -- ---- a count of the records left
-left : Reply → Remaining
-left (reply n []) = Unknown (refusal n)
-left (reply n (m ∷ vs)) = Left m
+left : Reply → Result ℕ Refusal
+left (reply n []) = Err (refusal n)
+left (reply n (m ∷ vs)) = Ok m
 
-left_remaining : (r : Remaining) → left (remaining r) ≡ r
+left_remaining : (r : Result ℕ Refusal) → left (remaining r) ≡ r
 unfolding left remaining
-left_remaining (Unknown x) = ap Unknown (refusal_number_told x)
-left_remaining (Left m) = refl
+left_remaining (Err x) = ap Err (refusal_number_told x)
+left_remaining (Ok m) = refl
 
-pub remaining_inj : (r s : Remaining) → remaining r ≡ remaining s → r ≡ s
+pub remaining_inj : (r s : Result ℕ Refusal) → remaining r ≡ remaining s → r ≡ s
 remaining_inj r s e = sym (left_remaining r) ∙ ap left e ∙ left_remaining s

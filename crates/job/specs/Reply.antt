@@ -9,20 +9,14 @@
 --     remaining r            the reply that a count's answer stands for: records left
 --
 -- Each is one-to-one: proofs/ReplyLaws.antt. Definitions only.
-use Rattle.std.specs.Prelude.{ℕ, List, [], ◌∷◌}
+use Rattle.std.specs.Prelude.{ℕ, List, [], ◌∷◌, Result, Ok, Err}
 use Rattle.choice.specs.Tests.{choose}
 use Rattle.mass.specs.declared.figures.Figures.{Figures}
 use Rattle.rules.specs.Book.{fault_number}
 use Rattle.job.specs.declared.reply.Refusal.{Refusal}
 use Rattle.job.specs.declared.reply.Refusal.TheVariants.{Book, CheckpointLength, CheckpointUnsound, BufferLength}
-use Rattle.job.specs.declared.reply.Started.{Started}
-use Rattle.job.specs.declared.reply.Started.TheVariants.{NotStarted, Fresh}
-use Rattle.job.specs.declared.reply.Woken.{Woken}
-use Rattle.job.specs.declared.reply.Woken.TheVariants.{NotWoken, Moved}
-use Rattle.job.specs.declared.reply.Reported.{Reported}
-use Rattle.job.specs.declared.reply.Reported.TheVariants.{NotReported, Unfinished, RecordAside, Given}
-use Rattle.job.specs.declared.reply.Remaining.{Remaining}
-use Rattle.job.specs.declared.reply.Remaining.TheVariants.{Unknown, Left}
+use Rattle.job.specs.declared.reply.Report.{Report}
+use Rattle.job.specs.declared.reply.Report.TheVariants.{Unfinished, RecordAside, Given}
 
 pub data Reply : Type 0 where
   reply : ℕ → List ℕ → Reply
@@ -37,20 +31,20 @@ unfoldable pub figure_values : Figures → List ℕ
 figure_values f =
     f.fossil.0 ∷ f.biomass.0 ∷ f.ch4.0 ∷ f.n2o.0 ∷ f.co2e.0 ∷ choose f.reportable 1 0 ∷ []
 
-unfoldable pub started : Started → Reply
-started (NotStarted x) = reply (refusal_number x) []
-started Fresh = reply 0 []
+unfoldable pub started : Result (Unit {0}) Refusal → Reply
+started (Err x) = reply (refusal_number x) []
+started (Ok _) = reply 0 []
 
-unfoldable pub woken : Woken → Reply
-woken (NotWoken x) = reply (refusal_number x) []
-woken (Moved m) = reply 0 (m ∷ [])
+unfoldable pub woken : Result ℕ Refusal → Reply
+woken (Err x) = reply (refusal_number x) []
+woken (Ok m) = reply 0 (m ∷ [])
 
-unfoldable pub reported : Reported → Reply
-reported (NotReported x) = reply (refusal_number x) []
-reported (Unfinished d) = reply 40 (d ∷ [])
-reported (RecordAside i k) = reply 41 (i ∷ k ∷ [])
-reported (Given f) = reply 0 (figure_values f)
+unfoldable pub reported : Result Report Refusal → Reply
+reported (Err x) = reply (refusal_number x) []
+reported (Ok (Unfinished d)) = reply 40 (d ∷ [])
+reported (Ok (RecordAside i k)) = reply 41 (i ∷ k ∷ [])
+reported (Ok (Given f)) = reply 0 (figure_values f)
 
-unfoldable pub remaining : Remaining → Reply
-remaining (Unknown x) = reply (refusal_number x) []
-remaining (Left m) = reply 0 (m ∷ [])
+unfoldable pub remaining : Result ℕ Refusal → Reply
+remaining (Err x) = reply (refusal_number x) []
+remaining (Ok m) = reply 0 (m ∷ [])

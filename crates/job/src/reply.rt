@@ -1,6 +1,7 @@
 // What the calls answer. specs/Reply.antt gives the number and the values of each case.
 ghost use Rattle.std.specs.Prelude.{◌≡◌};
 ghost use Rattle.job.specs.Reply.{refusal_number};
+ghost use Rattle.job.specs.declared.reply.Refusal.TheVariants.{Book};
 
 use mass::figures::Figures;
 use rules::book;
@@ -19,6 +20,14 @@ pub enum Refusal {
     BufferLength,
 }
 
+impl From<Fault> for Refusal {
+    ghost from_gives = { λ x r. r ≡ Book x };
+
+    fn from(x: Fault) -> Refusal {
+        Refusal::Book(x)
+    }
+}
+
 // The number of a refusal.
 pub fn number_refusal(x: Refusal) -> u8
     ensures number { result ≡ refusal_number x }
@@ -31,34 +40,13 @@ pub fn number_refusal(x: Refusal) -> u8
     }
 }
 
+// What a report says of a checkpoint that is let in.
 #[derive(Clone, Copy)]
-pub enum Started {
-    NotStarted(Refusal),
-    // The buffer holds a fresh checkpoint.
-    Fresh,
-}
-
-#[derive(Clone, Copy)]
-pub enum Woken {
-    NotWoken(Refusal),
-    // The buffer holds the new checkpoint, and so many records were gone through.
-    Moved(u32),
-}
-
-#[derive(Clone, Copy)]
-pub enum Reported {
-    NotReported(Refusal),
+pub enum Report {
     // 40: so many records are done, and some are left.
     Unfinished(u32),
     // 41: the index of the first record set aside, and its reason.
     RecordAside(u32, u8),
     // Every record was counted.
     Given(Figures),
-}
-
-#[derive(Clone, Copy)]
-pub enum Remaining {
-    Unknown(Refusal),
-    // So many records are left.
-    Left(u32),
 }

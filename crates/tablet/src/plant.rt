@@ -5,7 +5,7 @@ use files::kept::{Due, Stopped};
 use files::save::LONGEST_PATH;
 use files::{CHECKPOINT_ROOM, PATH_ROOM, kept};
 use job::checkpoint;
-use job::reply::{Refusal, Remaining};
+use job::reply::Refusal;
 use roster::plants;
 use std::random::RandomSource;
 use std::rt::Files;
@@ -78,15 +78,15 @@ fn count<R: Files + Print + RandomSource + Complain>(
     log: &mut Log,
 ) -> Result<u32, Stopped> {
     match job::report::count_left(book, from) {
-        Remaining::Unknown(x) => Err(Stopped::Refused(x)),
-        Remaining::Left(0) => {
+        Err(x) => Err(Stopped::Refused(x)),
+        Ok(0) => {
             if due != Due::Nothing {
                 return wake(rt, line, whose, book, from, 0, due, log);
             }
             log.tell(rt, whose, progress::tell_turn(book, from, 0));
             Ok(0)
         }
-        Remaining::Left(left) => Ok(left),
+        Ok(left) => Ok(left),
     }
 }
 
@@ -110,10 +110,7 @@ fn wake<R: Files + Print + RandomSource + Complain>(
 
 // The records left by what a wake has saved, which no refusal can meet.
 fn count_saved(book: &[u8], saved: &[u8]) -> u32 {
-    match job::report::count_left(book, saved) {
-        Remaining::Unknown(_) => 0,
-        Remaining::Left(left) => left,
-    }
+    job::report::count_left(book, saved).unwrap_or(0)
 }
 
 // Names a plant that is refused, which has no records to serve.

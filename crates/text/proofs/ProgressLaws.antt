@@ -2,6 +2,7 @@
 use Prim.Native.Nat.{ℕ, ◌<◌, ◌≤◌}
 use mathlib.Core.List.{List, [], ◌++◌}
 use mathlib.Core.Path.{◌≡◌, refl, sym, ap, ◌∙◌}
+use Rattle.std.specs.Prelude.{Result, Ok, Err}
 use native.Mathlib.Omega.{arith}
 use lib.Dec.{eqb}
 use lib.ListN.{length}
@@ -13,10 +14,10 @@ use Rattle.rules.specs.declared.book.Fault.{Fault}
 use Rattle.rules.specs.declared.book.Head.{Head}
 use Rattle.job.specs.declared.reply.Refusal.{Refusal}
 use Rattle.job.specs.declared.reply.Refusal.TheVariants.{Book, CheckpointLength, CheckpointUnsound, BufferLength}
-use Rattle.job.specs.declared.reply.Reported.{Reported}
-use Rattle.job.specs.declared.reply.Reported.TheVariants.{NotReported, Unfinished, RecordAside, Given}
+use Rattle.job.specs.declared.reply.Report.{Report}
+use Rattle.job.specs.declared.reply.Report.TheVariants.{Unfinished, RecordAside, Given}
 use Rattle.job.specs.Reply.{Reply, reply, refusal_number, reported}
-use Rattle.job.proofs.ReplyLaws.{reported_not_reported, reported_unfinished, reported_record_aside, reported-given}
+use Rattle.job.proofs.ReplyLaws.{reported-refused, reported_unfinished, reported_record_aside, reported-given}
 use Rattle.text.specs.Words.{ascii}
 use Rattle.text.specs.Report.{value, refused_text, reply_text}
 use Rattle.text.specs.Progress.{moved_text, progress_by, hint_text}
@@ -31,35 +32,35 @@ module _ (gap : List ℕ) (h : Head) (m : ℕ) where
       choose_f _ (ne_eqb n 40 (λ e. omega arith))
       (choose_f _ (either_f (ne_eqb n 0 z) (ne_eqb n 41 (λ e. omega arith))) refl)
 
-  module _ {r : Reported} where
-    by : {x : Reply} {t : List ℕ} (s : Reported) → r ≡ s → reported s ≡ x → progress_by gap h m x ≡ t
+  module _ {r : Result Report Refusal} where
+    by : {x : Reply} {t : List ℕ} (s : Result Report Refusal) → r ≡ s → reported s ≡ x → progress_by gap h m x ≡ t
         → progress_by gap h m (reported r) ≡ t
-    by s e d q = ap (λ (y : Reported). progress_by gap h m (reported y)) e ∙ ap (progress_by gap h m) d ∙ q
+    by s e d q = ap (λ (y : Result Report Refusal). progress_by gap h m (reported y)) e ∙ ap (progress_by gap h m) d ∙ q
 
-    pub progress_by_not_reported : (x : Refusal) → r ≡ NotReported x
+    pub progress_by-refused : (x : Refusal) → r ≡ Err x
         → progress_by gap h m (reported r) ≡ refused_text (refusal_number x) []
-    progress_by_not_reported x e =
-        by (NotReported x) e (reported_not_reported x) (refuses _ [] (refusal_number-ne x) (refusal_number-lt x))
+    progress_by-refused x e =
+        by (Err x) e (reported-refused x) (refuses _ [] (refusal_number-ne x) (refusal_number-lt x))
 
-    pub progress_by_unfinished : (d : ℕ) → r ≡ Unfinished d → progress_by gap h m (reported r) ≡ moved_text gap h m d
+    pub progress_by_unfinished : (d : ℕ) → r ≡ Ok (Unfinished d) → progress_by gap h m (reported r) ≡ moved_text gap h m d
     unfolding progress_by
-    progress_by_unfinished d e = by (Unfinished d) e (reported_unfinished d) (choose_t {a = eqb 40 40} _ refl refl)
+    progress_by_unfinished d e = by (Ok (Unfinished d)) e (reported_unfinished d) (choose_t {a = eqb 40 40} _ refl refl)
 
-    pub progress_by_record_aside : (i k : ℕ) → r ≡ RecordAside i k
-        → progress_by gap h m (reported r) ≡ moved_text gap h m h.n ++ reply_text h (reported (RecordAside i k))
+    pub progress_by_record_aside : (i k : ℕ) → r ≡ Ok (RecordAside i k)
+        → progress_by gap h m (reported r) ≡ moved_text gap h m h.n ++ reply_text h (reported r)
     unfolding progress_by
     progress_by_record_aside i k e =
-        by (RecordAside i k) e (reported_record_aside i k)
+        by (Ok (RecordAside i k)) e (reported_record_aside i k)
         (choose_f {a = eqb 41 40} _ refl (choose_t _ (either_f {a = eqb 41 0} {b = eqb 41 41} refl refl) refl))
-        ∙ ap (λ (x : Reply). moved_text gap h m h.n ++ reply_text h x) (sym (reported_record_aside i k))
+        ∙ ap (λ (x : Reply). moved_text gap h m h.n ++ reply_text h x) (sym (ap reported e ∙ reported_record_aside i k))
 
-    pub progress_by-given : (f : Figures) → r ≡ Given f
-        → progress_by gap h m (reported r) ≡ moved_text gap h m h.n ++ reply_text h (reported (Given f))
+    pub progress_by-given : (f : Figures) → r ≡ Ok (Given f)
+        → progress_by gap h m (reported r) ≡ moved_text gap h m h.n ++ reply_text h (reported r)
     unfolding progress_by
     progress_by-given f e =
-        by (Given f) e (reported-given f)
+        by (Ok (Given f)) e (reported-given f)
         (choose_f {a = eqb 0 40} _ refl (choose_t _ (either_t {a = eqb 0 0} (eqb 0 41) refl) refl))
-        ∙ ap (λ (x : Reply). moved_text gap h m h.n ++ reply_text h x) (sym (reported-given f))
+        ∙ ap (λ (x : Reply). moved_text gap h m h.n ++ reply_text h x) (sym (ap reported e ∙ reported-given f))
 
   -- ---- how long it is at most
   module _ (short : length gap ≤ 6) where

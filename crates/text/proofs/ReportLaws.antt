@@ -3,6 +3,7 @@ use Prim.Native.Nat.{ℕ, ◌<◌, ◌≤◌}
 use mathlib.Core.Bool.{Bool, true, false}
 use mathlib.Core.List.{List, [], ◌∷◌, ◌++◌, append_assoc, append-nil}
 use mathlib.Core.Path.{◌≡◌, refl, sym, ap, ◌∙◌}
+use Rattle.std.specs.Prelude.{Result, Ok, Err}
 use native.Mathlib.Omega.{arith}
 use lib.Dec.{eqb, ltb}
 use lib.ListN.{length, take}
@@ -18,13 +19,13 @@ use Rattle.rules.specs.declared.book.Head.{Head}
 use Rattle.rules.specs.Book.{accepted, opened, fault_number}
 use Rattle.job.specs.declared.reply.Refusal.{Refusal}
 use Rattle.job.specs.declared.reply.Refusal.TheVariants.{Book, CheckpointLength, CheckpointUnsound, BufferLength}
-use Rattle.job.specs.declared.reply.Reported.{Reported}
-use Rattle.job.specs.declared.reply.Reported.TheVariants.{NotReported, Unfinished, RecordAside, Given}
+use Rattle.job.specs.declared.reply.Report.{Report}
+use Rattle.job.specs.declared.reply.Report.TheVariants.{Unfinished, RecordAside, Given}
 use Rattle.job.specs.Reply.{Reply, reply, refusal_number, figure_values, reported}
 use Rattle.job.specs.Checkpoint.{checkpoint_size}
 use Rattle.job.specs.Wake.{fresh_bytes, wake_bytes}
 use Rattle.job.specs.Report.{report_reply}
-use Rattle.job.proofs.ReplyLaws.{reported_not_reported, reported_unfinished, reported_record_aside, reported-given, figure_values_six}
+use Rattle.job.proofs.ReplyLaws.{reported-refused, reported_unfinished, reported_record_aside, reported-given, figure_values_six}
 use Rattle.job.proofs.WakeLaws.{if_open-accepted, records_le}
 use Rattle.job.proofs.HistoryLaws.{report_reply-whole}
 use Rattle.text.specs.Words.{ascii, newline, field, line}
@@ -78,30 +79,30 @@ reply_text-refused : (h : Head) (n : ℕ) (vs : List ℕ) → (n ≡ 0 → ⊥) 
 unfolding reply_text
 reply_text-refused h n vs e = choose_f _ (ne_eqb n 0 e) refl
 
-module _ (h : Head) {r : Reported} where
-  by : {x : Reply} {t : List ℕ} (s : Reported) → r ≡ s → reported s ≡ x → reply_text h x ≡ t
+module _ (h : Head) {r : Result Report Refusal} where
+  by : {x : Reply} {t : List ℕ} (s : Result Report Refusal) → r ≡ s → reported s ≡ x → reply_text h x ≡ t
       → reply_text h (reported r) ≡ t
-  by s e d q = ap (λ (y : Reported). reply_text h (reported y)) e ∙ ap (reply_text h) d ∙ q
+  by s e d q = ap (λ (y : Result Report Refusal). reply_text h (reported y)) e ∙ ap (reply_text h) d ∙ q
 
-  pub reply_text_not_reported : (x : Refusal) → r ≡ NotReported x
+  pub reply_text-reported_refused : (x : Refusal) → r ≡ Err x
       → reply_text h (reported r) ≡ refused_text (refusal_number x) []
-  reply_text_not_reported x e =
-      by (NotReported x) e (reported_not_reported x) (reply_text-refused h _ _ (refusal_number-ne x))
+  reply_text-reported_refused x e =
+      by (Err x) e (reported-refused x) (reply_text-refused h _ _ (refusal_number-ne x))
 
-  pub reply_text_unfinished : (d : ℕ) → r ≡ Unfinished d → reply_text h (reported r) ≡ refused_text 40 []
+  pub reply_text_unfinished : (d : ℕ) → r ≡ Ok (Unfinished d) → reply_text h (reported r) ≡ refused_text 40 []
   reply_text_unfinished d e =
-      by (Unfinished d) e (reported_unfinished d) (reply_text-refused h 40 (d ∷ []) (λ z. omega arith)
+      by (Ok (Unfinished d)) e (reported_unfinished d) (reply_text-refused h 40 (d ∷ []) (λ z. omega arith)
       ∙ refused_text_alone 40 (d ∷ []) (omega arith)
       ∙ sym (refused_text_alone 40 [] (omega arith)))
 
-  pub reply_text_record_aside : (i k : ℕ) → r ≡ RecordAside i k
+  pub reply_text_record_aside : (i k : ℕ) → r ≡ Ok (RecordAside i k)
       → reply_text h (reported r) ≡ refused_text 41 (i ∷ k ∷ [])
   reply_text_record_aside i k e =
-      by (RecordAside i k) e (reported_record_aside i k) (reply_text-refused h 41 (i ∷ k ∷ []) (λ z. omega arith))
+      by (Ok (RecordAside i k)) e (reported_record_aside i k) (reply_text-refused h 41 (i ∷ k ∷ []) (λ z. omega arith))
 
-  pub reply_text-given : (f : Figures) → r ≡ Given f → reply_text h (reported r) ≡ figures_text h (figure_values f)
+  pub reply_text-given : (f : Figures) → r ≡ Ok (Given f) → reply_text h (reported r) ≡ figures_text h (figure_values f)
   unfolding reply_text
-  reply_text-given f e = by (Given f) e (reported-given f) (choose_t {a = eqb 0 0} _ refl refl)
+  reply_text-given f e = by (Ok (Given f)) e (reported-given f) (choose_t {a = eqb 0 0} _ refl refl)
 
 -- A fresh start and one wake with the highest budget leave what all the records give.
 pub year_text-whole : (k : List ℕ) {h : Head} → opened k ≡ accepted h → (out next : List ℕ) {begun ended : List ℕ}

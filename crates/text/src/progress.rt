@@ -1,14 +1,15 @@
 // What a wake prints once it has saved, and what an operator is told beside a refusal.
-ghost use Rattle.std.specs.Prelude.{◌≡◌, ◌≤◌, length};
+ghost use Rattle.std.specs.Prelude.{◌≡◌, ◌≤◌, ◌++◌, length};
 ghost use Rattle.rules.specs.Book.{opened, accepted};
 ghost use Rattle.job.specs.Reply.{refusal_number, reported};
 ghost use Rattle.text.specs.Page.{page_of};
 ghost use Rattle.text.specs.Extended.{extended};
+ghost use Rattle.text.specs.Report.{reply_text};
 ghost use Rattle.text.specs.Progress.{moved_text, progress_by, progress_with, progress_text, turn_text, hint_text};
 
 use crate::page::Page;
 use crate::{number, page, report};
-use job::reply::{Refusal, Reported};
+use job::reply::{Refusal, Report};
 use rules::book;
 use rules::book::Head;
 
@@ -45,21 +46,23 @@ fn tell_open(gap: &[u8], book: &[u8], h: Head, saved: &[u8], moved: u32) -> Page
     say_progress(page::take_blank(), gap, h, moved, r)
 }
 
-fn say_progress(p: Page, gap: &[u8], h: Head, moved: u32, r: Reported) -> Page
+fn say_progress(p: Page, gap: &[u8], h: Head, moved: u32, r: Result<Report, Refusal>) -> Page
     ensures said { result ≡ extended p (progress_by gap.now h moved (reported r)) }
 {
     match r {
-        Reported::NotReported(x) => report::say_refusal(p, x),
-        Reported::Unfinished(done) => say_moved(p, gap, h, moved, done as u64),
-        Reported::RecordAside(i, reason) => {
-            let q = say_moved(p, gap, h, moved, h.n as u64);
-            report::say_reported(q, h, Reported::RecordAside(i, reason))
-        }
-        Reported::Given(f) => {
-            let q = say_moved(p, gap, h, moved, h.n as u64);
-            report::say_reported(q, h, Reported::Given(f))
-        }
+        Err(x) => report::say_refusal(p, x),
+        Ok(Report::Unfinished(done)) => say_moved(p, gap, h, moved, done as u64),
+        Ok(Report::RecordAside(_, _)) => say_finished(p, gap, h, moved, r),
+        Ok(Report::Given(_)) => say_finished(p, gap, h, moved, r),
     }
+}
+
+// Every record is done, and the report says what came of them.
+fn say_finished(p: Page, gap: &[u8], h: Head, moved: u32, r: Result<Report, Refusal>) -> Page
+    ensures said { result ≡ extended p (moved_text gap.now h moved h.n ++ reply_text h (reported r)) }
+{
+    let q = say_moved(p, gap, h, moved, h.n as u64);
+    report::say_reported(q, h, r)
 }
 
 fn say_moved(p: Page, gap: &[u8], h: Head, moved: u32, done: u64) -> Page

@@ -9,7 +9,7 @@ ghost use Rattle.text.specs.Report.{refused_text, decision_text, figures_text, r
 
 use crate::page::Page;
 use crate::{number, page};
-use job::reply::{Refusal, Reported};
+use job::reply::{Refusal, Report};
 use job::{checkpoint, reply};
 use mass::figures::Figures;
 use rules::book;
@@ -46,9 +46,9 @@ fn tell_open(book: &[u8], h: Head) -> Page
     ensures text { result ≡ page_of (year_text book.now) }
 {
     let mut begun = [0u8; checkpoint::SIZE];
-    job::wake::fresh(book, &mut begun);
+    let _ = job::wake::fresh(book, &mut begun);
     let mut ended = [0u8; checkpoint::SIZE];
-    job::wake::wake(book, &begun, u32::MAX, &mut ended);
+    let _ = job::wake::wake(book, &begun, u32::MAX, &mut ended);
     let r = job::report::report(book, &ended);
     say_reported(page::take_blank(), h, r)
 }
@@ -67,14 +67,14 @@ pub(crate) fn refuse_book(x: Fault) -> Page
     say_fault(page::take_blank(), x)
 }
 
-pub(crate) fn say_reported(p: Page, h: Head, r: Reported) -> Page
+pub(crate) fn say_reported(p: Page, h: Head, r: Result<Report, Refusal>) -> Page
     ensures said { result ≡ extended p (reply_text h (reported r)) }
 {
     match r {
-        Reported::NotReported(x) => say_refusal(p, x),
-        Reported::Unfinished(_) => say_number(p, 40),
-        Reported::RecordAside(i, reason) => say_aside(p, i, reason),
-        Reported::Given(f) => say_figures(p, h, f),
+        Err(x) => say_refusal(p, x),
+        Ok(Report::Unfinished(_)) => say_number(p, 40),
+        Ok(Report::RecordAside(i, reason)) => say_aside(p, i, reason),
+        Ok(Report::Given(f)) => say_figures(p, h, f),
     }
 }
 

@@ -5,9 +5,12 @@ use mathlib.Core.List.{List, [], ◌∷◌}
 use mathlib.Core.Path.{◌≡◌, refl, sym, ap, ◌∙◌}
 use lib.Dec.{eqb}
 use lib.ListN.{length}
+use Rattle.std.specs.Prelude.{Result, Ok, Err}
+use Rattle.std.specs.Result.{result_and}
 use Rattle.choice.proofs.TestsLaws.{also_t, also_f, choose_t, choose_f}
 use Rattle.mass.specs.declared.figures.Figures.{Figures}
-use Rattle.job.specs.Reply.{Reply, reply, figure_values}
+use Rattle.job.specs.declared.reply.Refusal.{Refusal}
+use Rattle.job.specs.Reply.{Reply, reply, figure_values, started, woken}
 use Rattle.job.proofs.ReplyLaws.{figure_values_six}
 use Rattle.wetherstep.specs.Face.{packed, word_of, figures_after}
 
@@ -29,6 +32,12 @@ module _ {r : Reply} {w n : ℕ} where
   pub word_of_aside : {i k : ℕ} → r ≡ reply n (i ∷ k ∷ []) → w ≡ packed n k 0 0 i → w ≡ word_of r
   unfolding word_of
   word_of_aside e p = p ∙ ap word_of (sym e)
+
+-- A start has no value, and its word is that of the count 0.
+pub word_of-started : (r : Result (Unit {0}) Refusal) → word_of (woken (result_and r (Ok 0))) ≡ word_of (started r)
+unfolding word_of woken started
+word_of-started (Err x) = refl
+word_of-started (Ok _) = refl
 
 -- ---- figures are written, and nothing else is
 pub figures_after-kept : {r : Reply} {n : ℕ} {vs : List ℕ} (fs : List ℕ) → r ≡ reply n vs

@@ -1,12 +1,12 @@
 // The calls of the job for C: a reply is one word, and figures go to a buffer that the caller lends.
 // include/wetherstep.h declares them, and `wetherstep_c` exports them.
 ghost use Rattle.std.specs.Prelude.{◌≡◌};
-ghost use Rattle.job.specs.Reply.{figure_values, started, woken, reported, remaining};
+ghost use Rattle.job.specs.Reply.{figure_values, woken, reported};
 ghost use Rattle.job.specs.Wake.{fresh_reply, fresh_bytes, wake_reply, wake_bytes};
 ghost use Rattle.job.specs.Report.{report_reply, left_reply};
 ghost use Rattle.wetherstep.specs.Face.{packed, word_of, figures_after};
 
-use job::reply::{Remaining, Reported, Started, Woken};
+use job::reply::{Refusal, Report};
 use job::{reply, report, wake};
 use mass::figures::Figures;
 
@@ -25,14 +25,14 @@ pub fn wetherstep_fresh(book: &[u8], out: &mut [u8]) -> u64
     ensures word { result ≡ word_of (fresh_reply book.now out.old) }
     ensures bytes { out.new ≡ fresh_bytes book.now out.old }
 {
-    tell_start(wake::fresh(book, out))
+    tell_count(wake::fresh(book, out).and(Ok(0)))
 }
 
 pub fn wetherstep_wake(book: &[u8], checkpoint: &[u8], budget: u32, out: &mut [u8]) -> u64
     ensures word { result ≡ word_of (wake_reply book.now checkpoint.now budget out.old) }
     ensures bytes { out.new ≡ wake_bytes book.now checkpoint.now budget out.old }
 {
-    tell_wake(wake::wake(book, checkpoint, budget, out))
+    tell_count(wake::wake(book, checkpoint, budget, out))
 }
 
 pub fn wetherstep_report(book: &[u8], checkpoint: &[u8], figures: &mut [u64; 6]) -> u64
@@ -45,36 +45,28 @@ pub fn wetherstep_report(book: &[u8], checkpoint: &[u8], figures: &mut [u64; 6])
 pub fn wetherstep_left(book: &[u8], checkpoint: &[u8]) -> u64
     ensures word { result ≡ word_of (left_reply book.now checkpoint.now) }
 {
-    tell_left(report::count_left(book, checkpoint))
+    tell_count(report::count_left(book, checkpoint))
 }
 
-fn tell_start(s: Started) -> u64
-    ensures word { result ≡ word_of (started s) }
+// What a call answers that tells a count, or nothing but that it was accepted, as 0.
+fn tell_count(r: Result<u32, Refusal>) -> u64
+    ensures word { result ≡ word_of (woken r) }
 {
-    match s {
-        Started::NotStarted(x) => pack(reply::number_refusal(x), 0, 0),
-        Started::Fresh => pack(ACCEPTED, 0, 0),
+    match r {
+        Err(x) => pack(reply::number_refusal(x), 0, 0),
+        Ok(count) => pack(ACCEPTED, 0, count),
     }
 }
 
-fn tell_wake(w: Woken) -> u64
-    ensures word { result ≡ word_of (woken w) }
+fn tell_report(r: Result<Report, Refusal>, figures: &mut [u64; 6]) -> u64
+    ensures word { result ≡ word_of (reported r) }
+    ensures figures { figures.new ≡ figures_after (reported r) figures.old }
 {
-    match w {
-        Woken::NotWoken(x) => pack(reply::number_refusal(x), 0, 0),
-        Woken::Moved(count) => pack(ACCEPTED, 0, count),
-    }
-}
-
-fn tell_report(s: Reported, figures: &mut [u64; 6]) -> u64
-    ensures word { result ≡ word_of (reported s) }
-    ensures figures { figures.new ≡ figures_after (reported s) figures.old }
-{
-    match s {
-        Reported::NotReported(x) => pack(reply::number_refusal(x), 0, 0),
-        Reported::Unfinished(done) => pack(UNFINISHED, 0, done),
-        Reported::RecordAside(index, reason) => pack(RECORD_ASIDE, reason, index),
-        Reported::Given(f) => {
+    match r {
+        Err(x) => tell_count(Err(x)),
+        Ok(Report::Unfinished(done)) => pack(UNFINISHED, 0, done),
+        Ok(Report::RecordAside(index, reason)) => pack(RECORD_ASIDE, reason, index),
+        Ok(Report::Given(f)) => {
             *figures = list(f);
             pack(ACCEPTED, 0, 0)
         }
@@ -89,15 +81,6 @@ fn list(f: Figures) -> [u64; 6]
         must = 1;
     }
     [f.fossil.0, f.biomass.0, f.ch4.0, f.n2o.0, f.co2e.0, must]
-}
-
-fn tell_left(m: Remaining) -> u64
-    ensures word { result ≡ word_of (remaining m) }
-{
-    match m {
-        Remaining::Unknown(x) => pack(reply::number_refusal(x), 0, 0),
-        Remaining::Left(count) => pack(ACCEPTED, 0, count),
-    }
 }
 
 // The types bound each field, so that none runs into the next.

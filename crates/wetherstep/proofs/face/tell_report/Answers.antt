@@ -2,38 +2,45 @@
 -- Assumes nothing.
 use Rattle.std.proofs.Common.{refl, sym, ap, ◌∙◌}
 use Rattle.job.specs.Reply.{reported}
-use Rattle.job.proofs.ReplyLaws.{reported_not_reported, reported_unfinished, reported_record_aside, reported-given}
-use Rattle.wetherstep.proofs.FaceLaws.{word_of-none, word_of_count, word_of_aside, word_of-given, figures_after-kept, figures_after-given}
+use Rattle.job.proofs.ReplyLaws.{report_known, woken-refused, reported-refused, reported_unfinished, reported_record_aside, reported-given}
+use Rattle.wetherstep.specs.Face.{word_of}
+use Rattle.wetherstep.proofs.FaceLaws.{word_of_count, word_of_aside, word_of-given, figures_after-kept, figures_after-given}
 use Rattle.wetherstep.proofs.face.tell_report.Goals as goal
 
-pub returns-in-NotReported-clause-word : goal.returns-in-NotReported-clause-word
-returns-in-NotReported-clause-word c =
-    word_of-none (ap reported c.in-NotReported.is ∙ reported_not_reported _) c.number_refusal.ensures.number c.pack.ensures.word
+pub returns-in-Err-clause-word : goal.returns-in-Err-clause-word
+returns-in-Err-clause-word c =
+    let told = ap reported c.in-Err.is ∙ reported-refused _ in
+    c.tell_count.ensures.word ∙ ap word_of (woken-refused _ ∙ sym told)
 
-pub returns-in-NotReported-clause-figures : goal.returns-in-NotReported-clause-figures
-returns-in-NotReported-clause-figures c =
-    sym (figures_after-kept _ (ap reported c.in-NotReported.is ∙ reported_not_reported _) refl)
+pub returns-in-Err-clause-figures : goal.returns-in-Err-clause-figures
+returns-in-Err-clause-figures c = sym (figures_after-kept _ (ap reported c.in-Err.is ∙ reported-refused _) refl)
 
-pub returns-in-Unfinished-clause-word : goal.returns-in-Unfinished-clause-word
-returns-in-Unfinished-clause-word c =
-    word_of_count (ap reported c.in-Unfinished.is ∙ reported_unfinished _) c.pack-in-Unfinished.ensures.word
+pub returns-in-Ok-Unfinished-clause-word : goal.returns-in-Ok-Unfinished-clause-word
+returns-in-Ok-Unfinished-clause-word c =
+    let told = ap reported (report_known c.in-Ok-Unfinished.is (rw c.in-Ok-Unfinished.is at c.in-Ok-Unfinished.field-0-is)) ∙ reported_unfinished _ in
+    word_of_count told c.pack.ensures.word
 
-pub returns-in-Unfinished-clause-figures : goal.returns-in-Unfinished-clause-figures
-returns-in-Unfinished-clause-figures c =
-    sym (figures_after-kept _ (ap reported c.in-Unfinished.is ∙ reported_unfinished _) refl)
+pub returns-in-Ok-Unfinished-clause-figures : goal.returns-in-Ok-Unfinished-clause-figures
+returns-in-Ok-Unfinished-clause-figures c =
+    let told = ap reported (report_known c.in-Ok-Unfinished.is (rw c.in-Ok-Unfinished.is at c.in-Ok-Unfinished.field-0-is)) ∙ reported_unfinished _ in
+    sym (figures_after-kept _ told refl)
 
-pub returns-in-RecordAside-clause-word : goal.returns-in-RecordAside-clause-word
-returns-in-RecordAside-clause-word c =
-    word_of_aside (ap reported c.in-RecordAside.is ∙ reported_record_aside _ _) c.pack-in-RecordAside.ensures.word
+pub returns-in-Ok-RecordAside-clause-word : goal.returns-in-Ok-RecordAside-clause-word
+returns-in-Ok-RecordAside-clause-word c =
+    let told = ap reported (report_known c.in-Ok-RecordAside.is (rw c.in-Ok-RecordAside.is at c.in-Ok-RecordAside.field-0-is)) ∙ reported_record_aside _ _ in
+    word_of_aside told c.pack-in-Ok-RecordAside.ensures.word
 
-pub returns-in-RecordAside-clause-figures : goal.returns-in-RecordAside-clause-figures
-returns-in-RecordAside-clause-figures c =
-    sym (figures_after-kept _ (ap reported c.in-RecordAside.is ∙ reported_record_aside _ _) refl)
+pub returns-in-Ok-RecordAside-clause-figures : goal.returns-in-Ok-RecordAside-clause-figures
+returns-in-Ok-RecordAside-clause-figures c =
+    let told = ap reported (report_known c.in-Ok-RecordAside.is (rw c.in-Ok-RecordAside.is at c.in-Ok-RecordAside.field-0-is)) ∙ reported_record_aside _ _ in
+    sym (figures_after-kept _ told refl)
 
-pub returns-in-Given-clause-word : goal.returns-in-Given-clause-word
-returns-in-Given-clause-word c =
-    word_of-given _ (ap reported c.in-Given.is ∙ reported-given _) c.pack-in-Given.ensures.word
+pub returns-in-Ok-Given-clause-word : goal.returns-in-Ok-Given-clause-word
+returns-in-Ok-Given-clause-word c =
+    let told = ap reported (report_known c.in-Ok-Given.is (rw c.in-Ok-Given.is at c.in-Ok-Given.field-0-is)) ∙ reported-given _ in
+    word_of-given _ told c.pack-in-Ok-Given.ensures.word
 
-pub returns-in-Given-clause-figures : goal.returns-in-Given-clause-figures
-returns-in-Given-clause-figures c =
-    c.list.ensures.values ∙ sym (figures_after-given _ (ap reported c.in-Given.is ∙ reported-given _) _)
+pub returns-in-Ok-Given-clause-figures : goal.returns-in-Ok-Given-clause-figures
+returns-in-Ok-Given-clause-figures c =
+    let told = ap reported (report_known c.in-Ok-Given.is (rw c.in-Ok-Given.is at c.in-Ok-Given.field-0-is)) ∙ reported-given _ in
+    c.list.ensures.values ∙ sym (figures_after-given _ told _)
