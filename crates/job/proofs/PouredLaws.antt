@@ -67,7 +67,7 @@ module _ {m : ℕ} (w : List ℕ) (i units rest : ℕ) (l : i < ledgers) (kept :
   kept_twice : Kept (m + quotient + 1) twice
   kept_twice = kept-added once i remainder l kept_once remainder_lt
 
-  pub kept-poured : Kept (m + pour_each) (poured w i units rest)
+  kept-poured : Kept (m + pour_each) (poured w i units rest)
   unfolding poured
   kept-poured = kept_more (poured w i units rest) (omega arith) (kept-added twice i rest l kept_twice rest_lt)
 

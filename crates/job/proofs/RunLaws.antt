@@ -43,9 +43,6 @@ gone_first a = omega arith
 pub gone_all : {a b : ℕ} (n : ℕ) → a ≡ b → a + n - b ≡ n
 gone_all n e = omega arith
 
-pub gone_within : {a m : ℕ} (n : ℕ) → a + n ≤ m → a ≤ m
-gone_within n l = omega arith
-
 pub gone_of : (a d u : ℕ) → a ≤ d → d < u → d - a < u - a
 gone_of a d u h l = omega arith
 
