@@ -1,6 +1,6 @@
 -- A line's entry at the next place makes a column one line longer, and leaves every other column as it was. No
 -- line's number is that of no line, so what stands among the numbers is a line's. Assumes nothing.
-use Rattle.std.proofs.Common.{◌≡◌, ℕ, ◌+◌, ◌*◌, ◌/◌, ◌%◌, ◌<◌, ◌≤◌, ltb, List, [], ◌∷◌, length, get_or, set, replicate, sym, refl, ap, ◌∙◌, subst, le_trans, le_of_eq, lt_of_le_of_lt, zero-add, arith, length-set, get_or-set_other, get_or-set_same, le-ltb, lt-ltb}
+use Rattle.std.proofs.Common.{◌≡◌, ℕ, ◌+◌, ◌*◌, ◌/◌, ◌<◌, ◌≤◌, ltb, List, [], ◌∷◌, length, get_or, set, replicate, sym, refl, ap, ◌∙◌, subst, le_trans, le_of_eq, lt_of_le_of_lt, zero-add, arith, length-set, get_or-set_other, get_or-set_same, le-ltb, lt-ltb}
 use lib.ListN.{length-replicate, get_or-replicate}
 use lib.Seq.{set_out}
 use Rattle.choice.specs.Tests.{choose}
@@ -35,10 +35,6 @@ column_found {s} {t} {n} {j} {x} column low is_x small =
     if_lt j n
     (λ there. (there, sym (column_at column low there) ∙ here))
     (λ past. absurd (omega (arith, column_past column low past)))
-
--- The hint of a number.
-pub small_hint : {hints : List ℕ} → Small hints → (x : ℕ) → get_or hints (x % 1024) 0 < 64
-small_hint small x = small.below (x % 1024) (omega arith)
 
 -- ---- hints
 pub small-blank : {hints : List ℕ} → hints ≡ replicate 1024 0 → Small hints

@@ -165,13 +165,13 @@ pub record Tested (m us fs : List ℕ) (unit fuel j k : ℕ) : Type 0 where
   pub carbons : carbon_right (get_or fs (192 + k) 0) m ≡ true
   pub allowed : allowed_by m (get_or fs (get_or us (64 + j) 0 % 256 + k) 0) ≡ true
 
-pub tested : {form heat carbon allowed : Bool} (m us fs : List ℕ) (unit fuel j k : ℕ)
-    → form ≡ form_right m → heat ≡ heat_right m → carbon ≡ carbon_right (get_or fs (192 + k) 0) m
+pub tested : {a b form heat carbon allowed : Bool} (m us fs : List ℕ) (unit fuel j k : ℕ)
+    → a ≡ eqb (get_or us j 0) unit → b ≡ eqb (get_or fs k 0) fuel → form ≡ form_right m → heat ≡ heat_right m → carbon ≡ carbon_right (get_or fs (192 + k) 0) m
     → allowed ≡ allowed_by m (get_or fs (get_or us (64 + j) 0 % 256 + k) 0)
-    → (eqb (get_or us j 0) unit && eqb (get_or fs k 0) fuel && form && heat && carbon && allowed) ≡ true
+    → (a && b && form && heat && carbon && allowed) ≡ true
     → Tested m us fs unit fuel j k
-tested m us fs unit fuel j k form heat carbon allowed all =
-    let row = is (both (both (both (both (both refl refl) form) heat) carbon) allowed) all in
+tested m us fs unit fuel j k a b form heat carbon allowed all =
+    let row = is (both (both (both (both (both a b) form) heat) carbon) allowed) all in
     let carbons = also_l _ _ row in
     let heats = also_l _ _ carbons in
     let formed = also_l _ _ heats in

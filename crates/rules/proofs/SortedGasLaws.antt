@@ -186,13 +186,12 @@ pub record Tested (m us fs : List ℕ) (unit fuel j k : ℕ) : Type 0 where
   pub volumes : 0 < get_or fs (256 + k) 0
   pub allowed : allowed_by m (get_or fs (128 + k) 0) ≡ true
 
-pub tested : {form heat allowed : Bool} (m us fs : List ℕ) (unit fuel j k : ℕ)
-    → form ≡ gas_right m → heat ≡ heat_right m → allowed ≡ allowed_by m (get_or fs (128 + k) 0)
-    → (eqb (get_or us j 0) unit && eqb (get_or fs k 0) fuel && form && heat && ltb 0 (get_or fs (256 + k) 0) && allowed)
-    ≡ true
+pub tested : {a b form heat allowed : Bool} (m us fs : List ℕ) (unit fuel j k : ℕ)
+    → a ≡ eqb (get_or us j 0) unit → b ≡ eqb (get_or fs k 0) fuel → form ≡ gas_right m → heat ≡ heat_right m → allowed ≡ allowed_by m (get_or fs (128 + k) 0)
+    → (a && b && form && heat && ltb 0 (get_or fs (256 + k) 0) && allowed) ≡ true
     → Tested m us fs unit fuel j k
-tested m us fs unit fuel j k form heat allowed all =
-    let row = is (both (both (both (both (both refl refl) form) heat) refl) allowed) all in
+tested m us fs unit fuel j k a b form heat allowed all =
+    let row = is (both (both (both (both (both a b) form) heat) refl) allowed) all in
     let volumes = also_l _ _ row in
     let heats = also_l _ _ volumes in
     let formed = also_l _ _ heats in

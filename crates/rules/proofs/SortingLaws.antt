@@ -15,10 +15,10 @@ use Rattle.rules.specs.declared.record.Reason.TheVariants.{WrongForm, NoUnit, No
 use Rattle.rules.specs.Bytes.{line}
 use Rattle.rules.specs.Fields.{monitored, default_heat, ch4_factor, n2o_factor, flags, fuelled, heat_measured, heat_low, month, amount, heat}
 use Rattle.rules.specs.Book.{unit_lines, fuel_lines}
-use Rattle.rules.specs.Method.{small, method_of}
+use Rattle.rules.specs.Method.{method_of}
 use Rattle.rules.specs.Entry.{measured_heat, heat_in_use, amount_of, co2_by, destination_by, entry_by, fuel_entry}
 use Rattle.rules.specs.Record.{carbon_form, fuel_form, heat_limit, heat_range, carbon_range, fuel_ranges, fuel_judged, fuel_outcome, outcome_at}
-use Rattle.rules.specs.Index.{column_of, way_of}
+use Rattle.rules.specs.Index.{way_of}
 use Rattle.rules.specs.Sorting.{heat_limits, heat_of, co2_of, carbon_of, ledger_of, most_burned, Shared}
 use Rattle.rules.specs.AtOnce.{heat_right, amount_burned}
 use Rattle.rules.proofs.MethodLaws.{method_of-monitored, method_of_unmonitored_le}
@@ -179,12 +179,6 @@ module _ (l u f : List ℕ) where
 pub way_of-le : (u : List ℕ) → way_of u ≤ 4
 unfolding way_of
 way_of-le u = if_choose (λ (x : ℕ). x ≤ 4) (monitored u) (λ m. lit≤ tt) (λ m. lit≤ tt)
-
-pub column_of-le : (u : List ℕ) → column_of u ≤ 128
-unfolding column_of
-column_of-le u =
-    if_choose (λ (x : ℕ). x ≤ 128) (monitored u) (λ m. lit≤ tt)
-    (λ m. if_choose (λ (x : ℕ). x ≤ 128) (small u) (λ s. lit≤ tt) (λ s. lit≤ tt))
 
 pub times_zero : {y : ℕ} (x : ℕ) → y ≡ 0 → x * y ≡ 0
 times_zero x none = ap (λ (y : ℕ). x * y) none ∙ mul-zero x

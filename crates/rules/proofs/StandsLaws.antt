@@ -1,6 +1,6 @@
 -- A number that an index finds is that of one line, which a look-up gives: the numbers rise, and no line has that of
 -- an entry without one. So the other columns have what this line says. Assumes nothing.
-use Rattle.std.proofs.Common.{◌≡◌, ℕ, ◌+◌, ◌*◌, ◌/◌, ◌<◌, ◌≤◌, Bool, true, List, length, get_or, sym, refl, ap, ◌∙◌, le_trans, le_of_eq, le_of_lt, zero-add, lit≤, Some}
+use Rattle.std.proofs.Common.{◌≡◌, ℕ, ◌+◌, ◌*◌, ◌/◌, ◌<◌, Bool, true, List, length, get_or, sym, refl, ap, ◌∙◌, Some}
 use Rattle.rules.specs.declared.book.Head.{Head}
 use Rattle.rules.specs.declared.record.Reason.{Reason}
 use Rattle.rules.specs.Outcome.{Outcome}
@@ -15,7 +15,7 @@ use Rattle.rules.proofs.BytesLaws.{word-two-lt, byte-part-lt}
 use Rattle.rules.proofs.LinesLaws.{lines_sound-each, rising_lines_sound}
 use Rattle.rules.proofs.BookLaws.{accepted_facts}
 use Rattle.rules.proofs.ListingLaws.{place_mid, listed_at}
-use Rattle.rules.proofs.IndexLaws.{column_at, column_le, column_found, number-line-lt}
+use Rattle.rules.proofs.IndexLaws.{column_at, column_found}
 
 -- ---- where a number stands
 -- Line j of s has the number x, and no other line has.
@@ -30,14 +30,6 @@ module _ {x j : ℕ} {s : List ℕ} (w : Stands x j s) where
 
   pub listed-stands : (k : Reason) (rest : List ℕ → Outcome) → listed x (lines_in s) k rest ≡ rest (line j s)
   listed-stands k rest = (listed_at x k rest s (sym place-stands) refl refl).1
-
--- ---- what the column of the numbers has
-pub number-entry-le : {s t : List ℕ} {n j : ℕ} → Column number s 0 n t → ((b : ℕ) → byte s b < 256) → j < 64
-    → get_or t j 0 ≤ 65536
-number-entry-le {s} {t} {n} {j} c bytes few =
-    le_trans
-    (le_of_eq (ap (λ (k : ℕ). get_or t k 0) (sym (zero-add j))))
-    (column_le c few 65536 (lit≤ tt) (λ k. le_of_lt (number-line-lt s k bytes refl refl)))
 
 stands_found : {x j : ℕ} {s t : List ℕ} (ok : List ℕ → Bool) → lines_sound ok s ≡ true
     → Column number s 0 (length s / 32) t → j < 64 → get_or t j 0 ≡ x → x < 65536 → Stands x j s

@@ -1,7 +1,7 @@
 // An index of a book's unit lines and fuel lines: what many records ask of these is read once. A column of
 // it has an entry for each line, and a hint says in which line a number may stand, by its last ten bits. As a
 // look-up holds the number of that line against the one that it wants, a wrong hint costs time alone.
-ghost use Rattle.std.specs.Prelude.{◌≡◌, ◌≤◌, length, replicate};
+ghost use Rattle.std.specs.Prelude.{◌≡◌, ◌<◌, ◌≤◌, length, replicate, ◌==◌, slice_index};
 ghost use Rattle.rules.specs.Book.{unit_lines, fuel_lines, opened, accepted};
 ghost use Rattle.rules.specs.Index.{no_number, column_of, way_of, moist_below, large_flags, allowed_flags, volume_of, UnitsNoted, FuelsNoted, Small};
 ghost use Rattle.rules.specs.Listing.{Rising};
@@ -156,4 +156,15 @@ fn find_volume(f: &Line) -> u32
         return listed::molar_volume(f);
     }
     0
+}
+
+// The place that the hint of a number names, and whether the line there has the number.
+pub(crate) fn look_up(number: u64, numbers: &[u32], hints: &[u8; 1024]) -> (usize, bool)
+    requires room { 64 ≤ length numbers.now }
+    requires small { Small hints.now }
+    ensures few { result.0 < 64 }
+    ensures right { result.1 ≡ (slice_index numbers.now result.0 == number) }
+{
+    let place = hints[(number % 1024) as usize] as usize;
+    (place, numbers[place] as u64 == number)
 }

@@ -53,12 +53,8 @@ pub fn sort_fuel(
     ensures alone { NoGas result }
 {
     let l = bytes::take_line(book, i);
-    let unit = field::unit_number(l);
-    let fuel = field::fuel_number(l);
-    let j = by_unit[(unit % 1024) as usize] as usize;
-    let k = by_fuel[(fuel % 1024) as usize] as usize;
-    let unit_right = units[j] as u64 == unit;
-    let fuel_right = fuels[k] as u64 == fuel;
+    let (j, unit_right) = index::look_up(field::unit_number(l), units, by_unit);
+    let (k, fuel_right) = index::look_up(field::fuel_number(l), fuels, by_fuel);
     let carbon_right = is_carbon_right(l, fuels[index::CARBON + k]);
     // Where there is no line the entry is 65,536, and any column will do.
     let column = units[index::COLUMNS + j] as usize % 256;
@@ -144,12 +140,8 @@ pub fn sort_gas(
     ensures settled { Settled h book.now i result }
 {
     let l = bytes::take_line(book, i);
-    let unit = field::unit_number(l);
-    let fuel = field::fuel_number(l);
-    let j = by_unit[(unit % 1024) as usize] as usize;
-    let k = by_fuel[(fuel % 1024) as usize] as usize;
-    let unit_right = units[j] as u64 == unit;
-    let fuel_right = fuels[k] as u64 == fuel;
+    let (j, unit_right) = index::look_up(field::unit_number(l), units, by_unit);
+    let (k, fuel_right) = index::look_up(field::fuel_number(l), fuels, by_fuel);
     let volume = fuels[index::VOLUMES + k];
     // Carbon is always measured, so that any unit permits it.
     let allowed = is_allowed(l, fuels[index::ALLOWED + k]);
