@@ -1,6 +1,6 @@
 -- The rules of a line by its named bytes and its blank, where the first line with a number stands, and
 -- what `listed` makes of it. Assumes nothing.
-use Rattle.std.proofs.Common.{◌≡◌, ℕ, zero, suc, ◌+◌, ◌-◌, ◌*◌, ◌/◌, ◌<◌, ◌≤◌, true, false, List, length, take, drop, sym, refl, ap, ◌∙◌, not-suc-le-zero, mul-zero, mul-one, arith, eq-eqb, ne_eqb, Option, Some, None, Err}
+use Rattle.std.proofs.Common.{◌≡◌, ℕ, zero, suc, ◌+◌, ◌-◌, ◌*◌, ◌/◌, ◌<◌, ◌≤◌, true, false, List, length, take, drop, sym, refl, ap, ◌∙◌, not-suc-le-zero, mul-zero, mul-one, arith, eq-eqb, ne_eqb, Option, Some, None, Ok, Err, ok_or, is_some}
 use Rattle.choice.specs.Tests.{◌also◌}
 use Rattle.choice.proofs.Splitting.{if_lt, if_eq}
 use Rattle.choice.proofs.TestsLaws.{also_t, also_f, choose_t, choose_f}
@@ -210,6 +210,12 @@ module _ (x : ℕ) (k : Reason) (rest : List ℕ → Outcome) where
       (λ a. a.listed_is k rest)
       (λ i f. let never : ◌≡◌ {A = ℕ} 0 1 = cc in absurd (omega arith))
 
+-- Any line serves where what becomes of the record doesn't hang on it.
+pub listed_any : (r : Option ℕ) {y : ℕ} (x : ℕ) (k : Reason) (o : Outcome) (s : List ℕ) → r ≡ place y 0 (lines_in s) → y ≡ x
+    → is_some r ≡ true → listed x (lines_in s) k (λ u. o) ≡ o
+listed_any None x k o s e d some = cc
+listed_any (Some p) x k o s e d some = (listed_at x k (λ u. o) s e d refl).1
+
 -- The line that was found is there.
 pub place_lt : {r : Option ℕ} {p : ℕ} (x : ℕ) (s : List ℕ) → r ≡ place x 0 (lines_in s) → r ≡ Some p
     → p < length s / 32
@@ -226,3 +232,16 @@ place-number {r} {p} x s e q =
     let start : 0 + i ≡ p = cc f.place_is in
     let same : i ≡ p = omega arith in
     ap (λ (j : ℕ). number_at j s) (sym same) ∙ f.has)
+
+-- ---- a search whose result is asked for by `ok_or`
+pub ok_or-some : (r : Option ℕ) (k : Reason) {p : ℕ} → ok_or r k ≡ Ok p → r ≡ Some p
+ok_or-some None k e = cc
+ok_or-some (Some x) k e = cc
+
+pub ok_or-none : (r : Option ℕ) (k : Reason) {j : Reason} → ok_or r k ≡ Err j → (r ≡ None) × (j ≡ k)
+ok_or-none None k e = (refl, cc)
+ok_or-none (Some x) k e = (cc, cc)
+
+pub none-is_some : (r : Option ℕ) → is_some r ≡ false → r ≡ None
+none-is_some None e = refl
+none-is_some (Some x) e = cc

@@ -12,6 +12,7 @@ use Rattle.rules.proofs.hints.note_fuels.Reads as note-fuels
 use Rattle.rules.proofs.factors.read_factors.Reads as read-factors
 use Rattle.rules.proofs.record.is_repeatable.Reads as is-repeatable
 use Rattle.rules.proofs.record.find_kind.Reads as find-kind
+use Rattle.rules.proofs.record.number_reason.Reads as number-reason
 use Rattle.rules.proofs.record.judge.Reads as judge
 use Rattle.rules.proofs.record.judge_next.Reads as judge-next
 use Rattle.rules.proofs.table.does_serve.Reads as does-serve
@@ -54,6 +55,10 @@ is_repeatable_unique κs a r s x y p q = p ∙ sym q
 pub find_kind_unique : (κs : _) (a : _) (r s : _) (x y : _)
     → find-kind.Post κs a r x → find-kind.Post κs a s y → r ≡ s
 find_kind_unique κs a r s x y p q = p ∙ sym q
+
+pub number_reason_unique : (κs : _) (a : _) (r s : _) (x y : _)
+    → number-reason.Post κs a r x → number-reason.Post κs a s y → r ≡ s
+number_reason_unique κs a r s x y p q = p ∙ sym q
 
 pub judge_unique : (κs : _) (a : _) (r s : _) (x y : _) → judge.Post κs a r x → judge.Post κs a s y → r ≡ s
 judge_unique κs a r s x y p q = p ∙ sym q

@@ -17,24 +17,11 @@ pub(crate) fn look_back(book: &[u8], i: usize, o: Outcome) -> Outcome
     requires there { i < length book.now / 32 }
     ensures outcome { result ≡ unless_repeated (repeated (line i book.now) (lines i book.now)) o }
 {
-    match o {
-        Err(_) => o,
-        Ok(_) => withhold(o, is_repeated(book, i)),
+    let entry = o?;
+    if is_repeated(book, i) {
+        return Err(Reason::Repeated);
     }
-}
-
-pub(crate) fn withhold(o: Outcome, repeated: bool) -> Outcome
-    ensures outcome { result ≡ unless_repeated repeated o }
-{
-    match o {
-        Err(_) => o,
-        Ok(_) => {
-            if repeated {
-                return Err(Reason::Repeated);
-            }
-            o
-        }
-    }
+    Ok(entry)
 }
 
 // Whether a unit has one such record for each hour, or for each month.
