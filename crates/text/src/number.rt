@@ -11,10 +11,10 @@ pub(crate) fn say_decimal(p: Page, n: u64) -> Page
     ensures said { result ≡ extended p (words.decimal n) }
 {
     if n < 10 {
-        return page::say_byte(p, 48 + n as u8);
+        return page::say_byte(p, b'0' + n as u8);
     }
     let front = say_decimal(p, n / 10);
-    page::say_byte(front, 48 + (n % 10) as u8)
+    page::say_byte(front, b'0' + (n % 10) as u8)
 }
 
 pub(crate) fn say_field(p: Page, word: &[u8], n: u64) -> Page
@@ -37,11 +37,9 @@ pub(crate) fn say_bytes(p: Page, n: usize, v: u64) -> Page
 {
     let mut next = p;
     let mut rest = v;
-    let mut i = 0;
-    while i < n {
+    for _ in 0..n {
         next = page::say_byte(next, (rest % 256) as u8);
-        rest = rest / 256;
-        i += 1;
+        rest /= 256;
     }
     next
 }

@@ -38,10 +38,8 @@ pub(crate) fn say(p: Page, word: &[u8]) -> Page
     ensures said { result ≡ spec.extended p word.now }
 {
     let mut next = p;
-    let mut i = 0;
-    while i < word.len() {
-        next = say_byte(next, word[i]);
-        i += 1;
+    for b in word {
+        next = say_byte(next, *b);
     }
     next
 }
