@@ -195,7 +195,7 @@ pub fn wake<R: Files + RandomSource + Complain>(
     ensures bytes { saved.new ≡ wake_bytes book.now from.now budget saved.old }
 {
     match job::wake::wake(book, from, budget, saved) {
-        Err(x) => Err(Stopped::Refused(x)),
+        Err(refusal) => Err(Stopped::Refused(refusal)),
         Ok(moved) => {
             settle(rt, due, whose, path, book)?;
             save::save(rt, whose, path, saved, b"")?;
