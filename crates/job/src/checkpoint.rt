@@ -135,12 +135,12 @@ fn is_ledger_sound(c: &[u8], k: usize) -> bool
 {
     let g = read_ledger(c, k);
     let done = read_word(c, DONE, 4);
-    let tonnes = g.tonnes;
-    (g.rest.0 < NG_PER_TONNE) & (tonnes <= TONNES_EACH * done)
+    (g.rest.0 < NG_PER_TONNE) & (g.tonnes <= TONNES_EACH * done)
 }
 
-// Writes the checkpoint of a book with the head h at `place`, where `aside` tells of the records set aside; each ledger is what `from` says and w gives. The fields go two in a word: of eight
-// bytes the compiler makes one store, of fewer one for each byte.
+// Writes the checkpoint of a book with the head h at `place`, where `aside` tells of the records set aside; each ledger
+// is what `from` says and w gives. The fields go two in a word: of eight bytes the compiler makes one store, of fewer one
+// for each byte.
 pub(crate) fn write(h: Head, place: u32, aside: &Aside, from: &[u8], w: &[u64], out: &mut [u8])
     requires whole { (length from.now ≡ checkpoint_size) × (length w.now ≡ words) × (length out.old ≡ checkpoint_size) }
     requires fits { (h.length < 4294967296) × (h.year < 65536) }
