@@ -1,5 +1,5 @@
 // Little-endian numbers and 32-byte lines in a slice of bytes.
-ghost use Rattle.std.specs.Prelude.{◌≡◌, ◌+◌, ◌-◌, ◌/◌, ◌^◌, ◌<◌, ◌≤◌, length, ◌==◌};
+ghost use Rattle.std.specs.Prelude.{◌≡◌, ℕ, ◌+◌, ◌-◌, ◌/◌, ◌^◌, ◌<◌, ◌≤◌, [], length, ◌==◌, slice_index_or};
 ghost use Rattle.rules.specs.Bytes as spec;
 
 // The number of the n bytes from `at` on. The widths of a field are written out, since the compiler
@@ -97,11 +97,19 @@ fn gather_few(s: &[u8], from: usize, to: usize) -> u64
 // A line of a book.
 pub(crate) type Line = [u8; 32];
 
+// The lines of a part that holds whole lines.
+pub(crate) fn take_lines(s: &[u8]) -> &[Line]
+    ensures count { length result.now ≡ length s.now / 32 }
+    ensures each { (k : ℕ) → k < length s.now / 32 → slice_index_or result.now k [] ≡ spec.line k s.now }
+{
+    let (lines, _) = s.as_chunks::<32>();
+    lines
+}
+
 // Line k of a part that holds whole lines.
 pub(crate) fn take_line(s: &[u8], k: usize) -> &Line
     requires there { k < length s.now / 32 }
     ensures line { result.now ≡ spec.line k s.now }
 {
-    let (lines, _) = s.as_chunks::<32>();
-    &lines[k]
+    &take_lines(s)[k]
 }

@@ -34,8 +34,8 @@ fn note(s: &[u8], places: &mut [u8])
     requires room { 1024 ≤ length places.old }
     ensures noted { places.new ≡ hints_in s.now places.old }
 {
-    for i in 0..s.len() / 32 {
-        let last = (listed::number(bytes::take_line(s, i)) % 1024) as usize;
+    for (i, l) in bytes::take_lines(s).iter().enumerate() {
+        let last = (listed::number(l) % 1024) as usize;
         places[last] = i as u8;
     }
 }

@@ -47,8 +47,7 @@ fn note_unit_lines(s: &[u8], units: &mut [u32; 256], hints: &mut [u8; 1024])
     requires blank { (units.old ≡ replicate 256 no_number) × (hints.old ≡ replicate 1024 0) }
     ensures noted { UnitsNoted s.now units.new × Small hints.new }
 {
-    for j in 0..s.len() / 32 {
-        let u = bytes::take_line(s, j);
+    for (j, u) in bytes::take_lines(s).iter().enumerate() {
         let number = listed::number(u);
         hints[(number % 1024) as usize] = j as u8;
         units[j] = number as u32;
@@ -109,8 +108,7 @@ fn note_fuel_lines(s: &[u8], fuels: &mut [u32; 320], hints: &mut [u8; 1024])
     requires blank { (fuels.old ≡ replicate 320 no_number) × (hints.old ≡ replicate 1024 0) }
     ensures noted { FuelsNoted s.now fuels.new × Small hints.new }
 {
-    for j in 0..s.len() / 32 {
-        let f = bytes::take_line(s, j);
+    for (j, f) in bytes::take_lines(s).iter().enumerate() {
         let number = listed::number(f);
         hints[(number % 1024) as usize] = j as u8;
         fuels[j] = number as u32;

@@ -51,8 +51,8 @@ fn note_lines(book: &[u8], n: usize, units: &[u8], hints: &[u8], table: &mut [u6
     requires table { spec.is_table units.now table.old ≡ true }
     ensures noted { table.new ≡ spec.noted_all (lines n book.now) units.now table.old }
 {
-    for i in 0..n {
-        note_line(bytes::take_line(book, i), units, hints, table);
+    for l in &bytes::take_lines(book)[..n] {
+        note_line(l, units, hints, table);
     }
 }
 

@@ -1,4 +1,4 @@
-use Rattle.std.proofs.Common.{◌<◌, arith, lit≤}
+use Rattle.std.proofs.Common.{◌/◌, length, ◌<◌, arith, lit≤}
 use Rattle.rules.proofs.IndexLaws.{fuel_columns, columns-blank, fuel_columns_next, fuels_noted_all, small-blank, small-set, number-line-lt}
 use Rattle.rules.proofs.index.note_fuel_lines.Goals as goal
 
@@ -9,15 +9,17 @@ loop-j-init c =
 
 pub overflow_cast-fuels : goal.overflow_cast-fuels
 overflow_cast-fuels c =
-    let below = number-line-lt c.args.s.now c.loop-j.j (λ i. (c.type_inv.s i).fits) c.take_line-f.ensures.line c.number-number.ensures.field in
+    let there : c.loop-j.j < length c.args.s.now / 32 = omega (arith, c.take_lines-f-items.ensures.count) in
+    let below = number-line-lt c.args.s.now c.loop-j.j (λ i. (c.type_inv.s i).fits) (c.take_lines-f-items.ensures.each c.loop-j.j there) c.number-number.ensures.field in
     omega arith
 
 pub loop-j-preserved : goal.loop-j-preserved
 loop-j-preserved c =
+    let there : c.loop-j.j < length c.args.s.now / 32 = omega (arith, c.take_lines-f-items.ensures.count) in
     let few : c.loop-j.j < 64 = omega (arith, c.requires.rising.few) in
     let inv = c.loop-j.invariant in
     record {
-      columns = fuel_columns_next few inv.columns c.take_line-f.ensures.line
+      columns = fuel_columns_next few inv.columns (c.take_lines-f-items.ensures.each c.loop-j.j there)
           c.number-number.ensures.field
           c.find_large.ensures.large
           c.find_allowed.ensures.allowed
@@ -27,4 +29,4 @@ loop-j-preserved c =
     }
 
 pub returns : goal.returns
-returns c = record { noted = (fuels_noted_all (omega arith) c.loop-j.invariant.columns, c.loop-j.invariant.hints) }
+returns c = record { noted = (fuels_noted_all (omega (arith, c.take_lines-f-items.ensures.count)) c.loop-j.invariant.columns, c.loop-j.invariant.hints) }

@@ -1,4 +1,4 @@
-use Rattle.std.proofs.Common.{◌<◌, arith, lit≤}
+use Rattle.std.proofs.Common.{◌/◌, length, ◌<◌, arith, lit≤}
 use Rattle.rules.proofs.IndexLaws.{unit_columns, columns-blank, unit_columns_next, units_noted_all, small-blank, small-set, number-line-lt}
 use Rattle.rules.proofs.index.note_unit_lines.Goals as goal
 
@@ -9,15 +9,17 @@ loop-j-init c =
 
 pub overflow_cast-units : goal.overflow_cast-units
 overflow_cast-units c =
-    let below = number-line-lt c.args.s.now c.loop-j.j (λ i. (c.type_inv.s i).fits) c.take_line-u.ensures.line c.number-number.ensures.field in
+    let there : c.loop-j.j < length c.args.s.now / 32 = omega (arith, c.take_lines-u-items.ensures.count) in
+    let below = number-line-lt c.args.s.now c.loop-j.j (λ i. (c.type_inv.s i).fits) (c.take_lines-u-items.ensures.each c.loop-j.j there) c.number-number.ensures.field in
     omega arith
 
 pub loop-j-preserved : goal.loop-j-preserved
 loop-j-preserved c =
+    let there : c.loop-j.j < length c.args.s.now / 32 = omega (arith, c.take_lines-u-items.ensures.count) in
     let few : c.loop-j.j < 64 = omega (arith, c.requires.rising.few) in
     let inv = c.loop-j.invariant in
     record {
-      columns = unit_columns_next few inv.columns c.take_line-u.ensures.line
+      columns = unit_columns_next few inv.columns (c.take_lines-u-items.ensures.each c.loop-j.j there)
           c.number-number.ensures.field
           c.find_column.ensures.column
           c.find_way.ensures.way
@@ -26,4 +28,4 @@ loop-j-preserved c =
     }
 
 pub returns : goal.returns
-returns c = record { noted = (units_noted_all (omega arith) c.loop-j.invariant.columns, c.loop-j.invariant.hints) }
+returns c = record { noted = (units_noted_all (omega (arith, c.take_lines-u-items.ensures.count)) c.loop-j.invariant.columns, c.loop-j.invariant.hints) }
