@@ -1,23 +1,22 @@
 -- The bytes before a byte and after it, and two runs compared, byte by byte. Assumes nothing.
 use Prim.Native.Nat.{ℕ, suc, ◌+◌, ◌-◌, ◌<◌, ◌≤◌}
-use mathlib.Core.Bool.{Bool, true, false}
+use mathlib.Core.Bool.{true, false, cond}
+use Rattle.std.proofs.Common.{Some, None, position}
+use Rattle.std.specs.List.{position_or_len}
+use Rattle.std.specs.Cmp.Lexicographic.{pointwise}
+use Rattle.std.proofs.lemmas.List.Recursion.{is_position_or_len}
 use mathlib.Core.List.{List, [], ◌∷◌}
 use mathlib.Core.Path.{◌≡◌, refl, sym, ap, ap₂, subst, ◌∙◌}
-use native.Mathlib.Numerals.{add-one}
 use native.Mathlib.Omega.{arith}
 use lib.Dec.{T, eqb}
-use lib.ListN.{length, get_or, take, drop, length-drop, drop_of_length-le}
-use lib.Seq.{take_all, drop-cons}
+use lib.ListN.{length, take, drop, length-drop, drop_of_length-le}
+use lib.Seq.{take_all}
 use borrow.Author.Tests.{eq-eqb, ne_eqb, eqb-true, ltb-true, ltb-false}
 use Rattle.choice.specs.Tests.{◌also◌}
 use Rattle.choice.proofs.Splitting.{if_test, if_eq}
-use Rattle.choice.proofs.TestsLaws.{choose_t, choose_f, also_t, also_f}
-use Rattle.roster.specs.Bytes.{span, rest, same}
+use Rattle.choice.proofs.TestsLaws.{choose_t, choose_f, also_t, also_f, both}
+use Rattle.roster.specs.Bytes.{span, front, rest, same}
 use Rattle.roster.specs.Search.{has}
-
--- The byte at i is next.
-pub drop_next : (xs : List ℕ) (i : ℕ) → i < length xs → drop i xs ≡ get_or xs i 0 ∷ drop (i + 1) xs
-drop_next xs i h = rw (add-one, drop-cons xs i 0)
 
 pub length_none : (xs : List ℕ) → length xs ≤ 0 → xs ≡ []
 length_none [] l = refl
@@ -43,22 +42,15 @@ span-le b (x ∷ xs) =
     (λ e. omega (arith, span-zero b x xs e))
     (λ n. omega (arith, span-suc b x xs n, span-le b xs))
 
--- The first i bytes aren't b.
-module _ (b : ℕ) (xs : List ℕ) (i : ℕ) (whole : span b xs ≡ i + span b (drop i xs)) where
-  pub span_here : i < length xs → get_or xs i 0 ≡ b → i ≡ span b xs
-  span_here l e =
-      let next : span b (drop i xs) ≡ span b (get_or xs i 0 ∷ drop (i + 1) xs) = ap (span b) (drop_next xs i l) in
-      omega (arith, next, span-zero b (get_or xs i 0) (drop (i + 1) xs) e)
-
-  pub span_on : i < length xs → (get_or xs i 0 ≡ b → ⊥) → span b xs ≡ i + 1 + span b (drop (i + 1) xs)
-  span_on l n =
-      let next : span b (drop i xs) ≡ span b (get_or xs i 0 ∷ drop (i + 1) xs) = ap (span b) (drop_next xs i l) in
-      omega (arith, next, span-suc b (get_or xs i 0) (drop (i + 1) xs) n)
-
-  pub span_end : length xs ≤ i → i ≡ span b xs
-  span_end l =
-      let none : span b (drop i xs) ≡ span b [] = ap (span b) (drop_of_length-le xs {i = i} l) in
-      omega (arith, none, span-nil b)
+-- The place at which a search for b stops.
+pub position-span : (b : ℕ) (xs : List ℕ) → position_or_len (λ x. eqb x b) xs ≡ span b xs
+position-span b xs = sym (is_position_or_len (span b) (λ x. eqb x b) (span-nil b) (next b) xs)
+  where
+    next : (b x : ℕ) (xs : List ℕ) → span b (x ∷ xs) ≡ cond (eqb x b) 0 (1 + span b xs)
+    next b x xs =
+        if_eq x b
+        (λ e. rw (eq-eqb x b e) (span-zero b x xs e))
+        (λ n. let on = span-suc b x xs n in rw (ne_eqb x b n) (omega arith))
 
 pub has→lt : (b : ℕ) (xs : List ℕ) → has b xs ≡ true → span b xs < length xs
 unfolding has
@@ -68,24 +60,41 @@ pub has→le : (b : ℕ) (xs : List ℕ) → has b xs ≡ false → length xs �
 unfolding has
 has→le b xs h = ltb-false (span b xs) (length xs) h
 
+pub front-none : (b : ℕ) (xs : List ℕ) → length xs ≤ span b xs → front b xs ≡ xs
+unfolding front
+front-none b xs l = take_all (span b xs) xs l
+
 pub rest-none : (b : ℕ) (xs : List ℕ) → length xs ≤ span b xs → rest b xs ≡ []
 unfolding rest
 rest-none b xs l = drop_of_length-le xs {i = suc (span b xs)} (omega arith)
 
--- The rest, cut at the place n that was found.
-pub rest_end : {n : ℕ} (b : ℕ) (xs : List ℕ) → n ≡ span b xs → n ≡ length xs
-    → take (length xs - n) (drop n xs) ≡ rest b xs
-rest_end {n} b xs e l =
-    let none : length xs - n ≡ 0 = omega arith in
-    ap (λ (k : ℕ). take k (drop n xs)) none ∙ sym (rest-none b xs (omega arith))
+-- What a search for b answers.
+searched : (b : ℕ) (xs : List ℕ) → position (λ x. eqb x b) xs ≡ cond (has b xs) (Some (span b xs)) None
+unfolding has
+searched b xs = rw (position-span b xs)
 
-pub rest_found : {n : ℕ} (b : ℕ) (xs : List ℕ) → n ≡ span b xs
-    → take (length xs - (n + 1)) (drop (n + 1) xs) ≡ rest b xs
-unfolding rest
-rest_found {n} b xs e =
-    let found : n + 1 ≡ suc (span b xs) = omega arith in
-    take_all (length xs - (n + 1)) (drop (n + 1) xs) (omega (arith, length-drop (n + 1) xs))
-    ∙ ap (λ (k : ℕ). drop k xs) found
+-- The run, cut at the place n that was found.
+pub cut_found : (b : ℕ) (xs : List ℕ) (n : ℕ) → position (λ x. eqb x b) xs ≡ Some n
+    → (has b xs ≡ true) × (take n xs ≡ front b xs) × (take (length xs - (n + 1)) (drop (n + 1) xs) ≡ rest b xs)
+unfolding front rest
+cut_found b xs n e =
+    if_test (has b xs)
+    (λ h.
+    let some : Some (span b xs) ≡ Some n = rw h at (sym (searched b xs) ∙ e) in
+    let found : n ≡ span b xs = cc in
+    let on : n + 1 ≡ suc (span b xs) = omega arith in (
+      h,
+      ap (λ (k : ℕ). take k xs) found,
+      take_all (length xs - (n + 1)) (drop (n + 1) xs) (omega (arith, length-drop (n + 1) xs))
+          ∙ ap (λ (k : ℕ). drop k xs) on,
+    ))
+    (λ h. let none : None ≡ Some n = rw h at (sym (searched b xs) ∙ e) in cc)
+
+pub cut_none : (b : ℕ) (xs : List ℕ) → position (λ x. eqb x b) xs ≡ None → has b xs ≡ false
+cut_none b xs e =
+    if_test (has b xs)
+    (λ h. let some : Some (span b xs) ≡ None = rw h at (sym (searched b xs) ∙ e) in cc)
+    (λ h. h)
 
 pub rest_lt : {u : List ℕ} (b : ℕ) (xs : List ℕ) → u ≡ rest b xs → has b xs ≡ true → length u < length xs
 unfolding rest
@@ -117,24 +126,10 @@ unfolding same
 same_refl [] = refl
 same_refl (x ∷ xs) = also_t (eq-eqb x x refl) (same_refl xs)
 
-pub same_length : (xs ys : List ℕ) → (length xs ≡ length ys → ⊥) → false ≡ same xs ys
-same_length xs ys n =
-    if_test (same xs ys) (λ e. absurd (n (ap length (same→eq xs ys e)))) sym
-
-module _ {r : Bool} (xs ys : List ℕ) (i : ℕ) (whole : same (drop i xs) (drop i ys) ≡ r) where
-  module _ (left : i < length xs) (right : i < length ys) where
-    next : (eqb (get_or xs i 0) (get_or ys i 0) also same (drop (i + 1) xs) (drop (i + 1) ys)) ≡ r
-    unfolding same
-    next = sym (ap₂ same (drop_next xs i left) (drop_next ys i right)) ∙ whole
-
-    pub same_next : get_or xs i 0 ≡ get_or ys i 0 → same (drop (i + 1) xs) (drop (i + 1) ys) ≡ r
-    same_next e = sym (also_t (eq-eqb (get_or xs i 0) (get_or ys i 0) e) refl) ∙ next
-
-    pub same_other : (get_or xs i 0 ≡ get_or ys i 0 → ⊥) → false ≡ r
-    same_other n =
-        sym (also_f (same (drop (i + 1) xs) (drop (i + 1) ys)) (ne_eqb (get_or xs i 0) (get_or ys i 0) n)) ∙ next
-
-  pub same_end : length xs ≤ i → length ys ≤ i → true ≡ r
-  unfolding same
-  same_end l m =
-      sym (ap₂ same (drop_of_length-le xs {i = i} l) (drop_of_length-le ys {i = i} m)) ∙ whole
+-- `==` compares as `same` does.
+pub same-pointwise : (xs ys : List ℕ) → same xs ys ≡ pointwise eqb xs ys
+unfolding same ◌also◌
+same-pointwise [] [] = refl
+same-pointwise [] (y ∷ ys) = refl
+same-pointwise (x ∷ xs) [] = refl
+same-pointwise (x ∷ xs) (y ∷ ys) = sym (both refl (sym (same-pointwise xs ys)))

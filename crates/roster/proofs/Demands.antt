@@ -12,7 +12,8 @@ use mathlib.Core.List.{List, [], ◌∷◌, ◌++◌, Memᴰ}
 use mathlib.Core.Logic.{◌↔◌}
 use mathlib.Core.Path.{◌≡◌, refl}
 use lib.ListN.{length}
-use Rattle.roster.specs.declared.plants.Listed.TheVariants.{Plants, Wrong, Again, Many}
+use Rattle.std.specs.Prelude.{Ok, Err}
+use Rattle.roster.specs.declared.plants.Fault.TheVariants.{Wrong, Again, Many}
 use Rattle.roster.specs.Lines.{lines_of, line_at, after, through}
 use Rattle.roster.specs.Plants.{checkpoint_of, is_plant, verdict_on}
 use Rattle.roster.specs.Right.{RightUpTo}
@@ -34,31 +35,31 @@ pub use Rattle.roster.proofs.place.find.Met.{met as find-meets-its-contract}
 -- lines, at most 16, are plants' lines and name i CHECKPOINTs.
 pub record Told (t : List ℕ) : Type 0 where
   -- It is right: nothing stands after n right lines.
-  pub right : (n : ℕ) → (verdict_on t ≡ Plants n) ↔ (RightUpTo t n × (after n t ≡ []))
+  pub right : (n : ℕ) → (verdict_on t ≡ Ok n) ↔ (RightUpTo t n × (after n t ≡ []))
   -- Else the first fault is told. What stands after i right lines is no plant's line; unended text is no line.
   pub wrong : (i : ℕ)
-      → (verdict_on t ≡ Wrong i)
+      → (verdict_on t ≡ Err (Wrong i))
       ↔ (RightUpTo t i × (i < 16) × (0 < length (after i t)) × (is_plant (line_at i t) ≡ false))
   -- It is one, but some line j before it names the same CHECKPOINT.
   pub again : (i : ℕ)
-      → (verdict_on t ≡ Again i)
+      → (verdict_on t ≡ Err (Again i))
       ↔ (RightUpTo t i
       × (i < 16)
       × (is_plant (line_at i t) ≡ true)
       × ((j : ℕ) × (j < i) × (checkpoint_of (line_at j t) ≡ checkpoint_of (line_at i t))))
   -- Something stands after 16 right lines.
-  pub many : (verdict_on t ≡ Many) ↔ (RightUpTo t 16 × (0 < length (after 16 t)))
+  pub many : (verdict_on t ≡ Err Many) ↔ (RightUpTo t 16 × (0 < length (after 16 t)))
 
 pub told : (t : List ℕ) → Told t
 told t = record {
-  right = λ n. verdict_on↔says t (Plants n);
-  wrong = λ i. verdict_on↔says t (Wrong i);
-  again = λ i. verdict_on↔says t (Again i);
-  many = verdict_on↔says t Many;
+  right = λ n. verdict_on↔says t (Ok n);
+  wrong = λ i. verdict_on↔says t (Err (Wrong i));
+  again = λ i. verdict_on↔says t (Err (Again i));
+  many = verdict_on↔says t (Err Many);
 }
 
 -- ---- 2. After a kill the round goes on behind the plant that was being served.
-pub goes_on : (t : List ℕ) (n : ℕ) → verdict_on t ≡ Plants n → (i : ℕ) → i < n → placed t (kept i t) ≡ i
+pub goes_on : (t : List ℕ) (n : ℕ) → verdict_on t ≡ Ok n → (i : ℕ) → i < n → placed t (kept i t) ≡ i
 goes_on t n e i l = placed-kept t n e i l t n e i l refl
 
 -- ---- 3. The list may have been edited meanwhile. Of a list u of m plants, whatever bytes k were kept:
@@ -72,7 +73,7 @@ pub record Place (u : List ℕ) (m : ℕ) (k : List ℕ) : Type 0 where
   -- The place is a slot of the queue.
   pub slot : placed u k < 16
 
-pub place : (u : List ℕ) (m : ℕ) → verdict_on u ≡ Plants m → (k : List ℕ) → Place u m k
+pub place : (u : List ℕ) (m : ℕ) → verdict_on u ≡ Ok m → (k : List ℕ) → Place u m k
 place u m e k = record {
   last_listed = placed_last u m e k;
   none_listed = placed-none u k;
@@ -80,8 +81,8 @@ place u m e k = record {
 }
 
 -- So the plant that was being served as line i of t is found where it stands now.
-pub goes_on_behind : (t : List ℕ) (n : ℕ) → verdict_on t ≡ Plants n → (i : ℕ) → i < n
-    → (u : List ℕ) (m : ℕ) → verdict_on u ≡ Plants m → (j : ℕ) → j < m
+pub goes_on_behind : (t : List ℕ) (n : ℕ) → verdict_on t ≡ Ok n → (i : ℕ) → i < n
+    → (u : List ℕ) (m : ℕ) → verdict_on u ≡ Ok m → (j : ℕ) → j < m
     → line_at j u ≡ line_at i t → placed u (kept i t) ≡ j
 goes_on_behind = placed-kept
 

@@ -1,18 +1,24 @@
 -- A text goes line by line, and its first lines and those after them make it up. Assumes nothing.
-use Prim.Native.Nat.{ℕ, zero, suc, ◌+◌, ◌-◌, ◌<◌, ◌≤◌}
+use Prim.Native.Nat.{ℕ, zero, suc, ◌+◌, ◌-◌, ◌<◌, ◌≤◌, zero-le}
+use borrow.Author.Rules.{rules}
 use mathlib.Core.Bool.{true, false}
 use mathlib.Core.List.{List, [], ◌∷◌, ◌++◌, append_assoc}
 use mathlib.Core.Path.{◌≡◌, refl, sym, ap, ap₂, subst, ◌∙◌}
 use native.Mathlib.Omega.{arith}
 use lib.ListN.{length, get_or, take, drop, length-append, length-drop, take-append-drop}
 use lib.Seq.{drop-nil, get_or-drop, take-append_seam}
+use Rattle.std.proofs.Common.{Option, Some, None, option_map}
+use Rattle.std.specs.Option.{unwrap_or}
+use Rattle.std.specs.List.{slice_get}
+use Rattle.std.proofs.lemmas.Option.{unwrap_or-slice_get}
+use denote.Ref.{Bor}
 use borrow.Author.Tests.{eq-eqb, ne_eqb}
 use Rattle.choice.proofs.Splitting.{if_test, if_lt, if_eq}
 use Rattle.choice.proofs.TestsLaws.{choose_t, choose_f}
 use Rattle.roster.specs.Bytes.{span, front, rest}
 use Rattle.roster.specs.Search.{has}
 use Rattle.roster.specs.Lines.{newline, Split, led, split, lines_of, line_at, after, through}
-use Rattle.roster.proofs.BytesLaws.{length_none, has→le, has→lt, rest-none, span-nil, span-suc, span-zero}
+use Rattle.roster.proofs.BytesLaws.{has→le, has→lt, rest-none, span-nil, span-suc, span-zero}
 
 -- ---- a text by its first line
 abbrev with_line : List ℕ → Split → Split
@@ -66,6 +72,26 @@ split-unended (x ∷ t) l =
     split-byte x t n
     ∙ ap (λ (s : Split). led x s.lines s.unended)
     (split-unended t (omega (arith, span-suc newline x t n))))
+
+pub lines_none : (t : List ℕ) → has newline t ≡ false → lines_of t ≡ []
+lines_none t h = ap (λ (s : Split). s.lines) (split-unended t (has→le newline t h))
+
+pub length-lines_of : (t : List ℕ) → length (lines_of t) ≤ length t
+length-lines_of [] = unfold split in zero-le
+length-lines_of (x ∷ t) =
+    let rest = length-lines_of t in
+    if_eq x newline
+    (λ e. omega (arith, ap (λ (s : Split). length s.lines) (split-newline x t e)))
+    (λ n.
+    omega (arith, ap (λ (s : Split). length s.lines) (split-byte x t n), as-many x (lines_of t) (split t).unended))
+  where
+    as-many : (x : ℕ) (ls : List (List ℕ)) (u : List ℕ) → length (led x ls u).lines ≤ length ls
+    as-many x [] u = unfold led in zero-le
+    as-many x (l ∷ ls) u = unfold led in search rules
+
+pub lines_first : {l u : List ℕ} (t : List ℕ) → has newline t ≡ true → l ≡ front newline t → u ≡ rest newline t
+    → lines_of t ≡ l ∷ lines_of u
+lines_first t h e f = rw (e, f) (ap (λ (s : Split). s.lines) (split_ended t (has→lt newline t h)))
 
 -- ---- the first i lines, and what stands after them
 -- Every line is ended.
@@ -207,13 +233,9 @@ after-nil (suc i) =
 
 -- What is left of a text, with n lines still to pass.
 module _ {r : List ℕ} (n : ℕ) (t : List ℕ) (whole : after n t ≡ r) where
-  pub after_next : {u : List ℕ} → 0 < n → u ≡ rest newline t → after (n - 1) u ≡ r
-  after_next {u} l e =
-      let more : suc (n - 1) ≡ n = omega arith in
-      ap (after (n - 1)) e ∙ one (n - 1) t ∙ ap (λ (k : ℕ). after k t) more ∙ whole
-    where
-      one : (i : ℕ) (t : List ℕ) → after i (rest newline t) ≡ after (suc i) t
-      one i t = unfold after in refl
+  pub after_next : {u : List ℕ} (m : ℕ) → n ≡ suc m → u ≡ rest newline t → after m u ≡ r
+  unfolding after
+  after_next m more e = rw (e, ← whole, more)
 
   pub after_end : n ≤ 0 → t ≡ r
   unfolding after
@@ -221,10 +243,13 @@ module _ {r : List ℕ} (n : ℕ) (t : List ℕ) (whole : after n t ≡ r) where
       let none : 0 ≡ n = omega arith in
       ap (λ (k : ℕ). after k t) none ∙ whole
 
-  pub after_empty : length t ≡ 0 → t ≡ r
-  after_empty z =
-      let none = length_none t (omega arith) in
-      none ∙ sym (after-nil n) ∙ ap (after n) (sym none) ∙ whole
+  pub after_unended : 0 < n → has newline t ≡ false → [] ≡ r
+  unfolding after
+  after_unended some h =
+      let more : suc (n - 1) ≡ n = omega arith in
+      sym (ap (after (n - 1)) (rest-none newline t (has→le newline t h)) ∙ after-nil (n - 1))
+      ∙ ap (λ (k : ℕ). after k t) more
+      ∙ whole
 
 -- ---- line i
 first : (i : ℕ) (t : List ℕ) → get_or (lines_of (after i t)) 0 [] ≡ get_or (lines_of t) i []
@@ -248,3 +273,13 @@ module _ {u : List ℕ} (i : ℕ) (t : List ℕ) (e : u ≡ after i t) where
       sym (ap (λ (s : Split). get_or s.lines 0 []) (split-unended u (has→le newline u h)))
       ∙ ap (λ (v : List ℕ). get_or (lines_of v) 0 []) e
       ∙ first i t
+
+pub line_at-nth : (i : ℕ) (t : List ℕ) (r : Option (Bor (List ℕ))) (d : Bor (List ℕ)) → d.now ≡ []
+    → option_map (λ l. l.now) r ≡ slice_get (lines_of t) i → (unwrap_or r d).now ≡ line_at i t
+unfolding line_at
+line_at-nth i t r d none e = read r e ∙ unwrap_or-slice_get (lines_of t) i []
+  where
+    read : (r : Option (Bor (List ℕ))) {s : Option (List ℕ)} → option_map (λ l. l.now) r ≡ s
+        → (unwrap_or r d).now ≡ unwrap_or s []
+    read None e = rw (← e) none
+    read (Some l) e = rw (← e)

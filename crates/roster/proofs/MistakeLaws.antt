@@ -1,23 +1,25 @@
 -- What is told of a line, test by test; and of a plant's line no mistake is told that has a name. Assumes nothing.
 use Prim.Native.Nat.{ℕ, zero, suc, ◌+◌, ◌-◌, ◌<◌, ◌≤◌}
-use mathlib.Core.Bool.{true, false, not}
+use mathlib.Core.Bool.{Bool, true, false, not, ◌&&◌}
+use Rattle.std.proofs.lemmas.Bool.Decides.{nat_tests}
+use Rattle.std.specs.List.{list_any, ends_with}
 use mathlib.Core.List.{List, [], ◌∷◌}
 use mathlib.Core.Path.{◌≡◌, refl, sym, ap, ◌∙◌}
 use native.Mathlib.Omega.{arith}
 use lib.Dec.{eqb, ltb, leb}
-use lib.ListN.{length, get_or, drop, length-drop}
-use lib.Seq.{get_or-drop}
-use borrow.Author.Tests.{not-true, eq-eqb, ne_eqb, ltb-true, leb-true, le-ltb, le-leb, lt-leb}
+use lib.ListN.{length, get_or, drop, length-drop, drop_of_length-le}
+use lib.Seq.{get_or-drop, drop-cons}
+use borrow.Author.Tests.{not-true, eq-eqb, ne_eqb, ltb-true, leb-true, lt-ltb, le-ltb, le-leb, lt-leb}
 use Rattle.choice.specs.Tests.{◌also◌, choose}
 use Rattle.choice.proofs.Splitting.{if_test, if_eq}
-use Rattle.choice.proofs.TestsLaws.{worked-out, also_l, also_r, either_f, choose_t, choose_f}
+use Rattle.choice.proofs.TestsLaws.{also_l, also_r, either_t, either_f, choose_t, choose_f}
 use Rattle.roster.specs.declared.mistake.Mistake.{Mistake}
 use Rattle.roster.specs.declared.mistake.Mistake.TheVariants.{Comment, Return, Space, Long, Form}
-use Rattle.roster.specs.Bytes.{span, front, rest}
+use Rattle.roster.specs.Bytes.{span, rest}
 use Rattle.roster.specs.Search.{has}
 use Rattle.roster.specs.Plants.{longest_book_path, longest_checkpoint_path, space, visible, is_word, book_of, checkpoint_of, is_comment, is_plant}
 use Rattle.roster.specs.Mistake.{return, last_byte, spaces, is_long, mistake_in}
-use Rattle.roster.proofs.BytesLaws.{length_none, span-zero, span-suc, span-nil, has→lt, has→le, rest-none}
+use Rattle.roster.proofs.BytesLaws.{span-zero, span-suc, span-nil, has→lt, has→le, rest-none}
 
 -- ---- spaces are counted
 spaces_here : (b : ℕ) (l : List ℕ) → b ≡ space → spaces (b ∷ l) ≡ suc (spaces l)
@@ -69,14 +71,44 @@ spaces_second l =
     (λ h. absurd (omega (arith, no_more, has→lt space behind h)))
     (λ h. lt-leb 2 (spaces l) (omega (arith, spaces-none l (has→le space l none))) ∙ sym h))
 
--- ---- what is told, test by test
-pub mistake_in-nil : (l : List ℕ) → length l ≡ 0 → Form ≡ mistake_in l
-mistake_in-nil l z =
-    nothing ∙ ap mistake_in (sym (length_none l (omega arith)))
-  where
-    nothing : Form ≡ mistake_in []
-    nothing = unfold mistake_in is_comment spaces is_long book_of checkpoint_of front rest span in sym (simp worked-out)
+-- ---- the lengths of the two paths
+module _ (l : List ℕ) where
+  pub is_long_book : {b : List ℕ} → b ≡ book_of l → longest_book_path < length b → true ≡ is_long l
+  unfolding is_long
+  is_long_book e m = sym (either_t _ (lt-ltb longest_book_path (length (book_of l)) (rw e at m)))
 
+  pub is_long_checkpoint : {b c : List ℕ} → b ≡ book_of l → length b ≤ longest_book_path → c ≡ checkpoint_of l
+      → ltb longest_checkpoint_path (length c) ≡ is_long l
+  unfolding is_long
+  is_long_checkpoint e m f =
+      rw f (sym (either_f (le-ltb longest_book_path (length (book_of l)) (rw e at m)) refl))
+
+pub ruleset long_tests = (is_long_book, is_long_checkpoint)
+
+-- ---- the tests as `contains` and `ends_with` answer them
+pub list_any-has : (b : ℕ) (xs : List ℕ) → list_any (λ x. eqb x b) xs ≡ has b xs
+unfolding has
+list_any-has b [] = sym (le-ltb (span b []) 0 (omega arith))
+list_any-has b (x ∷ xs) =
+    if_eq x b
+    (λ e. rw (eq-eqb x b e) (sym (lt-ltb (span b (x ∷ xs)) (length (x ∷ xs)) (omega (arith, span-zero b x xs e)))))
+    (λ n.
+    let on : ltb (span b xs) (length xs) ≡ ltb (suc (span b xs)) (length (x ∷ xs)) = grind (arith, nat_tests) in
+    rw (ne_eqb x b n, span-suc b x xs n) (list_any-has b xs ∙ on))
+
+pub ends_with-last_byte : (l : List ℕ) → ends_with eqb l (return ∷ []) ≡ eqb (last_byte l) return
+ends_with-last_byte [] = refl
+ends_with-last_byte (x ∷ l) =
+    let last : suc (length l) - 1 ≡ length l = omega arith in
+    let within : length l < length (x ∷ l) = omega arith in
+    rw (last, drop-cons (x ∷ l) (length l) 0 within, drop_of_length-le (x ∷ l) {i = suc (length l)} (omega arith))
+    (swapped (get_or (x ∷ l) (length l) 0))
+  where
+    swapped : (b : ℕ) → (eqb return b && true) ≡ eqb b return
+    swapped b =
+        if_eq b return (λ e. rw e refl) (λ n. rw (ne_eqb b return n, ne_eqb return b (λ e. n (sym e))) refl)
+
+-- ---- what is told, test by test
 module _ (l : List ℕ) where
   pub mistake_in_comment : is_comment l ≡ true → Comment ≡ mistake_in l
   unfolding mistake_in
@@ -88,21 +120,22 @@ module _ (l : List ℕ) where
     unfolding mistake_in
     later e = sym (choose_f Comment no-comment e)
 
-    pub mistake_in-return : last_byte l ≡ return → Return ≡ mistake_in l
-    mistake_in-return e = later (choose_t _ (eq-eqb (last_byte l) return e) refl)
+    pub mistake_in-return : ends_with eqb l (return ∷ []) ≡ true → Return ≡ mistake_in l
+    mistake_in-return e = later (choose_t _ (sym (ends_with-last_byte l) ∙ e) refl)
 
-    module _ (no_return : last_byte l ≡ return → ⊥) {c : List ℕ} (checkpoint : c ≡ checkpoint_of l) where
-      second : leb 2 (spaces l) ≡ has space c
-      second = spaces_second l ∙ ap (has space) (sym checkpoint)
+    module _ (no_return : ends_with eqb l (return ∷ []) ≡ false) {c : List ℕ} (checkpoint : c ≡ checkpoint_of l) where
+      second : {r : Bool} → list_any (λ x. eqb x space) c ≡ r → leb 2 (spaces l) ≡ r
+      second h = spaces_second l ∙ ap (has space) (sym checkpoint) ∙ sym (list_any-has space c) ∙ h
 
-      pub mistake_in-space : has space c ≡ true → Space ≡ mistake_in l
+      pub mistake_in-space : list_any (λ x. eqb x space) c ≡ true → Space ≡ mistake_in l
       mistake_in-space h =
-          later (choose_f Return (ne_eqb (last_byte l) return no_return) (choose_t _ (second ∙ h) refl))
+          later (choose_f Return (sym (ends_with-last_byte l) ∙ no_return) (choose_t _ (second h) refl))
 
-      module _ (no-space : has space c ≡ false) where
+      module _ (no-space : list_any (λ x. eqb x space) c ≡ false) where
         last : {r : Mistake} → choose (is_long l) Long Form ≡ r → r ≡ mistake_in l
         last e =
-            later (choose_f Return (ne_eqb (last_byte l) return no_return) (choose_f Space (second ∙ no-space) e))
+            later
+            (choose_f Return (sym (ends_with-last_byte l) ∙ no_return) (choose_f Space (second no-space) e))
 
         pub mistake_in_long : is_long l ≡ true → Long ≡ mistake_in l
         mistake_in_long h = last (choose_t Form h refl)
@@ -169,5 +202,6 @@ mistake_in_plant l h =
     (le-ltb longest_checkpoint_path (length (checkpoint_of l)) checkpoint.few) in
     let no-comment = not-true (is_comment l) (also_r (book-fits also checkpoint-fits) (not (is_comment l)) h) in
     sym (mistake_in_form l no-comment
-    (λ e. omega (arith, end, last_checkpoint l checkpoint.some, e)) refl
-    (has-visible (checkpoint_of l) checkpoint.seen) short)
+    (ends_with-last_byte l
+    ∙ ne_eqb (last_byte l) return (λ e. omega (arith, end, last_checkpoint l checkpoint.some, e))) refl
+    (list_any-has space (checkpoint_of l) ∙ has-visible (checkpoint_of l) checkpoint.seen) short)

@@ -1,50 +1,38 @@
 -- The place that a text keeps is the index of its last line that is in the list; turned round so that a plant
 -- stands last, a list keeps that plant's. Assumes nothing.
 use Prim.Native.Nat.{ℕ, suc, ◌+◌, ◌<◌, ◌≤◌}
-use mathlib.Core.Bool.{true, false}
 use mathlib.Core.List.Memᴰ
-use mathlib.Core.List.{List, [], ◌∷◌, ◌++◌, map, append_assoc, Memᴰ}
+use mathlib.Core.List.{List, [], ◌∷◌, ◌++◌, append_assoc, Memᴰ}
 use mathlib.Core.Path.{◌≡◌, refl, sym, ap, ap₂, ◌∙◌}
 use native.Mathlib.Omega.{arith}
 use lib.ListN.{length, get_or, take, drop}
 use lib.Seq.{take-suc}
+use Rattle.std.specs.Prelude.{Ok}
 use Rattle.choice.proofs.Splitting.{if_test, if_lt}
 use Rattle.choice.proofs.TestsLaws.{choose_f}
-use Rattle.roster.specs.declared.plants.Part.TheVariants.{Line}
-use Rattle.roster.specs.declared.plants.Listed.TheVariants.{Plants}
-use Rattle.roster.specs.Bytes.{front, rest, same}
-use Rattle.roster.specs.Lines.{newline, Split, lines_of, line_at, after, through}
+use Rattle.roster.specs.Bytes.{same}
+use Rattle.roster.specs.Lines.{lines_of, line_at, after, through}
 use Rattle.roster.specs.Plants.{most_plants, checkpoint_of, index_from, verdict_on}
-use Rattle.roster.specs.Search.{has, part_of}
 use Rattle.roster.specs.Place.{kept, none, place_from, placed}
-use Rattle.roster.proofs.BytesLaws.{has→lt, has→le, same→eq}
-use Rattle.roster.proofs.LinesLaws.{split_ended, split-unended, lines_after, lines-through, lines-append, unended-after}
+use Rattle.roster.proofs.BytesLaws.{same→eq}
+use Rattle.roster.proofs.LinesLaws.{lines_after, lines-through, lines-append, unended-after}
 use Rattle.roster.proofs.PlantsLaws.{first, if_among}
 use Rattle.roster.proofs.ToldLaws.{verdict_on-up_to, verdict_on_count, verdict_on-whole}
 
--- ---- one line more of a kept text, of which t is left
-whole-lines : (ls : List (List ℕ)) → map (part_of Line) ls ≡ ls
-whole-lines [] = refl
-whole-lines (l ∷ ls) = ap (λ (ms : List (List ℕ)). l ∷ ms) (whole-lines ls)
-
-module _ {r : ℕ} (p : ℕ) (ls : List (List ℕ)) (t : List ℕ) (whole : place_from p ls (lines_of t) ≡ r) where
-  pub place_next : {q : ℕ} {l u : List ℕ} → has newline t ≡ true → l ≡ front newline t
-      → q ≡ index_from 0 p l (map (part_of Line) ls) → u ≡ rest newline t → place_from q ls (lines_of u) ≡ r
+-- ---- one line more of a kept text, of which the lines ks are left
+module _ {r : ℕ} (p : ℕ) (ls : List (List ℕ)) {ks : List (List ℕ)} (whole : place_from p ls ks ≡ r) where
+  pub place_next : {q : ℕ} {l : List ℕ} {ms : List (List ℕ)} → ks ≡ l ∷ ms → q ≡ index_from 0 p l ls
+      → place_from q ls ms ≡ r
   unfolding place_from
-  place_next {q} {l} {u} h e f g =
-      let index : q ≡ index_from 0 p (front newline t) ls = f ∙ ap₂ (index_from 0 p) e (whole-lines ls) in
-      ap₂ (λ (p : ℕ) (u : List ℕ). place_from p ls (lines_of u)) index g
-      ∙ ap (λ (s : Split). place_from p ls s.lines) (sym (split_ended t (has→lt newline t h)))
-      ∙ whole
+  place_next e f = rw (f, ← whole, e)
 
-  pub place_end : has newline t ≡ false → p ≡ r
+  pub place_end : ks ≡ [] → p ≡ r
   unfolding place_from
-  place_end h =
-      ap (λ (s : Split). place_from p ls s.lines) (sym (split-unended t (has→le newline t h))) ∙ whole
+  place_end e = rw (← whole, e)
 
 -- ---- a plant's line in a right list
 -- A right list's line first stands where it stands.
-index_right : (t : List ℕ) (n : ℕ) → verdict_on t ≡ Plants n → (p i : ℕ) → i < n
+index_right : (t : List ℕ) (n : ℕ) → verdict_on t ≡ Ok n → (p i : ℕ) → i < n
     → index_from 0 p (line_at i t) (lines_of t) ≡ i
 unfolding line_at
 index_right t n e p i l =
@@ -94,7 +82,7 @@ pub placed-none : (u k : List ℕ) → ((l : List ℕ) → Memᴰ l (lines_of k)
 unfolding placed
 placed-none u k out = place_from_absent none (lines_of u) (lines_of k) out
 
-pub placed_last : (u : List ℕ) (m : ℕ) → verdict_on u ≡ Plants m
+pub placed_last : (u : List ℕ) (m : ℕ) → verdict_on u ≡ Ok m
     → (k : List ℕ) (before gone : List (List ℕ)) (line : List ℕ) → lines_of k ≡ before ++ line ∷ gone
     → ((l : List ℕ) → Memᴰ l gone → Memᴰ l (lines_of u) → ⊥)
     → (j : ℕ) → j < m → line_at j u ≡ line → placed u k ≡ j
@@ -106,7 +94,7 @@ placed_last u m f k before gone line e out j h same_line =
     ∙ index_right u m f (place_from none (lines_of u) before) j h
 
 -- ---- the kept text
-lines-kept : (t : List ℕ) (n : ℕ) → verdict_on t ≡ Plants n → (i : ℕ) → i < n
+lines-kept : (t : List ℕ) (n : ℕ) → verdict_on t ≡ Ok n → (i : ℕ) → i < n
     → lines_of (kept i t) ≡ drop (suc i) (lines_of t) ++ take i (lines_of t) ++ line_at i t ∷ []
 unfolding kept line_at
 lines-kept t n e i l =
@@ -117,8 +105,8 @@ lines-kept t n e i l =
     ∙ sym (append_assoc (drop (suc i) ls) (take i ls) (get_or ls i [] ∷ []))
 
 -- The list may have changed meanwhile from t to u: the plant is found where it now stands.
-pub placed-kept : (t : List ℕ) (n : ℕ) → verdict_on t ≡ Plants n → (i : ℕ) → i < n
-    → (u : List ℕ) (m : ℕ) → verdict_on u ≡ Plants m → (j : ℕ) → j < m
+pub placed-kept : (t : List ℕ) (n : ℕ) → verdict_on t ≡ Ok n → (i : ℕ) → i < n
+    → (u : List ℕ) (m : ℕ) → verdict_on u ≡ Ok m → (j : ℕ) → j < m
     → line_at j u ≡ line_at i t → placed u (kept i t) ≡ j
 placed-kept t n e i l u m f =
     placed_last u m f (kept i t) (drop (suc i) (lines_of t) ++ take i (lines_of t)) [] (line_at i t)
@@ -136,7 +124,7 @@ place_from-lt b p ls [] most l = l
 place_from-lt b p ls (k ∷ ks) most l =
     place_from-lt b (index_from 0 p k ls) ls ks most (index_lt b 0 p k ls (omega arith) l)
 
-pub placed-lt : (t : List ℕ) (n : ℕ) → verdict_on t ≡ Plants n → (k : List ℕ) → placed t k < most_plants
+pub placed-lt : (t : List ℕ) (n : ℕ) → verdict_on t ≡ Ok n → (k : List ℕ) → placed t k < most_plants
 unfolding placed
 placed-lt t n e k =
     place_from-lt most_plants none (lines_of t) (lines_of k)

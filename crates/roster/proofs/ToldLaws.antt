@@ -8,9 +8,10 @@ use mathlib.Core.Path.{◌≡◌, refl, sym, ap, subst, ◌∙◌}
 use native.Mathlib.Omega.{arith}
 use lib.ListN.{length, get_or, length-map, length-drop}
 use borrow.Author.Tests.{lt-ltb, ltb-true}
+use Rattle.std.specs.Prelude.{Result, Ok, Err}
 use Rattle.choice.proofs.Splitting.{if_test, if_lt}
-use Rattle.roster.specs.declared.plants.Listed.{Listed}
-use Rattle.roster.specs.declared.plants.Listed.TheVariants.{Plants, Wrong, Again, Many}
+use Rattle.roster.specs.declared.plants.Fault.{Fault}
+use Rattle.roster.specs.declared.plants.Fault.TheVariants.{Wrong, Again, Many}
 use Rattle.roster.specs.Search.{has}
 use Rattle.roster.specs.Lines.{newline, split, lines_of, line_at, after}
 use Rattle.roster.specs.Plants.{most_plants, checkpoint_of, is_plant, named_before, verdict_from, verdict_on}
@@ -21,15 +22,15 @@ use Rattle.roster.proofs.PlantsLaws.{is_plant-nil, first, if_among, get_d_checkp
 use Rattle.roster.proofs.VerdictLaws.{verdict_on_end, verdict_on-unended, verdict_on_many, verdict_on_wrong, verdict_on_again, verdict_on_next}
 
 -- What each answer says of a list. What isn't a line is no plant's: unended text is told as a wrong line.
-abbrev pub Says : List ℕ → Listed → Type 0
-Says t (Plants n) = RightUpTo t n × (after n t ≡ [])
-Says t (Wrong i) = RightUpTo t i × (i < most_plants) × (0 < length (after i t)) × (is_plant (line_at i t) ≡ false)
-Says t (Again i) =
+abbrev pub Says : List ℕ → Result ℕ Fault → Type 0
+Says t (Ok n) = RightUpTo t n × (after n t ≡ [])
+Says t (Err (Wrong i)) = RightUpTo t i × (i < most_plants) × (0 < length (after i t)) × (is_plant (line_at i t) ≡ false)
+Says t (Err (Again i)) =
     RightUpTo t i
     × (i < most_plants)
     × (is_plant (line_at i t) ≡ true)
     × ((j : ℕ) × (j < i) × (checkpoint_of (line_at j t) ≡ checkpoint_of (line_at i t)))
-Says t Many = RightUpTo t most_plants × (0 < length (after most_plants t))
+Says t (Err Many) = RightUpTo t most_plants × (0 < length (after most_plants t))
 
 abbrev checkpoints : List ℕ → List (List ℕ)
 checkpoints t = map checkpoint_of (lines_of t)
@@ -173,31 +174,31 @@ says_verdict_on : (t : List ℕ) → Says t (verdict_on t)
 says_verdict_on t = says_from t most_plants 0 (omega arith) (up_to-zero t) (left_zero t)
 
 -- ---- the answer that is true is told
-verdict_on_says : (t : List ℕ) (r : Listed) → Says t r → verdict_on t ≡ r
-verdict_on_says t (Plants n) (r, e) =
+verdict_on_says : (t : List ℕ) (r : Result ℕ Fault) → Says t r → verdict_on t ≡ r
+verdict_on_says t (Ok n) (r, e) =
     sym (verdict_on_end (checkpoints t) n (after n t) (left_up_to t n r) (omega (arith, ap length e)))
-verdict_on_says t (Wrong i) (r, few, some, other) =
+verdict_on_says t (Err (Wrong i)) (r, few, some, other) =
     let left = left_up_to t i r in
     if_test (has newline (after i t))
     (λ h. sym (verdict_on_wrong (checkpoints t) i (after i t) left h (sym (line_at_ended i t refl h)) few other))
     (λ h. sym (verdict_on-unended (checkpoints t) i (after i t) left h some few))
-verdict_on_says t (Again i) (r, few, plant, named) =
+verdict_on_says t (Err (Again i)) (r, few, plant, named) =
     if_test (has newline (after i t))
     (λ h.
     let line = sym (line_at_ended i t refl h) in
     let before = named→named_before t i (lines_some i t h) named in
     sym (verdict_on_again (checkpoints t) i (after i t) (left_up_to t i r) h line few plant before))
     (λ h. absurd (false≢true (sym (plant_none t i h) ∙ plant)))
-verdict_on_says t Many (r, some) =
+verdict_on_says t (Err Many) (r, some) =
     sym (verdict_on_many (checkpoints t) most_plants (after most_plants t) (left_up_to t most_plants r) some (omega arith))
 
-pub verdict_on↔says : (t : List ℕ) (r : Listed) → (verdict_on t ≡ r) ↔ Says t r
+pub verdict_on↔says : (t : List ℕ) (r : Result ℕ Fault) → (verdict_on t ≡ r) ↔ Says t r
 verdict_on↔says t r = (λ e. subst (Says t) e (says_verdict_on t), verdict_on_says t r)
 
 -- ---- a list t of n plants
-module _ (t : List ℕ) (n : ℕ) (e : verdict_on t ≡ Plants n) where
-  says : Says t (Plants n)
-  says = (verdict_on↔says t (Plants n)).0 e
+module _ (t : List ℕ) (n : ℕ) (e : verdict_on t ≡ Ok n) where
+  says : Says t (Ok n)
+  says = (verdict_on↔says t (Ok n)).0 e
 
   pub verdict_on-up_to : RightUpTo t n
   verdict_on-up_to = says.0

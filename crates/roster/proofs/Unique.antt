@@ -1,7 +1,6 @@
 -- Two results that a public contract allows are equal. `Post` is the contract's own reading.
 -- Assumes nothing.
 use mathlib.Core.Path.{◌≡◌, sym, ◌∙◌}
-use Rattle.roster.proofs.bytes.are_same.Reads as are-same
 use Rattle.roster.proofs.lines.take_line.Reads as take-line
 use Rattle.roster.proofs.lines.take_after.Reads as take_after
 use Rattle.roster.proofs.lines.take_through.Reads as take-through
@@ -10,10 +9,6 @@ use Rattle.roster.proofs.plants.take_book.Reads as take-book
 use Rattle.roster.proofs.plants.take_checkpoint.Reads as take-checkpoint
 use Rattle.roster.proofs.mistake.find.Reads as find-mistake
 use Rattle.roster.proofs.place.find.Reads as find
-
-pub are_same_unique : (κs : _) (a : _) (r s : _) (x y : _)
-    → are-same.Post κs a r x → are-same.Post κs a s y → r ≡ s
-are_same_unique κs a r s x y p q = p ∙ sym q
 
 pub take-line_unique : (κs : _) (a : _) (r s : _) (x y : _)
     → take-line.Post κs a r x → take-line.Post κs a s y → r.now ≡ s.now

@@ -15,13 +15,13 @@
 --     named_before cs i l         a line before line i names the CHECKPOINT of l, cs being those of the whole list
 --     verdict_from cs i ls u      what is told of the lines ls, the first of them line i of the list, and of the
 --                                 unended u after them, cs being the CHECKPOINTs of the whole list
---     verdict_on t                what is told of the list t
+--     verdict_on t                what is told of the list t: how many plants it names, or its first fault
 --
 -- Laws: proofs/PlantsLaws.antt, proofs/VerdictLaws.antt, proofs/ToldLaws.antt. Definitions only.
-use Rattle.std.specs.Prelude.{ℕ, suc, Bool, true, not, List, [], ◌∷◌, map, nat_eq, nat_lt, nat_le, length, slice_index}
+use Rattle.std.specs.Prelude.{ℕ, suc, Bool, true, not, List, [], ◌∷◌, map, nat_eq, nat_lt, nat_le, length, slice_index, Result, Ok, Err}
 use Rattle.choice.specs.Tests.{◌also◌, choose}
-use Rattle.roster.specs.declared.plants.Listed.{Listed}
-use Rattle.roster.specs.declared.plants.Listed.TheVariants.{Plants, Wrong, Again, Many}
+use Rattle.roster.specs.declared.plants.Fault.{Fault}
+use Rattle.roster.specs.declared.plants.Fault.TheVariants.{Wrong, Again, Many}
 use Rattle.roster.specs.Bytes.{front, rest, same}
 use Rattle.roster.specs.Lines.{split, lines_of}
 
@@ -71,15 +71,15 @@ index_from j n w (x ∷ ws) = choose (same x w) j (index_from (suc j) n w ws)
 unfoldable pub named_before : List (List ℕ) → ℕ → List ℕ → Bool
 named_before cs i l = nat_lt (index_from 0 i (checkpoint_of l) cs) i
 
-unfoldable pub verdict_from : List (List ℕ) → ℕ → List (List ℕ) → List ℕ → Listed
-verdict_from cs i [] [] = Plants i
-verdict_from cs i [] (x ∷ u) = choose (nat_lt i most_plants) (Wrong i) Many
+unfoldable pub verdict_from : List (List ℕ) → ℕ → List (List ℕ) → List ℕ → Result ℕ Fault
+verdict_from cs i [] [] = Ok i
+verdict_from cs i [] (x ∷ u) = choose (nat_lt i most_plants) (Err (Wrong i)) (Err Many)
 verdict_from cs i (l ∷ ls) u =
     choose (nat_lt i most_plants)
     (choose (is_plant l)
-    (choose (named_before cs i l) (Again i) (verdict_from cs (suc i) ls u))
-    (Wrong i))
-    Many
+    (choose (named_before cs i l) (Err (Again i)) (verdict_from cs (suc i) ls u))
+    (Err (Wrong i)))
+    (Err Many)
 
-unfoldable pub verdict_on : List ℕ → Listed
+unfoldable pub verdict_on : List ℕ → Result ℕ Fault
 verdict_on t = verdict_from (map checkpoint_of (lines_of t)) 0 (lines_of t) (split t).unended

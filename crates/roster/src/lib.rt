@@ -2,7 +2,7 @@
 // Slices in, slices and numbers out. Nothing here asks anything of its caller.
 #![tactic(auto)]
 
-pub mod bytes;
+mod bytes;
 pub mod lines;
 pub mod mistake;
 pub mod place;

@@ -2,7 +2,7 @@
 ghost use Rattle.std.specs.Prelude.{◌≡◌};
 ghost use Rattle.roster.specs.Mistake.{is_long, mistake_in};
 
-use crate::{bytes, plants};
+use crate::plants;
 
 #[derive(Clone, Copy)]
 pub enum Mistake {
@@ -18,24 +18,18 @@ pub enum Mistake {
     Form,
 }
 
-const RETURN: u8 = 13;
-
 // The first mistake that a line shows. One that is a plant's may be asked too: it shows none that has a name.
 pub fn find(line: &[u8]) -> Mistake
     ensures mistake { result ≡ mistake_in line.now }
 {
-    let n = line.len();
-    if n == 0 {
-        return Mistake::Form;
-    }
     if plants::is_comment(line) {
         return Mistake::Comment;
     }
-    if line[n - 1] == RETURN {
+    if line.ends_with(b"\r") {
         return Mistake::Return;
     }
     // A second space stands behind the first, in what is named as CHECKPOINT.
-    if bytes::has_byte(plants::take_checkpoint(line), plants::SPACE) {
+    if plants::take_checkpoint(line).contains(&plants::SPACE) {
         return Mistake::Space;
     }
     if is_long(line) {
@@ -44,10 +38,10 @@ pub fn find(line: &[u8]) -> Mistake
     Mistake::Form
 }
 
+#[tactic(auto, using(crate::proofs::MistakeLaws::long_tests))]
 fn is_long(line: &[u8]) -> bool
     ensures long { result ≡ is_long line.now }
 {
-    let book = plants::take_book(line);
-    let checkpoint = plants::take_checkpoint(line);
-    (plants::LONGEST_BOOK_PATH < book.len()) | (plants::LONGEST_CHECKPOINT_PATH < checkpoint.len())
+    plants::LONGEST_BOOK_PATH < plants::take_book(line).len()
+        || plants::LONGEST_CHECKPOINT_PATH < plants::take_checkpoint(line).len()
 }

@@ -2,8 +2,7 @@
 ghost use Rattle.std.specs.Prelude.{◌≡◌};
 ghost use Rattle.roster.specs.Place.{placed};
 
-use crate::plants::Part;
-use crate::{bytes, lines, plants};
+use crate::lines::Lines;
 
 // If the kept text says nothing of the list, slot 15 counts as served last: the round begins at slot 0.
 const NONE: usize = 15;
@@ -12,13 +11,11 @@ const NONE: usize = 15;
 pub fn find(list: &[u8], kept: &[u8]) -> usize
     ensures place { result ≡ placed list.now kept.now }
 {
-    let mut left = kept;
     let mut place = NONE;
-    while bytes::has_byte(left, lines::NEWLINE) {
-        let line = bytes::take_front(left, lines::NEWLINE);
-        place = plants::find(list, Part::Line, line, place);
-        let next = bytes::take_rest(left, lines::NEWLINE);
-        left = next;
+    for line in Lines(kept) {
+        place = Lines(list)
+            .position(|listed| listed == line)
+            .unwrap_or(place);
     }
     place
 }

@@ -10,7 +10,7 @@ use files::ended::Ended;
 use files::save::LONGEST_SAVED;
 use files::{arguments, ended};
 use roster::plants;
-use roster::plants::Listed;
+use roster::plants::Fault;
 use std::random::RandomSource;
 use std::rt::{Env, Files};
 use text::budget;
@@ -81,17 +81,20 @@ fn judge<R: Files + Print + Alloc + RandomSource + Complain>(
     path: &[u8],
     b: u32,
 ) -> Ended {
-    let listed = plants::judge(list);
-    match listed {
-        Listed::Plants(n) => round::run(rt, list, n as usize, path, b),
-        Listed::Wrong(_) => complain(rt, list, path, listed),
-        Listed::Again(_) => complain(rt, list, path, listed),
-        Listed::Many => complain(rt, list, path, listed),
+    let verdict = plants::judge(list);
+    match verdict {
+        Ok(n) => round::run(rt, list, n as usize, path, b),
+        Err(_) => complain(rt, list, path, verdict),
     }
 }
 
-fn complain<R: Complain>(rt: &R, list: &[u8], path: &[u8], listed: Listed) -> Ended {
+fn complain<R: Complain>(
+    rt: &R,
+    list: &[u8],
+    path: &[u8],
+    verdict: Result<u8, Fault>,
+) -> Ended {
     rt.complain(path);
-    files::tell_page(rt, b"", b": ", text::plants::tell_fault(list, listed));
+    files::tell_page(rt, b"", b": ", text::plants::tell_fault(list, verdict));
     Ended::Failed
 }

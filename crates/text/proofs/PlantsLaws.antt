@@ -1,41 +1,50 @@
 -- What is told of each mistake and of each verdict on a list, and how long it is at most. Assumes nothing.
 use Prim.Native.Nat.{ℕ, ◌+◌}
 use mathlib.Core.List.{List, [], ◌++◌}
-use mathlib.Core.Path.{◌≡◌, sym, ap, ◌∙◌}
+use mathlib.Core.Path.{◌≡◌}
 use native.Mathlib.Omega.{arith}
 use Rattle.roster.specs.declared.mistake.Mistake.{Mistake}
 use Rattle.roster.specs.declared.mistake.Mistake.TheVariants.{Comment, Return, Space, Long, Form}
-use Rattle.roster.specs.declared.plants.Listed.{Listed}
-use Rattle.roster.specs.declared.plants.Listed.TheVariants.{Plants, Wrong, Again, Many}
+use Rattle.std.specs.Prelude.{Result, Ok, Err}
+use Rattle.roster.specs.declared.plants.Fault.{Fault}
+use Rattle.roster.specs.declared.plants.Fault.TheVariants.{Wrong, Again, Many}
 use Rattle.roster.specs.Lines.{line_at}
 use Rattle.roster.specs.Mistake.{mistake_in}
 use Rattle.text.specs.Words.{ascii, field}
 use Rattle.text.specs.Plants.{mistake_text, wrong_text, fault_text}
+use Rattle.text.specs.declared.page.Page.{Page}
+use Rattle.text.specs.Extended.{extended}
+use Rattle.text.proofs.PageLaws.{extended_none}
 use Rattle.text.proofs.WordsLaws.{AtMost, append-le, word-le, field-le, wider}
 
--- The mistake that was found is the one that is told.
-pub wrong_text_found : {x : Mistake} (y : Mistake) (i : ℕ) (l : List ℕ) → x ≡ mistake_in l → x ≡ y
-    → wrong_text i l ≡ field (ascii "line ") (i + 1) ++ mistake_text y
-unfolding wrong_text
-wrong_text_found y i l e d = ap (λ (x : Mistake). field (ascii "line ") (i + 1) ++ mistake_text x) (sym e ∙ d)
+-- What a page has once its line is said. The mistake that was found is the one that is told.
+module _ (p : Page) where
+  pub wrong_text_said : {q : Page} {x : Mistake} {w : List ℕ} (i : ℕ) (l : List ℕ) → x ≡ mistake_in l → w ≡ mistake_text x
+      → q ≡ extended p (field (ascii "line ") (i + 1) ++ w) → q ≡ extended p (wrong_text i l)
+  unfolding wrong_text
+  wrong_text_said i l e d s = rw (← e, ← d) s
 
-module _ (t : List ℕ) {x : Listed} where
-  pub fault_text-plants : {n : ℕ} → x ≡ Plants n → fault_text t x ≡ []
+  pub fault_text_right : (t : List ℕ) (n : ℕ) → p ≡ extended p (fault_text t (Ok n))
   unfolding fault_text
-  fault_text-plants e = ap (fault_text t) e
+  fault_text_right t n = extended_none p
 
-  pub fault_text_wrong : {l : List ℕ} (i : ℕ) → l ≡ line_at i t → x ≡ Wrong i → fault_text t x ≡ wrong_text i l
+  pub fault_text_wrong : {q : Page} {l : List ℕ} (t : List ℕ) (i : ℕ) → l ≡ line_at i t
+      → q ≡ extended p (wrong_text i l) → q ≡ extended p (fault_text t (Err (Wrong i)))
   unfolding fault_text
-  fault_text_wrong i e d = ap (fault_text t) d ∙ ap (wrong_text i) (sym e)
+  fault_text_wrong t i e s = rw (← e) s
 
-  pub fault_text_again : {i : ℕ} → x ≡ Again i
-      → fault_text t x ≡ field (ascii "line ") (i + 1) ++ ascii " names a checkpoint again\n"
+  pub fault_text_again : {q : Page} {x : Result ℕ Fault} {f : Fault} {i : ℕ} (t : List ℕ) → x ≡ Err f → f ≡ Again i
+      → q ≡ extended p (field (ascii "line ") (i + 1) ++ ascii " names a checkpoint again\n")
+      → q ≡ extended p (fault_text t x)
   unfolding fault_text
-  fault_text_again e = ap (fault_text t) e
+  fault_text_again t e d s = rw (e, d) s
 
-  pub fault_text_many : x ≡ Many → fault_text t x ≡ ascii "more than 16 plants\n"
+  pub fault_text_many : {q : Page} {x : Result ℕ Fault} {f : Fault} (t : List ℕ) → x ≡ Err f → f ≡ Many
+      → q ≡ extended p (ascii "more than 16 plants\n") → q ≡ extended p (fault_text t x)
   unfolding fault_text
-  fault_text_many e = ap (fault_text t) e
+  fault_text_many t e d s = rw (e, d) s
+
+pub ruleset fault_steps = (wrong_text_said, fault_text_right, fault_text_wrong)
 
 -- ---- how long it is at most
 mistake_text-le : (x : Mistake) → AtMost 53 (mistake_text x)
@@ -49,10 +58,10 @@ wrong_text-le : (i : ℕ) (l : List ℕ) → AtMost 78 (wrong_text i l)
 unfolding wrong_text
 wrong_text-le i l = append-le (field-le (ascii "line ") (i + 1)) (mistake_text-le (mistake_in l))
 
-pub fault_text-le : (t : List ℕ) (x : Listed) → AtMost 78 (fault_text t x)
+pub fault_text-le : (t : List ℕ) (x : Result ℕ Fault) → AtMost 78 (fault_text t x)
 unfolding fault_text
-fault_text-le t (Plants n) = wider (word-le []) (omega arith)
-fault_text-le t (Wrong i) = wrong_text-le i (line_at i t)
-fault_text-le t (Again i) =
+fault_text-le t (Ok n) = wider (word-le []) (omega arith)
+fault_text-le t (Err (Wrong i)) = wrong_text-le i (line_at i t)
+fault_text-le t (Err (Again i)) =
     wider (append-le (field-le (ascii "line ") (i + 1)) (word-le (ascii " names a checkpoint again\n"))) (omega arith)
-fault_text-le t Many = wider (word-le (ascii "more than 16 plants\n")) (omega arith)
+fault_text-le t (Err Many) = wider (word-le (ascii "more than 16 plants\n")) (omega arith)

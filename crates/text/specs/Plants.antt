@@ -6,11 +6,11 @@
 --                       is right
 --
 -- Laws: proofs/PlantsLaws.antt. Definitions only.
-use Rattle.std.specs.Prelude.{ℕ, ◌+◌, List, [], ◌++◌}
+use Rattle.std.specs.Prelude.{ℕ, ◌+◌, List, [], ◌++◌, Result, Ok, Err}
 use Rattle.roster.specs.declared.mistake.Mistake.{Mistake}
 use Rattle.roster.specs.declared.mistake.Mistake.TheVariants.{Comment, Return, Space, Long, Form}
-use Rattle.roster.specs.declared.plants.Listed.{Listed}
-use Rattle.roster.specs.declared.plants.Listed.TheVariants.{Plants, Wrong, Again, Many}
+use Rattle.roster.specs.declared.plants.Fault.{Fault}
+use Rattle.roster.specs.declared.plants.Fault.TheVariants.{Wrong, Again, Many}
 use Rattle.roster.specs.Lines.{line_at}
 use Rattle.roster.specs.Mistake.{mistake_in}
 use Rattle.text.specs.Words.{ascii, field}
@@ -25,8 +25,8 @@ mistake_text Form = ascii " isn't BOOK CHECKPOINT\n"
 unfoldable pub wrong_text : ℕ → List ℕ → List ℕ
 wrong_text i l = field (ascii "line ") (i + 1) ++ mistake_text (mistake_in l)
 
-unfoldable pub fault_text : List ℕ → Listed → List ℕ
-fault_text t (Plants n) = []
-fault_text t (Wrong i) = wrong_text i (line_at i t)
-fault_text t (Again i) = field (ascii "line ") (i + 1) ++ ascii " names a checkpoint again\n"
-fault_text t Many = ascii "more than 16 plants\n"
+unfoldable pub fault_text : List ℕ → Result ℕ Fault → List ℕ
+fault_text t (Ok n) = []
+fault_text t (Err (Wrong i)) = wrong_text i (line_at i t)
+fault_text t (Err (Again i)) = field (ascii "line ") (i + 1) ++ ascii " names a checkpoint again\n"
+fault_text t (Err Many) = ascii "more than 16 plants\n"

@@ -1,8 +1,17 @@
--- A byte that is passed is above 32. Assumes nothing.
-use Rattle.std.proofs.Common.{arith}
-use Rattle.roster.proofs.PlantsLaws.{visible_next}
+-- Every byte is tested as the definition tests it. Assumes nothing.
+use Rattle.std.proofs.Common.{rules, ltb, ◌∙◌}
+use borrow.Author.Tests.{tests}
+use Rattle.std.proofs.lemmas.Iterator.{YieldsList-from_slice}
+use Rattle.std.proofs.lemmas.Iterator.Search.{all_from_yields_List}
+use Rattle.roster.proofs.PlantsLaws.{list_all-visible}
 use Rattle.roster.proofs.plants.is_visible.Goals as goal
 
-pub loop-i-preserved : goal.loop-i-preserved
-loop-i-preserved c =
-    (omega arith, visible_next c.args.w.now c.loop-i.i c.loop-i.invariant.1 (omega arith) (omega arith))
+pub returns : goal.returns
+returns c =
+    let w = c.args.w.now in
+    record {
+      visible =
+          all_from_yields_List (λ b. ltb 32 b) _ _ c.all.result c.all.ensures.ran
+          (YieldsList-from_slice w c.iter.ensures.rest) (λ x b q k. search (rules, tests))
+          ∙ list_all-visible w;
+    }
