@@ -9,14 +9,11 @@ use mathlib.Core.Path.{◌≡◌, refl, ap, sym, ◌∙◌}
 use native.Mathlib.Omega.{arith}
 use lib.ListN.{length, take, length-append}
 use Rattle.choice.proofs.Splitting.{if_test, if_lt, if_eq}
-use Rattle.queue.specs.declared.slots.Slot.TheVariants.{Free, Book}
+use Rattle.std.specs.Prelude.{Some, None, Err}
 use Rattle.queue.specs.declared.slots.Queue.{Queue}
 use Rattle.queue.specs.declared.reply.Refusal.{Refusal}
 use Rattle.queue.specs.declared.reply.Refusal.TheVariants.{NoBudget, NothingLeft}
-use Rattle.queue.specs.declared.reply.Turned.TheVariants.{NotTurned}
-use Rattle.queue.specs.declared.reply.AfterAdd.{AfterAdd}
-use Rattle.queue.specs.declared.reply.AfterRemove.{AfterRemove}
-use Rattle.queue.specs.declared.reply.AfterTurn.{AfterTurn}
+use Rattle.queue.specs.Reply.{Added, Removed, Turned, Outcome}
 use Rattle.queue.specs.Slots.{slot_count, slot_at, is_free, left_in, free_at, stored}
 use Rattle.queue.specs.Books.{lowest_free, added, removed}
 use Rattle.queue.specs.Round.{onward, passed_over, next_up, moved_at, served, turned}
@@ -37,15 +34,15 @@ last_added : (q : Queue) (n : ℕ) → (added q n).queue.last ≡ q.last
 unfolding stored
 last_added q n =
     if_lt (lowest_free q) slot_count
-    (λ l. ap (λ (r : AfterAdd). r.queue.last) (added_at q n l))
-    (λ l. ap (λ (r : AfterAdd). r.queue.last) (added_full q n l))
+    (λ l. ap (λ (r : Outcome Added). r.queue.last) (added_at q n l))
+    (λ l. ap (λ (r : Outcome Added). r.queue.last) (added_full q n l))
 
 last_removed : (q : Queue) (i : ℕ) → (removed q i).queue.last ≡ q.last
 unfolding stored
 last_removed q i =
     if_test (free_at q i)
-    (λ free. ap (λ (r : AfterRemove). r.queue.last) (removed_empty q i free))
-    (λ taken. ap (λ (r : AfterRemove). r.queue.last) (removed_gone q i taken))
+    (λ free. ap (λ (r : Outcome Removed). r.queue.last) (removed_empty q i free))
+    (λ taken. ap (λ (r : Outcome Removed). r.queue.last) (removed_gone q i taken))
 
 step_add : (q : Queue) (s n : ℕ) → is_free (slot_at q s) ≡ false → Step q s (add n)
 step_add q s n taken =
@@ -54,18 +51,18 @@ step_add q s n taken =
     (λ l.
     let apart : s ≡ lowest_free q → ⊥ =
     λ same. true≢false (sym (ap (λ (i : ℕ). is_free (slot_at q i)) same ∙ lowest_free_free q l) ∙ taken) in
-    ap (λ (r : AfterAdd). slot_at r.queue s) (added_at q n l)
-    ∙ slot_at-stored_other q (lowest_free q) s (Book n) apart)
-    (λ l. ap (λ (r : AfterAdd). slot_at r.queue s) (added_full q n l)))
+    ap (λ (r : Outcome Added). slot_at r.queue s) (added_at q n l)
+    ∙ slot_at-stored_other q (lowest_free q) s (Some n) apart)
+    (λ l. ap (λ (r : Outcome Added). slot_at r.queue s) (added_full q n l)))
 
 step_remove : (q : Queue) (s i : ℕ) → (remove i ≡ remove s → ⊥) → Step q s (remove i)
 step_remove q s i apart =
     still refl (last_removed q i)
     (if_test (free_at q i)
-    (λ free. ap (λ (r : AfterRemove). slot_at r.queue s) (removed_empty q i free))
+    (λ free. ap (λ (r : Outcome Removed). slot_at r.queue s) (removed_empty q i free))
     (λ taken.
-    ap (λ (r : AfterRemove). slot_at r.queue s) (removed_gone q i taken)
-    ∙ slot_at-stored_other q i s Free (λ same. apart (ap remove (sym same)))))
+    ap (λ (r : Outcome Removed). slot_at r.queue s) (removed_gone q i taken)
+    ∙ slot_at-stored_other q i s None (λ same. apart (ap remove (sym same)))))
 
 step_turn : (q : Queue) (s b : ℕ) → Step q s (turn b)
 unfolding slot_at served
@@ -77,16 +74,16 @@ step_turn q s b =
     (λ l.
     let e = turned-served q b some l in
     serves
-    (ap (λ (r : AfterTurn). slot_served r.answer) e)
-    (ap (λ (r : AfterTurn). r.queue.last) e)
-    (λ apart. ap (λ (r : AfterTurn). slot_at r.queue s) e ∙ slot_at-stored_other q (next_up q) s _ apart))
+    (ap (λ (r : Outcome Turned). slot_served r.answer) e)
+    (ap (λ (r : Outcome Turned). r.queue.last) e)
+    (λ apart. ap (λ (r : Outcome Turned). slot_at r.queue s) e ∙ slot_at-stored_other q (next_up q) s _ apart))
     (λ l. refused NothingLeft (turned_nothing_left q b some l)))
   where
-    refused : (x : Refusal) → turned q b ≡ record { answer = NotTurned x; queue = q } → Step q s (turn b)
+    refused : (x : Refusal) → turned q b ≡ record { answer = Err x; queue = q } → Step q s (turn b)
     refused x e =
-        still (ap (λ (r : AfterTurn). slot_served r.answer) e)
-        (ap (λ (r : AfterTurn). r.queue.last) e)
-        (ap (λ (r : AfterTurn). slot_at r.queue s) e)
+        still (ap (λ (r : Outcome Turned). slot_served r.answer) e)
+        (ap (λ (r : Outcome Turned). r.queue.last) e)
+        (ap (λ (r : Outcome Turned). slot_at r.queue s) e)
 
 -- A turn that is cut passes the round on as the turn does, and leaves every slot.
 pub slot_at-cut_short : (q : Queue) (s b : ℕ) → slot_at (cut_short q b) s ≡ slot_at q s
@@ -211,7 +208,7 @@ last_after_all q (x ∷ xs) few =
 -- ---- no call changes how many slots there are
 length-served : (q : Queue) (i b : ℕ) → length (served q i b).queue.slots ≡ length q.slots
 unfolding served
-length-served q i b = length-stored q i (Book (left_in (slot_at q i) - moved_at q i b))
+length-served q i b = length-stored q i (Some (left_in (slot_at q i) - moved_at q i b))
 
 length-cut_short : (q : Queue) (b : ℕ) → length (cut_short q b).slots ≡ length q.slots
 unfolding cut_short
@@ -220,19 +217,19 @@ length-cut_short q b = refl
 length-after : (q : Queue) (x : Call) → length (after q x).slots ≡ length q.slots
 length-after q (add n) =
     if_lt (lowest_free q) slot_count
-    (λ l. ap (λ (r : AfterAdd). length r.queue.slots) (added_at q n l) ∙ length-stored q (lowest_free q) (Book n))
-    (λ l. ap (λ (r : AfterAdd). length r.queue.slots) (added_full q n l))
+    (λ l. ap (λ (r : Outcome Added). length r.queue.slots) (added_at q n l) ∙ length-stored q (lowest_free q) (Some n))
+    (λ l. ap (λ (r : Outcome Added). length r.queue.slots) (added_full q n l))
 length-after q (remove i) =
     if_test (free_at q i)
-    (λ free. ap (λ (r : AfterRemove). length r.queue.slots) (removed_empty q i free))
-    (λ taken. ap (λ (r : AfterRemove). length r.queue.slots) (removed_gone q i taken) ∙ length-stored q i Free)
+    (λ free. ap (λ (r : Outcome Removed). length r.queue.slots) (removed_empty q i free))
+    (λ taken. ap (λ (r : Outcome Removed). length r.queue.slots) (removed_gone q i taken) ∙ length-stored q i None)
 length-after q (turn b) =
     if_eq b 0
-    (λ none. ap (λ (r : AfterTurn). length r.queue.slots) (turned_no_budget q b none))
+    (λ none. ap (λ (r : Outcome Turned). length r.queue.slots) (turned_no_budget q b none))
     (λ some.
     if_lt (passed_over q) slot_count
-    (λ l. ap (λ (r : AfterTurn). length r.queue.slots) (turned-served q b some l) ∙ length-served q (next_up q) b)
-    (λ l. ap (λ (r : AfterTurn). length r.queue.slots) (turned_nothing_left q b some l)))
+    (λ l. ap (λ (r : Outcome Turned). length r.queue.slots) (turned-served q b some l) ∙ length-served q (next_up q) b)
+    (λ l. ap (λ (r : Outcome Turned). length r.queue.slots) (turned_nothing_left q b some l)))
 length-after q (cut b) = length-cut_short q b
 
 pub length-after_all : (q : Queue) (xs : List Call) → length (after_all q xs).slots ≡ length q.slots

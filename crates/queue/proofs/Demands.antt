@@ -18,11 +18,9 @@ use Rattle.job.specs.Reply.{reply}
 use Rattle.job.specs.History.{Wakes}
 use Rattle.job.proofs.HistoryLaws.{past_in_turn}
 use Rattle.job.proofs.Demands.{Demand3, demand3, demand3_done}
-use Rattle.queue.specs.declared.slots.Slot.TheVariants.{Free, Book}
+use Rattle.std.specs.Prelude.{Some, None, Ok}
 use Rattle.queue.specs.declared.slots.Queue.{Queue}
-use Rattle.queue.specs.declared.reply.Added.TheVariants.{At}
-use Rattle.queue.specs.declared.reply.Removed.TheVariants.{Gone}
-use Rattle.queue.specs.declared.reply.Turned.TheVariants.{Served}
+use Rattle.queue.specs.Reply.{serving}
 use Rattle.queue.specs.Slots.{empty_queue, slot_at, is_free, left_in}
 use Rattle.queue.specs.Reply.{add_reply, remove_reply, turn_reply}
 use Rattle.queue.specs.Books.{added, removed}
@@ -38,10 +36,10 @@ use Rattle.queue.proofs.CallsLaws.{last_after_all, length-after_all, servings_si
 use Rattle.queue.proofs.CallsLaws.{last_cut_short, slot_at-cut_short}
 use Rattle.queue.proofs.StayLaws.{in_turn_stay, slot_at-done_in, moved_wakes}
 -- The code meets its contracts.
-pub use Rattle.queue.proofs.slots.begin.Met.{met as begin-meets-its-contract}
-pub use Rattle.queue.proofs.books.add.Met.{met as add-meets-its-contract}
-pub use Rattle.queue.proofs.books.remove.Met.{met as remove-meets-its-contract}
-pub use Rattle.queue.proofs.round.turn.Met.{met as turn-meets-its-contract}
+pub use Rattle.queue.proofs.slots.Queue.new.Met.{met as new-meets-its-contract}
+pub use Rattle.queue.proofs.slots.Queue.add.Met.{met as add-meets-its-contract}
+pub use Rattle.queue.proofs.slots.Queue.remove.Met.{met as remove-meets-its-contract}
+pub use Rattle.queue.proofs.slots.Queue.turn.Met.{met as turn-meets-its-contract}
 
 -- ---- 1. Every call on every queue gets a defined answer.
 pub record Refusals (q : Queue) : Type 0 where
@@ -82,27 +80,27 @@ pub record Acceptances (q : Queue) : Type 0 where
   pub add_accepted : (n s : ℕ) → s < 16 → is_free (slot_at q s) ≡ true
       → ((i : ℕ) → i < s → is_free (slot_at q i) ≡ false) → add_reply (added q n).answer ≡ reply 0 (s ∷ [])
   -- A new book takes the lowest free slot.
-  pub add_free : (n s : ℕ) → (added q n).answer ≡ At s → is_free (slot_at q s) ≡ true
-  pub add_lowest : (n s i : ℕ) → (added q n).answer ≡ At s → i < s → is_free (slot_at q i) ≡ false
-  pub add_holds : (n s : ℕ) → length q.slots ≡ 16 → (added q n).answer ≡ At s
-      → slot_at (added q n).queue s ≡ Book n
+  pub add_free : (n s : ℕ) → (added q n).answer ≡ Ok s → is_free (slot_at q s) ≡ true
+  pub add_lowest : (n s i : ℕ) → (added q n).answer ≡ Ok s → i < s → is_free (slot_at q i) ≡ false
+  pub add_holds : (n s : ℕ) → length q.slots ≡ 16 → (added q n).answer ≡ Ok s
+      → slot_at (added q n).queue s ≡ Some n
   -- A book is removed if the slot holds one.
   pub remove_accepted : (i : ℕ) → is_free (slot_at q i) ≡ false → remove_reply (removed q i).answer ≡ reply 0 []
   -- A removed book's slot is free, to be used again.
-  pub remove_frees : (i : ℕ) → (removed q i).answer ≡ Gone → slot_at (removed q i).queue i ≡ Free
+  pub remove_frees : (i : ℕ) → (removed q i).answer ≡ Ok tt → slot_at (removed q i).queue i ≡ None
   -- A turn with a budget of at least 1 serves a slot, if some slot i has records left.
   pub turn_accepted : (b i : ℕ) → 1 ≤ b → 0 < left_in (slot_at q i)
       → (s : ℕ) × (m : ℕ) × (turn_reply (turned q b).answer ≡ reply 0 (s ∷ m ∷ []))
   -- A turn goes to the next slot with records left, going round from the one after the last served: if that
   -- is d places on, no slot before it in the round has any.
-  pub turn_left : (b s m : ℕ) → (turned q b).answer ≡ Served s m → 0 < left_in (slot_at q s)
-  pub turn_next : (b s m d j : ℕ) → (turned q b).answer ≡ Served s m → s ≡ (q.last + 1 + d) % 16 → d < 16
+  pub turn_left : (b s m : ℕ) → (turned q b).answer ≡ Ok (serving s m) → 0 < left_in (slot_at q s)
+  pub turn_next : (b s m d j : ℕ) → (turned q b).answer ≡ Ok (serving s m) → s ≡ (q.last + 1 + d) % 16 → d < 16
       → j < d → left_in (slot_at q ((q.last + 1 + j) % 16)) ≡ 0
-  pub turn_last : (b s m : ℕ) → (turned q b).answer ≡ Served s m → (turned q b).queue.last ≡ s
+  pub turn_last : (b s m : ℕ) → (turned q b).answer ≡ Ok (serving s m) → (turned q b).queue.last ≡ s
   -- It lowers the count as a wake does, and says how many records moved.
-  pub turn_moves : (b s m : ℕ) → (turned q b).answer ≡ Served s m → m ≡ min b (left_in (slot_at q s))
-  pub turn_lowers : (b s m : ℕ) → (turned q b).answer ≡ Served s m
-      → slot_at (turned q b).queue s ≡ Book (left_in (slot_at q s) - m)
+  pub turn_moves : (b s m : ℕ) → (turned q b).answer ≡ Ok (serving s m) → m ≡ min b (left_in (slot_at q s))
+  pub turn_lowers : (b s m : ℕ) → (turned q b).answer ≡ Ok (serving s m)
+      → slot_at (turned q b).queue s ≡ Some (left_in (slot_at q s) - m)
 
 pub acceptances : (q : Queue) → Acceptances q
 acceptances q = record {
@@ -159,12 +157,12 @@ fairness q s xs stays = record {
 -- before.
 pub record EachBook (k : List ℕ) (h : Head) (s : ℕ) (q : Queue) (t : ℕ) (c : List ℕ) : Type 0 where
   -- Its count is n less the records done.
-  pub count : slot_at q s ≡ Book (h.n - done_in c)
+  pub count : slot_at q s ≡ Some (h.n - done_in c)
   -- Demand 3 holds of it on its own, whatever else is in the queue,
   pub wakes : Demand3 k h c
   pub done : (done_in c ≡ h.n) ↔ (h.n ≤ t)
   -- and a turn moves as many records as the wake that matches it.
-  pub moves : (b m j : ℕ) (d : List ℕ) → (turned q b).answer ≡ Served s m → Wakes k c b j d → m ≡ j
+  pub moves : (b m j : ℕ) (d : List ℕ) → (turned q b).answer ≡ Ok (serving s m) → Wakes k c b j d → m ≡ j
 
 pub each_book : (k : List ℕ) (h : Head) → opened k ≡ accepted h
     → (s : ℕ) (q : Queue) (t : ℕ) (c : List ℕ) → Stay k h.n s q t c → EachBook k h s q t c

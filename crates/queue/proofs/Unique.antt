@@ -1,23 +1,26 @@
--- Two results that a public contract allows are equal. `Post` is the contract's own reading.
--- Assumes nothing.
+-- Two results that a public contract allows are equal, and so are the queues after them. `Post` is the contract's
+-- own reading. Assumes nothing.
 use mathlib.Core.Path.{◌≡◌, sym, ◌∙◌}
-use Rattle.queue.proofs.slots.begin.Reads as begin
-use Rattle.queue.proofs.books.add.Reads as add
-use Rattle.queue.proofs.books.remove.Reads as remove
-use Rattle.queue.proofs.round.turn.Reads as turn
+use Rattle.queue.proofs.slots.Queue.new.Reads as new
+use Rattle.queue.proofs.slots.Queue.add.Reads as add
+use Rattle.queue.proofs.slots.Queue.remove.Reads as remove
+use Rattle.queue.proofs.slots.Queue.turn.Reads as turn
 use Rattle.queue.proofs.reply.number_refusal.Reads as number-refusal
 
-pub begin_unique : (κs : _) (a : _) (r s : _) (x y : _) → begin.Post κs a r x → begin.Post κs a s y → r ≡ s
-begin_unique κs a r s x y p q = p ∙ sym q
+pub new_unique : (κs : _) (a : _) (r s : _) (x y : _) → new.Post κs a r x → new.Post κs a s y → r ≡ s
+new_unique κs a r s x y p q = p ∙ sym q
 
-pub add_unique : (κs : _) (a : _) (r s : _) (x y : _) → add.Post κs a r x → add.Post κs a s y → r ≡ s
-add_unique κs a r s x y p q = p ∙ sym q
+pub add_unique : (κs : _) (a : _) (r s : _) (x y : _) → add.Post κs a r x → add.Post κs a s y
+    → (r ≡ s) × (x.0.now ≡ y.0.now)
+add_unique κs a r s x y p q = (p.0 ∙ sym q.0, p.1 ∙ sym q.1)
 
-pub remove_unique : (κs : _) (a : _) (r s : _) (x y : _) → remove.Post κs a r x → remove.Post κs a s y → r ≡ s
-remove_unique κs a r s x y p q = p ∙ sym q
+pub remove_unique : (κs : _) (a : _) (r s : _) (x y : _) → remove.Post κs a r x → remove.Post κs a s y
+    → (r ≡ s) × (x.0.now ≡ y.0.now)
+remove_unique κs a r s x y p q = (p.0 ∙ sym q.0, p.1 ∙ sym q.1)
 
-pub turn_unique : (κs : _) (a : _) (r s : _) (x y : _) → turn.Post κs a r x → turn.Post κs a s y → r ≡ s
-turn_unique κs a r s x y p q = p ∙ sym q
+pub turn_unique : (κs : _) (a : _) (r s : _) (x y : _) → turn.Post κs a r x → turn.Post κs a s y
+    → (r ≡ s) × (x.0.now ≡ y.0.now)
+turn_unique κs a r s x y p q = (p.0 ∙ sym q.0, p.1 ∙ sym q.1)
 
 pub number_refusal_unique : (κs : _) (a : _) (r s : _) (x y : _)
     → number-refusal.Post κs a r x → number-refusal.Post κs a s y → r ≡ s

@@ -10,10 +10,9 @@
 --     after_all q xs     the queue after xs
 --
 -- Laws: proofs/CallsLaws.antt. Definitions only.
-use Rattle.std.specs.Prelude.{ℕ, List, [], ◌∷◌, ◌++◌}
+use Rattle.std.specs.Prelude.{ℕ, List, [], ◌∷◌, ◌++◌, Ok, Err}
 use Rattle.queue.specs.declared.slots.Queue.{Queue}
-use Rattle.queue.specs.declared.reply.Turned.{Turned}
-use Rattle.queue.specs.declared.reply.Turned.TheVariants.{NotTurned, Served}
+use Rattle.queue.specs.Reply.{Turned}
 use Rattle.queue.specs.Books.{added, removed}
 use Rattle.queue.specs.Round.{turned}
 
@@ -33,8 +32,8 @@ after q (turn b) = (turned q b).queue
 after q (cut b) = cut_short q b
 
 abbrev pub slot_served : Turned → List ℕ
-slot_served (NotTurned x) = []
-slot_served (Served i m) = i ∷ []
+slot_served (Err x) = []
+slot_served (Ok s) = s.slot ∷ []
 
 abbrev pub served_by : Queue → Call → List ℕ
 served_by q (add n) = []

@@ -9,13 +9,11 @@
 --     turned q b          the answer to a turn with budget b, and the queue after it
 --
 -- Laws: proofs/RoundLaws.antt. Definitions only.
-use Rattle.std.specs.Prelude.{ℕ, ◌+◌, ◌-◌, ◌%◌, min, Bool, nat_lt, nat_eq}
+use Rattle.std.specs.Prelude.{ℕ, ◌+◌, ◌-◌, ◌%◌, min, Bool, nat_lt, nat_eq, Some, Ok, Err}
 use Rattle.choice.specs.Tests.{choose}
-use Rattle.queue.specs.declared.slots.Slot.TheVariants.{Book}
 use Rattle.queue.specs.declared.slots.Queue.{Queue}
 use Rattle.queue.specs.declared.reply.Refusal.TheVariants.{NoBudget, NothingLeft}
-use Rattle.queue.specs.declared.reply.Turned.TheVariants.{NotTurned, Served}
-use Rattle.queue.specs.declared.reply.AfterTurn.{AfterTurn}
+use Rattle.queue.specs.Reply.{Turned, serving, Outcome}
 use Rattle.queue.specs.Slots.{slot_count, slot_at, left_in, stored, lowest}
 
 unfoldable pub onward : Queue → ℕ → ℕ
@@ -33,14 +31,14 @@ next_up q = onward q (passed_over q)
 unfoldable pub moved_at : Queue → ℕ → ℕ → ℕ
 moved_at q i b = min b (left_in (slot_at q i))
 
-unfoldable pub served : Queue → ℕ → ℕ → AfterTurn
+unfoldable pub served : Queue → ℕ → ℕ → Outcome Turned
 served q i b = record {
-  answer = Served i (moved_at q i b);
-  queue = record { slots = (stored q i (Book (left_in (slot_at q i) - moved_at q i b))).slots; last = i };
+  answer = Ok (serving i (moved_at q i b));
+  queue = record { slots = (stored q i (Some (left_in (slot_at q i) - moved_at q i b))).slots; last = i };
 }
 
-unfoldable pub turned : Queue → ℕ → AfterTurn
+unfoldable pub turned : Queue → ℕ → Outcome Turned
 turned q b =
-    choose (nat_eq b 0) (record { answer = NotTurned NoBudget; queue = q })
+    choose (nat_eq b 0) (record { answer = Err NoBudget; queue = q })
     (choose (nat_lt (passed_over q) slot_count) (served q (next_up q) b)
-    (record { answer = NotTurned NothingLeft; queue = q }))
+    (record { answer = Err NothingLeft; queue = q }))

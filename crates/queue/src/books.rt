@@ -1,56 +1,40 @@
 // Books come and go.
-ghost use Rattle.std.specs.Prelude.{◌≡◌};
+ghost use Rattle.std.specs.Prelude.{◌≡◌, ◌<◌, ◌≤◌, MatchOption};
+ghost use Rattle.queue.specs.Slots.{slot_count};
 ghost use Rattle.queue.specs.Books.{lowest_free, added, removed};
 
-use crate::reply::{Added, AfterAdd, AfterRemove, Refusal, Removed};
-use crate::slots;
-use crate::slots::{Queue, Slot};
+use crate::reply::Refusal;
+use crate::slots::Queue;
 
-// A book of n records takes the lowest free slot.
-pub fn add(q: Queue, n: u32) -> AfterAdd
-    ensures exact { result ≡ added q n }
-{
-    let i = find_free(q);
-    if i < slots::SLOT_COUNT {
-        let r = slots::store(q, i, Slot::Book(n));
-        return AfterAdd {
-            answer: Added::At(i),
-            queue: r,
+impl Queue {
+    // A book of n records takes the lowest free slot, which is answered.
+    pub fn add(&mut self, n: u32) -> Result<usize, Refusal>
+        ensures answer { result ≡ (added self.old n).answer }
+        ensures queue { self.new ≡ (added self.old n).queue }
+    {
+        let Some(slot) = self.find_free() else {
+            return Err(Refusal::Full);
         };
+        self.slots[slot] = Some(n);
+        Ok(slot)
     }
-    AfterAdd {
-        answer: Added::NotAdded(Refusal::Full),
-        queue: q,
-    }
-}
 
-// The lowest free slot, or 16.
-fn find_free(q: Queue) -> usize
-    ensures lowest { result ≡ lowest_free q }
-{
-    let mut i = 0;
-    while i < slots::SLOT_COUNT {
-        if slots::is_free(q, i) {
-            return i;
+    // The lowest free slot, if there is one.
+    fn find_free(&self) -> Option<usize>
+        ensures lowest { MatchOption result (slot_count ≤ lowest_free self.now) (λ i. (i ≡ lowest_free self.now) × (i < slot_count)) }
+    {
+        self.slots.iter().position(|slot| slot.is_none())
+    }
+
+    // The book in slot i goes.
+    pub fn remove(&mut self, i: usize) -> Result<(), Refusal>
+        ensures answer { result ≡ (removed self.old i).answer }
+        ensures queue { self.new ≡ (removed self.old i).queue }
+    {
+        if self.look(i).is_none() {
+            return Err(Refusal::Empty);
         }
-        i += 1;
-    }
-    slots::SLOT_COUNT
-}
-
-// The book in slot i goes.
-pub fn remove(q: Queue, i: usize) -> AfterRemove
-    ensures exact { result ≡ removed q i }
-{
-    if slots::is_free(q, i) {
-        return AfterRemove {
-            answer: Removed::NotRemoved(Refusal::Empty),
-            queue: q,
-        };
-    }
-    let r = slots::store(q, i, Slot::Free);
-    AfterRemove {
-        answer: Removed::Gone,
-        queue: r,
+        self.slots[i] = None;
+        Ok(())
     }
 }

@@ -1,9 +1,6 @@
-// What the calls answer, each with the queue after it. specs/Reply.antt gives the number and the values
-// of each case.
+// What the calls answer. specs/Reply.antt gives the number and the values of each case.
 ghost use Rattle.std.specs.Prelude.{◌≡◌};
 ghost use Rattle.queue.specs.Reply.{queue_number};
-
-use crate::slots::Queue;
 
 // Why a call was turned away. The queue is as it was.
 #[derive(Clone, Copy)]
@@ -30,41 +27,9 @@ pub fn number_refusal(x: Refusal) -> u8
     }
 }
 
+// What a turn did: which slot it served, and how many of its records moved.
 #[derive(Clone, Copy)]
-pub enum Added {
-    NotAdded(Refusal),
-    // The book stands in this slot.
-    At(usize),
-}
-
-#[derive(Clone, Copy)]
-pub enum Removed {
-    NotRemoved(Refusal),
-    // The slot is free.
-    Gone,
-}
-
-#[derive(Clone, Copy)]
-pub enum Turned {
-    NotTurned(Refusal),
-    // This slot was served, and so many of its records moved.
-    Served(usize, u32),
-}
-
-#[derive(Clone, Copy)]
-pub struct AfterAdd {
-    pub answer: Added,
-    pub queue: Queue,
-}
-
-#[derive(Clone, Copy)]
-pub struct AfterRemove {
-    pub answer: Removed,
-    pub queue: Queue,
-}
-
-#[derive(Clone, Copy)]
-pub struct AfterTurn {
-    pub answer: Turned,
-    pub queue: Queue,
+pub struct Served {
+    pub slot: usize,
+    pub moved: u32,
 }

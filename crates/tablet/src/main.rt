@@ -88,12 +88,7 @@ fn judge<R: Files + Print + Alloc + RandomSource + Complain>(
     }
 }
 
-fn complain<R: Complain>(
-    rt: &R,
-    list: &[u8],
-    path: &[u8],
-    verdict: Result<u8, Fault>,
-) -> Ended {
+fn complain<R: Complain>(rt: &R, list: &[u8], path: &[u8], verdict: Result<u8, Fault>) -> Ended {
     rt.complain(path);
     files::tell_page(rt, b"", b": ", text::plants::tell_fault(list, verdict));
     Ended::Failed

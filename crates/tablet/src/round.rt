@@ -8,9 +8,7 @@ use files::complain::Complain;
 use files::ended::Ended;
 use files::save::LONGEST_SAVED;
 use files::{BOOK_ROOM, save};
-use queue::reply::Turned;
 use queue::slots::{Queue, SLOT_COUNT};
-use queue::{books, round, slots};
 use roster::{lines, place};
 use rules::book::LONGEST_BOOK;
 use std::io::Result;
@@ -63,9 +61,9 @@ fn go_on<R: Files + Print + Alloc + RandomSource + Complain>(
         return Ended::Failed;
     };
     let mut log = Log::new();
-    let mut q = fill(rt, list, n, &mut log, room);
-    q.last = (place::find(list, files::take_front(&kept, k)) % SLOT_COUNT) as u8;
-    take_turns(rt, list, q, &mut log, path, budget, room);
+    let mut queue = fill(rt, list, n, &mut log, room);
+    queue.last = (place::find(list, files::take_front(&kept, k)) % SLOT_COUNT) as u8;
+    take_turns(rt, list, queue, &mut log, path, budget, room);
     log.end()
 }
 
@@ -76,11 +74,11 @@ fn fill<R: Files + Print + Alloc + RandomSource + Complain>(
     log: &mut Log,
     room: &mut [u8],
 ) -> Queue {
-    let mut queue = slots::begin();
+    let mut queue = Queue::new();
     for i in 0..n {
         let left = plant::ask(rt, lines::take_line(list, i), Asked::Count, log, room);
-        let r = books::add(queue, left);
-        queue = r.queue;
+        // There are no more plants in a list than slots.
+        let _ = queue.add(left);
     }
     queue
 }
@@ -88,29 +86,21 @@ fn fill<R: Files + Print + Alloc + RandomSource + Complain>(
 fn take_turns<R: Files + Print + Alloc + RandomSource + Complain>(
     rt: &R,
     list: &[u8],
-    first: Queue,
+    mut queue: Queue,
     log: &mut Log,
     path: &[u8],
     budget: u32,
     room: &mut [u8],
 ) {
-    let mut q = first;
     for _ in 0..MOST_TURNS {
-        let r = round::turn(q, budget);
-        let answer = r.answer;
-        match answer {
-            Turned::NotTurned(_) => {
-                return;
-            }
-            Turned::Served(i, _) => {
-                let after = r.queue;
-                if keep(rt, list, after.last, path).is_err() {
-                    log.fail();
-                    return;
-                }
-                q = serve(rt, list, i, after, budget, log, room);
-            }
+        let Ok(served) = queue.turn(budget) else {
+            return;
+        };
+        if keep(rt, list, queue.last, path).is_err() {
+            log.fail();
+            return;
         }
+        serve(rt, list, served.slot, &mut queue, budget, log, room);
     }
 }
 
@@ -137,11 +127,11 @@ fn serve<R: Files + Print + Alloc + RandomSource + Complain>(
     rt: &R,
     list: &[u8],
     i: usize,
-    q: Queue,
+    queue: &mut Queue,
     budget: u32,
     log: &mut Log,
     room: &mut [u8],
-) -> Queue {
+) {
     let left = plant::ask(
         rt,
         lines::take_line(list, i),
@@ -149,12 +139,7 @@ fn serve<R: Files + Print + Alloc + RandomSource + Complain>(
         log,
         room,
     );
-    recount(q, i, left)
-}
-
-// Every slot below is taken, so that the plant gets its own again.
-fn recount(q: Queue, i: usize, left: u32) -> Queue {
-    let gone = books::remove(q, i);
-    let back = books::add(gone.queue, left);
-    back.queue
+    // Every slot below is taken, so that the plant gets its own again.
+    let _ = queue.remove(i);
+    let _ = queue.add(left);
 }
