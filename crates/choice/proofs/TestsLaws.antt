@@ -1,12 +1,12 @@
 -- A row of tests, gone through test by test; what holds of a choice; and the code's `&` and `|` as
 -- rows. Assumes nothing.
 use Prim.Native.Nat.{ℕ}
-use mathlib.Core.Bool.{Bool, true, false, not, ◌&&◌, ◌||◌}
+use mathlib.Core.Bool.{Bool, true, false, ◌&&◌, ◌||◌}
 use mathlib.Core.Logic.{◌↔◌}
 use mathlib.Core.Path.{◌≡◌, refl, sym, ◌∙◌, subst}
 use native.Mathlib.Omega.{arith}
 use lib.Dec.{T, ltb, eqb}
-use borrow.Author.Tests.{not-true, not-false, eq-eqb, ne_eqb, lt-ltb, le-ltb}
+use borrow.Author.Tests.{eq-eqb, ne_eqb, lt-ltb, le-ltb}
 use Rattle.choice.specs.Tests.{◌also◌, ◌either◌, choose}
 
 -- ---- rows
@@ -127,15 +127,9 @@ either_false b = either_f refl refl
 -- With these `simp` works out what hangs on closed tests.
 pub ruleset worked-out = (choose-true, choose-false, also_true, also_false, either_true, either_false)
 
--- ---- a call r that ensures r ≡ t, tested as r or as not r
+-- ---- a call r that ensures r ≡ t, tested as r
 pub is : {r t x : Bool} → r ≡ t → r ≡ x → t ≡ x
 is p q = sym p ∙ q
-
-pub is_not : {r t : Bool} → r ≡ t → not r ≡ true → t ≡ false
-is_not {r} p q = sym p ∙ not-true r q
-
-pub is_so : {r t : Bool} → r ≡ t → not r ≡ false → t ≡ true
-is_so {r} p q = sym p ∙ not-false r q
 
 -- ---- a call r that ensures r ≡ n, compared with a number
 pub eq_of : {r n k : ℕ} → r ≡ n → r ≡ k → eqb n k ≡ true
