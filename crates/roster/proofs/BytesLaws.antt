@@ -1,4 +1,4 @@
--- The bytes before a byte and after it, and two runs compared, byte by byte. Assumes nothing.
+-- The bytes before a byte and after it, and `same` as std's search and `==` tell them. Assumes nothing.
 use Prim.Native.Nat.{ℕ, suc, ◌+◌, ◌-◌, ◌<◌, ◌≤◌}
 use mathlib.Core.Bool.{true, false, cond}
 use Rattle.std.proofs.Common.{Some, None, position}
@@ -35,7 +35,7 @@ pub span-nil : (b : ℕ) → span b [] ≡ 0
 unfolding span
 span-nil b = refl
 
-pub span-le : (b : ℕ) (xs : List ℕ) → span b xs ≤ length xs
+span-le : (b : ℕ) (xs : List ℕ) → span b xs ≤ length xs
 span-le b [] = omega (arith, span-nil b)
 span-le b (x ∷ xs) =
     if_eq x b
@@ -43,7 +43,7 @@ span-le b (x ∷ xs) =
     (λ n. omega (arith, span-suc b x xs n, span-le b xs))
 
 -- The place at which a search for b stops.
-pub position-span : (b : ℕ) (xs : List ℕ) → position_or_len (λ x. eqb x b) xs ≡ span b xs
+position-span : (b : ℕ) (xs : List ℕ) → position_or_len (λ x. eqb x b) xs ≡ span b xs
 position-span b xs = sym (is_position_or_len (span b) (λ x. eqb x b) (span-nil b) (next b) xs)
   where
     next : (b x : ℕ) (xs : List ℕ) → span b (x ∷ xs) ≡ cond (eqb x b) 0 (1 + span b xs)
@@ -103,14 +103,6 @@ rest_lt b xs e h =
     omega (arith, ap length e, length-drop (suc (span b xs)) xs)
 
 -- ---- two runs of bytes
-pub same-nil : same [] [] ≡ true
-unfolding same
-same-nil = refl
-
-pub same-cons : (x y : ℕ) (xs ys : List ℕ) → same (x ∷ xs) (y ∷ ys) ≡ (eqb x y also same xs ys)
-unfolding same
-same-cons x y xs ys = refl
-
 pub same→eq : (xs ys : List ℕ) → same xs ys ≡ true → xs ≡ ys
 unfolding same
 same→eq [] [] h = refl
