@@ -2,7 +2,7 @@
 // that is saved. Whatever fails before the save leaves no checkpoint that passes for another book's.
 ghost use Rattle.std.specs.Prelude.{◌≡◌, length, IfErr};
 ghost use Rattle.job.specs.Wake.{fresh_reply, fresh_bytes, wake_reply, wake_bytes};
-ghost use Rattle.files.specs.declared.kept.Stopped.TheVariants.{Failed};
+ghost use Rattle.files.specs.declared.kept.Stopped.TheVariants.{Refused, Failed};
 ghost use Rattle.files.specs.Guard.{due_of};
 ghost use Rattle.files.specs.Kept.{replied, placed, counting, anew_reply, anew_bytes, DueOf, Found, Begun, FoundBy, Saved};
 
@@ -34,6 +34,14 @@ pub enum Stopped {
     Refused(Refusal),
     // Standard error says what failed.
     Failed,
+}
+
+impl From<Refusal> for Stopped {
+    ghost from_gives = { λ x e. e ≡ Refused x };
+
+    fn from(x: Refusal) -> Stopped {
+        Stopped::Refused(x)
+    }
 }
 
 // Only what was told becomes this, as each call here tells its own.
@@ -164,10 +172,8 @@ fn begin(book: &[u8], out: &mut [u8]) -> Result<usize, Stopped>
     ensures place { placed result ≡ replied (counting (length out.old) (fresh_reply book.now out.old)) }
     ensures bytes { out.new ≡ fresh_bytes book.now out.old }
 {
-    match job::wake::fresh(book, out) {
-        Err(x) => Err(Stopped::Refused(x)),
-        Ok(()) => Ok(out.len()),
-    }
+    job::wake::fresh(book, out)?;
+    Ok(out.len())
 }
 
 // Says on standard error that the job starts anew, if what is due comes of another book than it was
@@ -194,14 +200,10 @@ pub fn wake<R: Files + RandomSource + Complain>(
     ensures saved { Saved result (wake_reply book.now from.now budget saved.old) }
     ensures bytes { saved.new ≡ wake_bytes book.now from.now budget saved.old }
 {
-    match job::wake::wake(book, from, budget, saved) {
-        Err(refusal) => Err(Stopped::Refused(refusal)),
-        Ok(moved) => {
-            settle(rt, due, whose, path, book)?;
-            save::save(rt, whose, path, saved, b"")?;
-            Ok(moved)
-        }
-    }
+    let moved = job::wake::wake(book, from, budget, saved)?;
+    settle(rt, due, whose, path, book)?;
+    save::save(rt, whose, path, saved, b"")?;
+    Ok(moved)
 }
 
 // Does what is due before a checkpoint is saved. The old checkpoint is gone for good before the copy is

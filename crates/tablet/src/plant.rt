@@ -77,17 +77,15 @@ fn count<R: Files + Print + RandomSource + Complain>(
     due: Due,
     log: &mut Log,
 ) -> Result<u32, Stopped> {
-    match job::report::count_left(book, from) {
-        Err(x) => Err(Stopped::Refused(x)),
-        Ok(0) => {
-            if due != Due::Nothing {
-                return wake(rt, line, whose, book, from, 0, due, log);
-            }
-            log.tell(rt, whose, progress::tell_turn(book, from, 0));
-            Ok(0)
-        }
-        Ok(left) => Ok(left),
+    let left = job::report::count_left(book, from)?;
+    if left > 0 {
+        return Ok(left);
     }
+    if due != Due::Nothing {
+        return wake(rt, line, whose, book, from, 0, due, log);
+    }
+    log.tell(rt, whose, progress::tell_turn(book, from, 0));
+    Ok(0)
 }
 
 fn wake<R: Files + Print + RandomSource + Complain>(

@@ -4,18 +4,20 @@ use Rattle.job.specs.Wake.{wake_reply}
 use Rattle.files.proofs.KeptLaws.{reply-refused, reply-moved}
 use Rattle.files.proofs.kept.wake.Goals as goal
 
-pub returns-in-Err-clause-saved : goal.returns-in-Err-clause-saved
-returns-in-Err-clause-saved g c = reply-refused c.wake.ensures.reply c.in-Err.is
-
-pub returns-in_err-settle-in-Ok-clause-saved : goal.returns-in_err-settle-in-Ok-clause-saved
-returns-in_err-settle-in-Ok-clause-saved g c =
+pub returns-in_err-moved-clause-saved : goal.returns-in_err-moved-clause-saved
+returns-in_err-moved-clause-saved g c =
     let p = err_from_is_err_and c.from_residual.result c.from_residual.ensures.1 in
-    rw (p.1, p.2) (record { moved = _; accepts = reply-moved {w = wake_reply c.args.book.now c.args.from.now c.args.budget c.args.saved.now} c.wake.ensures.reply c.in-Ok.is })
+    rw (p.1, p.2) (reply-refused {w = wake_reply c.args.book.now c.args.from.now c.args.budget c.args.saved.now} c.wake.ensures.reply c.in_err-moved.was)
 
-pub returns-in_err-save-in-Ok-clause-saved : goal.returns-in_err-save-in-Ok-clause-saved
-returns-in_err-save-in-Ok-clause-saved g c =
-    let p = err_from_is_err_and c.from_residual-in_err-save-in-Ok.result c.from_residual-in_err-save-in-Ok.ensures.1 in
-    rw (p.1, p.2) (record { moved = _; accepts = reply-moved {w = wake_reply c.args.book.now c.args.from.now c.args.budget c.args.saved.now} c.wake.ensures.reply c.in-Ok.is })
+pub returns-in_err-settle-clause-saved : goal.returns-in_err-settle-clause-saved
+returns-in_err-settle-clause-saved g c =
+    let p = err_from_is_err_and c.from_residual-in_err-settle.result c.from_residual-in_err-settle.ensures.1 in
+    rw (p.1, p.2) (record { moved = _; accepts = reply-moved {w = wake_reply c.args.book.now c.args.from.now c.args.budget c.args.saved.now} c.wake.ensures.reply c.in_ok-moved.was })
 
-pub returns-in_ok-save-in-Ok-clause-saved : goal.returns-in_ok-save-in-Ok-clause-saved
-returns-in_ok-save-in-Ok-clause-saved g c = reply-moved c.wake.ensures.reply c.in-Ok.is
+pub returns-in_err-save-clause-saved : goal.returns-in_err-save-clause-saved
+returns-in_err-save-clause-saved g c =
+    let p = err_from_is_err_and c.from_residual-in_err-save.result c.from_residual-in_err-save.ensures.1 in
+    rw (p.1, p.2) (record { moved = _; accepts = reply-moved {w = wake_reply c.args.book.now c.args.from.now c.args.budget c.args.saved.now} c.wake.ensures.reply c.in_ok-moved.was })
+
+pub returns-clause-saved : goal.returns-clause-saved
+returns-clause-saved g c = reply-moved c.wake.ensures.reply c.in_ok-moved.was
