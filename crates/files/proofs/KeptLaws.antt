@@ -111,9 +111,9 @@ module _ (k room : List ℕ) where
   begun_anew (Err Failed) p e = tt
 
 -- ---- where a job stands, by what is due
-pub found_by_due : (r : Result ℕ Stopped) (k room now : List ℕ) {d e : Due} → d ≡ e
+pub found_by_due : (r : Result ℕ Stopped) (k room now : List ℕ) {d e : Result Due Stopped} → d ≡ e
     → FoundBy e r k room now → FoundBy d r k room now
-found_by_due r k room now q = subst (λ (x : Due). FoundBy x r k room now) (sym q)
+found_by_due r k room now q = subst (λ (x : Result Due Stopped). FoundBy x r k room now) (sym q)
 
 -- ---- a wake's answer
 module _ {s : Result ℕ Refusal} {w : Reply} (p : woken s ≡ w) where

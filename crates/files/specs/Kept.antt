@@ -76,10 +76,11 @@ Begun (Err (stopped.Refused x)) k room now =
     (placed (Err (stopped.Refused x)) ≡ replied (anew_reply k room)) × (now ≡ anew_bytes k room)
 Begun (Err stopped.Failed) k room now = Unit {0}
 
-abbrev pub FoundBy : Due → Result ℕ Stopped → List ℕ → List ℕ → List ℕ → Type 0
-FoundBy due.Nothing r k room now = Found r k room now
-FoundBy due.Copy r k room now = Found r k room now
-FoundBy due.Anew r k room now = Begun r k room now
+abbrev pub FoundBy : Result Due Stopped → Result ℕ Stopped → List ℕ → List ℕ → List ℕ → Type 0
+FoundBy (Ok due.Nothing) r k room now = Found r k room now
+FoundBy (Ok due.Copy) r k room now = Found r k room now
+FoundBy (Ok due.Anew) r k room now = Begun r k room now
+FoundBy (Err why) r k room now = (r ≡ Err why) × (now ≡ room)
 
 -- ---- a wake
 pub record Accepts (w : Reply) : Type 0 where

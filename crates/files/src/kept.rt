@@ -87,11 +87,11 @@ fn decide(compared: Compared, anew: bool) -> Due
 
 // Where the job stands: at a fresh start, if one is due or there is no checkpoint at path; else at that
 // checkpoint. So many bytes of a checkpoint stand at the start of room then; a fresh start that is refused
-// leaves room as it was.
+// leaves room as it was, and so does a job that had stopped before.
 pub fn find_place<R: Files + Complain>(
     rt: &R,
     book: &[u8],
-    due: Due,
+    due: Result<Due, Stopped>,
     whose: &[u8],
     path: &[u8],
     room: &mut [u8],
@@ -99,8 +99,9 @@ pub fn find_place<R: Files + Complain>(
     ensures found { FoundBy due result book.now room.old room.new }
 {
     match due {
-        Due::Nothing | Due::Copy => read_place(rt, book, whose, path, room),
-        Due::Anew => replace_place(rt, book, whose, path, room),
+        Ok(Due::Nothing | Due::Copy) => read_place(rt, book, whose, path, room),
+        Ok(Due::Anew) => replace_place(rt, book, whose, path, room),
+        Err(why) => Err(why),
     }
 }
 
@@ -178,8 +179,8 @@ fn begin(book: &[u8], out: &mut [u8]) -> Result<usize, Stopped>
 
 // Says on standard error that the job starts anew, if what is due comes of another book than it was
 // begun with.
-pub fn tell_change<R: Complain>(rt: &R, due: Due, book_path: &[u8], path: &[u8]) {
-    if due == Due::Anew {
+pub fn tell_change<R: Complain>(rt: &R, due: Result<Due, Stopped>, book_path: &[u8], path: &[u8]) {
+    if let Ok(Due::Anew) = due {
         tell(rt, book_path, b" has changed since ", path);
         rt.complain(b" was begun: the job starts anew\n");
     }
@@ -192,7 +193,7 @@ pub fn wake<R: Files + RandomSource + Complain>(
     book: &[u8],
     from: &[u8],
     budget: u32,
-    due: Due,
+    due: Result<Due, Stopped>,
     whose: &[u8],
     path: &[u8],
     saved: &mut [u8],
@@ -210,17 +211,21 @@ pub fn wake<R: Files + RandomSource + Complain>(
 // another book, so that no stop leaves the two side by side.
 fn settle<R: Files + RandomSource + Complain>(
     rt: &R,
-    due: Due,
+    due: Result<Due, Stopped>,
     whose: &[u8],
     path: &[u8],
     book: &[u8],
-) -> io::Result<()> {
+) -> Result<(), Stopped>
+    ensures failed { IfErr result (λ e. e ≡ Failed) }
+{
     match due {
-        Due::Nothing => Ok(()),
-        Due::Copy => copy::keep(rt, whose, path, book),
-        Due::Anew => {
+        Ok(Due::Nothing) => {}
+        Ok(Due::Copy) => copy::keep(rt, whose, path, book)?,
+        Ok(Due::Anew) => {
             save::remove(rt, whose, path)?;
-            copy::keep(rt, whose, path, book)
+            copy::keep(rt, whose, path, book)?;
         }
+        Err(_) => return Err(Stopped::Failed),
     }
+    Ok(())
 }

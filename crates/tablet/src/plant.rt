@@ -56,7 +56,7 @@ fn ask_files<R: Files + Print + Alloc + RandomSource + Complain>(
     let n = files::read_book(rt, b"", plants::take_book(line), room, &mut real)?;
     let book = files::take_front(room, n);
     let path = plants::take_checkpoint(line);
-    let due = kept::find_due(rt, book, &real, whose, path, false)?;
+    let due = kept::find_due(rt, book, &real, whose, path, false);
     let mut held = [0u8; CHECKPOINT_ROOM];
     let n = kept::find_place(rt, book, due, whose, path, &mut held)?;
     let from = files::take_front(&held, n);
@@ -74,18 +74,18 @@ fn count<R: Files + Print + RandomSource + Complain>(
     whose: &[u8],
     book: &[u8],
     from: &[u8],
-    due: Due,
+    due: Result<Due, Stopped>,
     log: &mut Log,
 ) -> Result<u32, Stopped> {
     let left = job::report::count_left(book, from)?;
-    if left > 0 {
+    if left != 0 {
         return Ok(left);
     }
-    if due != Due::Nothing {
-        return wake(rt, line, whose, book, from, 0, due, log);
+    if let Ok(Due::Nothing) = due {
+        log.tell(rt, whose, progress::tell_turn(book, from, 0));
+        return Ok(0);
     }
-    log.tell(rt, whose, progress::tell_turn(book, from, 0));
-    Ok(0)
+    wake(rt, line, whose, book, from, 0, due, log)
 }
 
 fn wake<R: Files + Print + RandomSource + Complain>(
@@ -95,7 +95,7 @@ fn wake<R: Files + Print + RandomSource + Complain>(
     book: &[u8],
     from: &[u8],
     budget: u32,
-    due: Due,
+    due: Result<Due, Stopped>,
     log: &mut Log,
 ) -> Result<u32, Stopped> {
     let path = plants::take_checkpoint(line);

@@ -46,7 +46,7 @@ fn wake<R: Files + Print + Alloc + RandomSource + Complain>(
     let mut real = [0u8; PATH_ROOM];
     let n = files::read_book(rt, b"", book_path, room, &mut real)?;
     let book = files::take_front(room, n);
-    let due = kept::find_due(rt, book, &real, b"", path, anew)?;
+    let due = kept::find_due(rt, book, &real, b"", path, anew);
     let mut held = [0u8; files::CHECKPOINT_ROOM];
     let n = kept::find_place(rt, book, due, b"", path, &mut held)?;
     if !anew {
@@ -59,7 +59,7 @@ fn wake_from<R: Files + Print + RandomSource + Complain>(
     rt: &R,
     book: &[u8],
     from: &[u8],
-    due: Due,
+    due: Result<Due, Stopped>,
     path: &[u8],
     budget: u32,
 ) -> Result<Ended, Stopped> {
