@@ -1,14 +1,12 @@
 -- The sight of each answer and of each record, that it is of one answer only, and that a way through
 -- a book by steps ends, with a table that follows it. Assumes nothing.
-use Rattle.std.proofs.Common.{◌≡◌, ℕ, ◌+◌, ◌-◌, ◌<◌, ◌≤◌, eqb, ltb, List, length, replicate, sym, refl, ap, ◌∙◌, subst, arith, ltb-false, lt-ltb}
+use Rattle.std.proofs.Common.{◌≡◌, ℕ, ◌+◌, ◌-◌, ◌<◌, ◌≤◌, eqb, ltb, List, length, replicate, sym, refl, ap, ◌∙◌, subst, arith, ltb-false, lt-ltb, Option, Some, None, Result, Ok, Err}
 use Rattle.choice.specs.Tests.{choose}
 use Rattle.choice.proofs.Splitting.{if_test}
 use Rattle.choice.proofs.TestsLaws.{choose_t, choose_f, if_choose, worked-out}
 use Rattle.rules.specs.declared.book.Head.{Head}
 use Rattle.rules.specs.declared.book.Fault.{Fault}
 use Rattle.rules.specs.declared.book.Fault.TheVariants.{Length, Trailer, Units, Fuels}
-use Rattle.rules.specs.declared.reader.Seen.{Seen}
-use Rattle.rules.specs.declared.reader.Seen.TheVariants.{Refused, Missing, Record}
 use Rattle.rules.specs.Outcome.{Outcome}
 use Rattle.rules.specs.Bytes.{line, lines}
 use Rattle.rules.specs.Book.{unit_lines, Answer, refused, accepted, opened, fault_number}
@@ -22,17 +20,21 @@ use Rattle.rules.proofs.TableLaws.{known-blank, known_next}
 use Rattle.rules.proofs.RecordLaws.{bounded_outcome_at}
 
 -- ---- the sight of each answer
-pub sight-refused : (x : Fault) → sight (Refused x) ≡ turned_away (fault_number x)
+pub sight-refused : (x : Fault) → sight (Err x) ≡ turned_away (fault_number x)
 unfolding sight
 sight-refused x = refl
 
-pub sight-missing : sight Missing ≡ missing
+pub sight-missing : sight (Ok None) ≡ missing
 unfolding sight
 sight-missing = refl
 
-pub sight_record : (o : Outcome) → sight (Record o) ≡ shown o
+pub sight_record : (o : Outcome) → sight (Ok (Some o)) ≡ shown o
 unfolding sight
 sight_record o = refl
+
+-- What is seen of a sound book, by what is known of it.
+pub seen_known : {r : Result (Option Outcome) Fault} {x y : Option Outcome} → r ≡ Ok x → x ≡ y → r ≡ Ok y
+seen_known e d = e ∙ ap Ok d
 
 -- ---- a record of an accepted book
 pub sight_at-shown : (s : List ℕ) (h : Head) (i : ℕ) → opened s ≡ accepted h → i < h.n
@@ -55,25 +57,25 @@ module _ (P : Sight → Type 0) (s : List ℕ) (i : ℕ) where
 
 -- ---- one answer only
 -- What `look` gave, from the sight that it stands for.
-gave : Sight → Seen
+gave : Sight → Result (Option Outcome) Fault
 gave (turned_away n) =
-    choose (eqb n 20) (Refused Length)
-    (choose (eqb n 21) (Refused Trailer)
-    (choose (eqb n 22) (Refused Units)
-    (Refused Fuels)))
-gave missing = Missing
-gave (shown o) = Record o
+    choose (eqb n 20) (Err Length)
+    (choose (eqb n 21) (Err Trailer)
+    (choose (eqb n 22) (Err Units)
+    (Err Fuels)))
+gave missing = Ok None
+gave (shown o) = Ok (Some o)
 
-gave_sight : (r : Seen) → gave (sight r) ≡ r
+gave_sight : (r : Result (Option Outcome) Fault) → gave (sight r) ≡ r
 unfolding gave sight
-gave_sight (Refused Length) = simp worked-out
-gave_sight (Refused Trailer) = simp worked-out
-gave_sight (Refused Units) = simp worked-out
-gave_sight (Refused Fuels) = simp worked-out
-gave_sight Missing = refl
-gave_sight (Record o) = refl
+gave_sight (Err Length) = simp worked-out
+gave_sight (Err Trailer) = simp worked-out
+gave_sight (Err Units) = simp worked-out
+gave_sight (Err Fuels) = simp worked-out
+gave_sight (Ok None) = refl
+gave_sight (Ok (Some o)) = refl
 
-pub sight_inj : (r s : Seen) → sight r ≡ sight s → r ≡ s
+pub sight_inj : (r s : Result (Option Outcome) Fault) → sight r ≡ sight s → r ≡ s
 sight_inj r s e = sym (gave_sight r) ∙ ap gave e ∙ gave_sight s
 
 -- ---- a way through a book by steps

@@ -10,11 +10,10 @@
 --     advanced r        r at the place after its next
 --
 -- Definitions only.
-use Rattle.std.specs.Prelude.{ℕ, ◌+◌, ◌-◌, ◌/◌, List, length, nat_lt}
+use Rattle.std.specs.Prelude.{ℕ, ◌+◌, ◌-◌, ◌/◌, List, length, nat_lt, Option, Some, None, Result, Ok, Err}
 use Rattle.choice.specs.Tests.{choose}
 use Rattle.rules.specs.declared.reader.Reader.{Reader}
-use Rattle.rules.specs.declared.reader.Seen.{Seen}
-use Rattle.rules.specs.declared.reader.Seen.TheVariants.{Refused, Missing, Record}
+use Rattle.rules.specs.declared.book.Fault.{Fault}
 use Rattle.rules.specs.Outcome.{Outcome}
 use Rattle.rules.specs.Bytes.{line}
 use Rattle.rules.specs.Fields.{kind}
@@ -33,10 +32,10 @@ sight_by (accepted h) s i = choose (nat_lt i h.n) (shown (outcome_at h s i)) mis
 unfoldable pub sight_at : List ℕ → ℕ → Sight
 sight_at s i = sight_by (opened s) s i
 
-unfoldable pub sight : Seen → Sight
-sight (Refused x) = turned_away (fault_number x)
-sight Missing = missing
-sight (Record o) = shown o
+unfoldable pub sight : Result (Option Outcome) Fault → Sight
+sight (Err x) = turned_away (fault_number x)
+sight (Ok None) = missing
+sight (Ok (Some o)) = shown o
 
 unfoldable pub kind_at : List ℕ → ℕ → ℕ
 kind_at s i = choose (nat_lt i (length s / 32)) (kind (line i s)) 0

@@ -1,22 +1,14 @@
 // Records looked at one by one, of any bytes: a book that is unsound is told as such.
-ghost use Rattle.std.specs.Prelude.{◌≡◌, ◌-◌};
-ghost use Rattle.rules.specs.Book.{opened, accepted};
-ghost use Rattle.rules.specs.Reader.{sight_by, sight_at, sight, kind_at, left_from, place_after, advanced};
-ghost use Rattle.rules.specs.Table.{noting_by, noting_at, KnownAt};
+ghost use Rattle.std.specs.Prelude.{◌≡◌};
+ghost use Rattle.rules.specs.Reader.{sight_at, sight, kind_at, left_from, place_after, advanced};
+ghost use Rattle.rules.specs.Table.{noting_at, KnownAt};
 
-use crate::book::{Fault, Head};
+use crate::book::Fault;
 use crate::record::Outcome;
 use crate::{book, bytes, field, record};
 
-#[derive(Clone, Copy)]
-pub enum Seen {
-    // The bytes are no sound book.
-    Refused(Fault),
-    // The book has no such record.
-    Missing,
-    // What becomes of the record.
-    Record(Outcome),
-}
+// What is seen of a record: what becomes of it, or that the book has no such record, or why the bytes are no book.
+pub type Seen = Result<Option<Outcome>, Fault>;
 
 // A book and the place of the next record in it.
 #[derive(Drop)]
@@ -49,21 +41,11 @@ struct Onward {
 pub fn look(book: &[u8], i: usize) -> Seen
     ensures shown { sight result ≡ sight_at book.now i }
 {
-    match book::open(book) {
-        Err(fault) => Seen::Refused(fault),
-        Ok(h) => look_in(book, h, i),
+    let h = book::open(book)?;
+    if i < h.n {
+        return Ok(Some(record::judge(book, h, i)));
     }
-}
-
-fn look_in(book: &[u8], h: Head, i: usize) -> Seen
-    requires opened { opened book.now ≡ accepted h }
-    ensures shown { sight result ≡ sight_by (accepted h) book.now i }
-{
-    let n = h.n;
-    if i < n {
-        return Seen::Record(record::judge(book, h, i));
-    }
-    Seen::Missing
+    Ok(None)
 }
 
 // The same by a table of the records before, to which this one is added.
@@ -72,23 +54,11 @@ fn look_noted(book: &[u8], i: usize, table: &mut [u64]) -> Seen
     ensures shown { sight result ≡ sight_at book.now i }
     ensures noted { table.new ≡ noting_at book.now i table.old }
 {
-    match book::open(book) {
-        Err(fault) => Seen::Refused(fault),
-        Ok(h) => look_noted_in(book, h, i, table),
+    let h = book::open(book)?;
+    if i < h.n {
+        return Ok(Some(record::judge_next(book, h, i, book, book, table)));
     }
-}
-
-fn look_noted_in(book: &[u8], h: Head, i: usize, table: &mut [u64]) -> Seen
-    requires opened { opened book.now ≡ accepted h }
-    requires known { KnownAt book.now i table.old }
-    ensures shown { sight result ≡ sight_by (accepted h) book.now i }
-    ensures noted { table.new ≡ noting_by (accepted h) book.now i table.old }
-{
-    let n = h.n;
-    if i < n {
-        return Seen::Record(record::judge_next(book, h, i, book, book, table));
-    }
-    Seen::Missing
+    Ok(None)
 }
 
 fn find_kind(book: &[u8], i: usize) -> u8
@@ -106,17 +76,8 @@ pub(crate) fn count_from(book: &[u8], i: usize) -> usize
 {
     match book::open(book) {
         Err(_) => 0,
-        Ok(h) => count_between(i, h.n),
+        Ok(h) => h.n.saturating_sub(i),
     }
-}
-
-fn count_between(i: usize, n: usize) -> usize
-    ensures left { result ≡ n - i }
-{
-    if i < n {
-        return n - i;
-    }
-    0
 }
 
 // The place after i. From the book's length on, past any record, it stays where it is.

@@ -8,13 +8,12 @@ use native.Mathlib.Omega.{arith}
 use lib.Dec.{eqb}
 use lib.ListN.{length, length-append}
 use borrow.Author.Tests.{eq-eqb, ne_eqb}
-use Rattle.std.specs.Prelude.{Some, None}
+use Rattle.std.specs.Prelude.{Some, None, Ok, Err}
 use Rattle.std.specs.Cmp.Lexicographic.{pointwise}
 use Rattle.choice.specs.Tests.{choose}
 use Rattle.choice.proofs.Splitting.{if_test, if_eq}
 use Rattle.choice.proofs.TestsLaws.{also_t, also_f, choose_t, choose_f}
 use Rattle.rules.specs.declared.book.Fault.{Fault}
-use Rattle.rules.specs.declared.reader.Seen.TheVariants.{Refused, Missing, Record}
 use Rattle.rules.specs.Outcome.{Outcome}
 use Rattle.rules.specs.Bytes.{bytes_of}
 use Rattle.rules.specs.Book.{fault_number}
@@ -119,16 +118,16 @@ same-pointwise (x ∷ xs) (y ∷ ys) =
 
 -- ---- what is told of what was seen
 pub told_of-refused : {t : Told} {n : ℕ} (x : Fault) → n ≡ fault_number x → t ≡ uncounted n 0 0
-    → t ≡ told_of (sight (Refused x))
+    → t ≡ told_of (sight (Err x))
 unfolding told_of
 told_of-refused x e d =
     d ∙ ap (λ (n : ℕ). uncounted n 0 0) e ∙ ap told_of (sym (sight-refused x))
 
-pub told_of-missing : {t : Told} → t ≡ uncounted 0 0 255 → t ≡ told_of (sight Missing)
+pub told_of-missing : {t : Told} → t ≡ uncounted 0 0 255 → t ≡ told_of (sight (Ok None))
 unfolding told_of
 told_of-missing d = d ∙ ap told_of (sym sight-missing)
 
-pub told_of_record : {t : Told} (o : Outcome) → t ≡ told_of (shown o) → t ≡ told_of (sight (Record o))
+pub told_of_record : {t : Told} (o : Outcome) → t ≡ told_of (shown o) → t ≡ told_of (sight (Ok (Some o)))
 told_of_record o d = d ∙ ap told_of (sym (sight_record o))
 
 -- ---- how long what is told of a broken frame is at most

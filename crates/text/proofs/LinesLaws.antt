@@ -5,15 +5,12 @@ use mathlib.Core.Path.{◌≡◌, refl, ap, ◌∙◌}
 use native.Mathlib.Omega.{arith}
 use lib.Dec.{eqb}
 use borrow.Author.Tests.{eq-eqb, ne_eqb}
-use Rattle.std.specs.Prelude.{Ok, Err}
+use Rattle.std.specs.Prelude.{Ok, Err, Option, Some, None, Result}
 use Rattle.choice.proofs.TestsLaws.{choose_t, choose_f}
 use Rattle.rules.specs.declared.book.Fault.{Fault}
 use Rattle.rules.specs.declared.entry.Destination.{Destination}
 use Rattle.rules.specs.declared.entry.Destination.TheVariants.{Fossil, Biomass, Nowhere}
 use Rattle.rules.specs.declared.entry.Entry.{Entry}
-use Rattle.rules.specs.declared.reader.Seen.{Seen}
-use Rattle.rules.specs.declared.reader.Seen.TheVariants.{Refused, Missing, Record}
-use Rattle.rules.specs.declared.record.Reason.{Reason}
 use Rattle.rules.specs.Outcome.{reason_number, Outcome}
 use Rattle.rules.specs.Book.{fault_number}
 use Rattle.rules.specs.Reader.{Sight, turned_away, missing, shown, sight}
@@ -38,19 +35,19 @@ module _ (k m : ℕ) where
   method_text-hour e other = choose_t _ (eq-eqb m 0 e) (choose_f _ (ne_eqb k 4 other) refl)
 
 -- ---- what was seen
-module _ (i k : ℕ) {r : Seen} where
-  pub line_text-refused : (x : Fault) → r ≡ Refused x → line_text i k (sight r) ≡ refused_text (fault_number x) []
+module _ (i k : ℕ) {r : Result (Option Outcome) Fault} where
+  pub line_text-refused : (x : Fault) → r ≡ Err x → line_text i k (sight r) ≡ refused_text (fault_number x) []
   unfolding line_text
-  line_text-refused x e = ap (λ (s : Seen). line_text i k (sight s)) e ∙ ap (line_text i k) (sight-refused x)
+  line_text-refused x e = ap (λ (s : Result (Option Outcome) Fault). line_text i k (sight s)) e ∙ ap (line_text i k) (sight-refused x)
 
-  pub line_text-missing : r ≡ Missing → line_text i k (sight r) ≡ []
+  pub line_text-missing : r ≡ Ok None → line_text i k (sight r) ≡ []
   unfolding line_text
-  line_text-missing e = ap (λ (s : Seen). line_text i k (sight s)) e ∙ ap (line_text i k) sight-missing
+  line_text-missing e = ap (λ (s : Result (Option Outcome) Fault). line_text i k (sight s)) e ∙ ap (line_text i k) sight-missing
 
-  pub line_text_record : (o : Outcome) → r ≡ Record o
+  pub line_text_record : (o : Outcome) → r ≡ Ok (Some o)
       → line_text i k (sight r) ≡ field (ascii "record ") i ++ outcome_text k o ++ newline
   unfolding line_text
-  line_text_record o e = ap (λ (s : Seen). line_text i k (sight s)) e ∙ ap (line_text i k) (sight_record o)
+  line_text_record o e = ap (λ (s : Result (Option Outcome) Fault). line_text i k (sight s)) e ∙ ap (line_text i k) (sight_record o)
 
 -- ---- how long a line is at most
 method_text-le : (k m : ℕ) → AtMost 28 (method_text k m)

@@ -222,9 +222,9 @@ fn tell(seen: Seen) -> Told
     ensures told { result ≡ told_of (sight seen) }
 {
     match seen {
-        Seen::Refused(fault) => tell_uncounted(book::number_fault(fault) as u64, 0, 0),
-        Seen::Missing => tell_uncounted(0, 0, 255),
-        Seen::Record(o) => tell_outcome(o),
+        Err(fault) => tell_uncounted(book::number_fault(fault) as u64, 0, 0),
+        Ok(None) => tell_uncounted(0, 0, 255),
+        Ok(Some(o)) => tell_outcome(o),
     }
 }
 

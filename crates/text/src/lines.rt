@@ -28,9 +28,9 @@ fn say_seen(p: Page, i: usize, kind: u8, seen: Seen) -> Page
     ensures said { result ≡ extended p (line_text i kind (sight seen)) }
 {
     match seen {
-        Seen::Refused(fault) => report::say_fault(p, fault),
-        Seen::Missing => p,
-        Seen::Record(o) => say_record(p, i, kind, o),
+        Err(fault) => report::say_fault(p, fault),
+        Ok(None) => p,
+        Ok(Some(o)) => say_record(p, i, kind, o),
     }
 }
 

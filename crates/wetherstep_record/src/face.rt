@@ -34,9 +34,9 @@ fn tell_record(x: Seen, masses: &mut [u64; 3]) -> u64
     ensures masses { masses.new ≡ masses_after (sight x) masses.old }
 {
     match x {
-        Seen::Refused(fault) => pack(book::number_fault(fault), 0, 0, 0),
-        Seen::Missing => pack(ACCEPTED, 0, NO_RECORD, 0),
-        Seen::Record(o) => tell_outcome(o, masses),
+        Err(fault) => pack(book::number_fault(fault), 0, 0, 0),
+        Ok(None) => pack(ACCEPTED, 0, NO_RECORD, 0),
+        Ok(Some(o)) => tell_outcome(o, masses),
     }
 }
 
