@@ -24,7 +24,7 @@ use Rattle.rules.specs.Bytes.{line, lines, lines_in}
 use Rattle.rules.specs.Fields.{warming_set}
 use Rattle.rules.specs.Book.{length_ok, trailer_ok, unit_ok, fuel_ok, lines_sound, trailer, head_of, unit_lines, fuel_lines, refused, accepted, opened, SetApart}
 use Rattle.rules.specs.Record.{outcome_at}
-use Rattle.rules.specs.Reader.{shown, sight_at}
+use Rattle.rules.specs.Reader.{numbered, shown, sight_at}
 use Rattle.rules.specs.Right.{RightLines}
 use Rattle.rules.specs.Reason.{Reasons}
 use Rattle.rules.proofs.NumberLaws.{opened_20, opened_21, opened_22, opened_23, opened-number, opened-accepted}
@@ -171,7 +171,7 @@ pub record Demand2 (k : List ℕ) (h : Head) (c : List ℕ) : Type 0 where
   -- A record is set aside for the first reason that applies; if none does it gives, by its method, the masses of
   -- its amount, heat and carbon, or of its readings. `look` shows what becomes of it.
   pub records : (i : ℕ) → Reasons (lines i k) (line i k) (lines_in (unit_lines h k)) (lines_in (fuel_lines h k)) (outcome_at h k i)
-  pub looks : (i : ℕ) → i < h.n → sight_at k i ≡ shown (outcome_at h k i)
+  pub looks : (i : ℕ) → i < h.n → sight_at k i ≡ shown (numbered (outcome_at h k i))
   -- The ledgers are exact sums, in ng, of what each record gives by itself, at every place of them, of which fossil,
   -- biomass, ch4 and n2o are names, and those set aside are counted.
   pub ledger : (i : ℕ) → mass (decode c).masses i ≡ sum_to (λ j. mass (gives (outcome_at h k j)) i) (done_in c)

@@ -10,7 +10,7 @@ use Rattle.rules.specs.Bytes.{byte, word, part, lines, lines_in}
 use Rattle.rules.specs.Fields.{unit_start, fuel_start, year, warming_set_at, warming_set}
 use Rattle.rules.specs.Book.{longest_book, length_ok, starts_ok, trailer_ok, unit_ok, fuel_ok, lines_sound, trailer, head_of, unit_lines, fuel_lines, Answer, accepted, opened, SetApart}
 use Rattle.rules.specs.Record.{outcome_after, outcome_at}
-use Rattle.rules.specs.Reader.{shown, missing, sight_by, sight_at}
+use Rattle.rules.specs.Reader.{numbered, shown, missing, sight_by, sight_at}
 use Rattle.rules.proofs.BytesLaws.{word_same, byte-part, lines-suc}
 use Rattle.rules.proofs.NumberLaws.{opened-accepted}
 use Rattle.rules.proofs.BookLaws.{accepted_facts}
@@ -134,6 +134,6 @@ module _ {s s' : List ℕ} (apart : SetApart s s') where
     sight_at-apart named i =
         ap (λ (a : Answer). sight_by a s' i) (opened-apart named)
         ∙ if_lt i h.n
-        (λ l. ap (λ (o : Outcome). choose (ltb i h.n) (shown o) missing) (outcome_at-apart set' i l))
+        (λ l. ap (λ (o : Outcome). choose (ltb i h.n) (shown (numbered o)) missing) (outcome_at-apart set' i l))
         (λ l. choose_f _ (le-ltb i h.n l) (sym (choose_f _ (le-ltb i h.n l) refl)))
         ∙ sym (ap (λ (a : Answer). sight_by a s i) e)

@@ -12,7 +12,7 @@ use Rattle.rules.specs.Bytes.{line, lines}
 use Rattle.rules.specs.Book.{unit_lines, Answer, refused, accepted, opened, fault_number}
 use Rattle.rules.specs.Record.{outcome_at}
 use Rattle.rules.specs.Bounds.{Bounded}
-use Rattle.rules.specs.Reader.{Sight, turned_away, missing, shown, sight_by, sight_at, sight, left_by, left_from, place_after}
+use Rattle.rules.specs.Reader.{Shown, numbered, Sight, turned_away, missing, shown, sight_by, sight_at, sight, left_by, left_from, place_after}
 use Rattle.rules.specs.Table.{noting, noting_by, noting_at, Known, KnownAt}
 use Rattle.rules.proofs.BookLaws.{Accepted, accepted_facts}
 use Rattle.rules.proofs.NumberLaws.{opened-number}
@@ -28,17 +28,17 @@ pub sight-missing : sight (Ok None) ≡ missing
 unfolding sight
 sight-missing = refl
 
-pub sight_record : (o : Outcome) → sight (Ok (Some o)) ≡ shown o
+pub sight_record : (o : Shown) → sight (Ok (Some o)) ≡ shown o
 unfolding sight
 sight_record o = refl
 
 -- What is seen of a sound book, by what is known of it.
-pub seen_known : {r : Result (Option Outcome) Fault} {x y : Option Outcome} → r ≡ Ok x → x ≡ y → r ≡ Ok y
+pub seen_known : {r : Result (Option Shown) Fault} {x y : Option Shown} → r ≡ Ok x → x ≡ y → r ≡ Ok y
 seen_known e d = e ∙ ap Ok d
 
 -- ---- a record of an accepted book
 pub sight_at-shown : (s : List ℕ) (h : Head) (i : ℕ) → opened s ≡ accepted h → i < h.n
-    → sight_at s i ≡ shown (outcome_at h s i)
+    → sight_at s i ≡ shown (numbered (outcome_at h s i))
 unfolding sight_at sight_by
 sight_at-shown s h i e l =
     ap (λ (a : Answer). sight_by a s i) e ∙ choose_t missing (lt-ltb i h.n l) refl
@@ -46,7 +46,7 @@ sight_at-shown s h i e l =
 -- ---- what holds of every refusal, of no record, and of every outcome holds of every sight
 module _ (P : Sight → Type 0) (s : List ℕ) (i : ℕ) where
   pub sight_at-each : ((n : ℕ) → 20 ≤ n → n ≤ 23 → P (turned_away n)) → P missing
-      → ((o : Outcome) → Bounded o → P (shown o)) → P (sight_at s i)
+      → ((o : Outcome) → Bounded o → P (shown (numbered o))) → P (sight_at s i)
   unfolding sight_at sight_by
   sight_at-each refuse none show = at (opened s) refl
     where
@@ -57,7 +57,7 @@ module _ (P : Sight → Type 0) (s : List ℕ) (i : ℕ) where
 
 -- ---- one answer only
 -- What `look` gave, from the sight that it stands for.
-gave : Sight → Result (Option Outcome) Fault
+gave : Sight → Result (Option Shown) Fault
 gave (turned_away n) =
     choose (eqb n 20) (Err Length)
     (choose (eqb n 21) (Err Trailer)
@@ -66,7 +66,7 @@ gave (turned_away n) =
 gave missing = Ok None
 gave (shown o) = Ok (Some o)
 
-gave_sight : (r : Result (Option Outcome) Fault) → gave (sight r) ≡ r
+gave_sight : (r : Result (Option Shown) Fault) → gave (sight r) ≡ r
 unfolding gave sight
 gave_sight (Err Length) = simp worked-out
 gave_sight (Err Trailer) = simp worked-out
@@ -75,7 +75,7 @@ gave_sight (Err Fuels) = simp worked-out
 gave_sight (Ok None) = refl
 gave_sight (Ok (Some o)) = refl
 
-pub sight_inj : (r s : Result (Option Outcome) Fault) → sight r ≡ sight s → r ≡ s
+pub sight_inj : (r s : Result (Option Shown) Fault) → sight r ≡ sight s → r ≡ s
 sight_inj r s e = sym (gave_sight r) ∙ ap gave e ∙ gave_sight s
 
 -- ---- a way through a book by steps

@@ -1,5 +1,7 @@
 -- What is seen of a record of any bytes, book or not. RULES, "Numbers" and "Reasons".
 --
+--     Shown             what becomes of a record, a reason being told by its number
+--     numbered o        the outcome o told so
 --     sight_by a s i    the same as `sight_at`, of bytes s that were answered by a
 --     sight_at s i      the number that refuses s; or that it has no record i; or what becomes of it
 --     sight r           the number or outcome that r stands for
@@ -14,25 +16,33 @@ use Rattle.std.specs.Prelude.{ℕ, ◌+◌, ◌-◌, ◌/◌, List, length, nat_
 use Rattle.choice.specs.Tests.{choose}
 use Rattle.rules.specs.declared.reader.Reader.{Reader}
 use Rattle.rules.specs.declared.book.Fault.{Fault}
-use Rattle.rules.specs.Outcome.{Outcome}
+use Rattle.rules.specs.declared.entry.Entry.{Entry}
+use Rattle.rules.specs.Outcome.{reason_number, Outcome}
 use Rattle.rules.specs.Bytes.{line}
 use Rattle.rules.specs.Fields.{kind}
 use Rattle.rules.specs.Book.{Answer, refused, accepted, opened, fault_number}
 use Rattle.rules.specs.Record.{outcome_at}
 
+abbrev pub Shown : Type 0
+Shown = Result Entry ℕ
+
+unfoldable pub numbered : Outcome → Shown
+numbered (Ok e) = Ok e
+numbered (Err k) = Err (reason_number k)
+
 pub data Sight : Type 0 where
   turned_away : ℕ → Sight
   missing : Sight
-  shown : Outcome → Sight
+  shown : Shown → Sight
 
 unfoldable pub sight_by : Answer → List ℕ → ℕ → Sight
 sight_by (refused n) s i = turned_away n
-sight_by (accepted h) s i = choose (nat_lt i h.n) (shown (outcome_at h s i)) missing
+sight_by (accepted h) s i = choose (nat_lt i h.n) (shown (numbered (outcome_at h s i))) missing
 
 unfoldable pub sight_at : List ℕ → ℕ → Sight
 sight_at s i = sight_by (opened s) s i
 
-unfoldable pub sight : Result (Option Outcome) Fault → Sight
+unfoldable pub sight : Result (Option Shown) Fault → Sight
 sight (Err x) = turned_away (fault_number x)
 sight (Ok None) = missing
 sight (Ok (Some o)) = shown o

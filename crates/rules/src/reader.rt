@@ -1,14 +1,18 @@
 // Records looked at one by one, of any bytes: a book that is unsound is told as such.
 ghost use Rattle.std.specs.Prelude.{◌≡◌};
-ghost use Rattle.rules.specs.Reader.{sight_at, sight, kind_at, left_from, place_after, advanced};
+ghost use Rattle.rules.specs.Reader.{numbered, sight_at, sight, kind_at, left_from, place_after, advanced};
 ghost use Rattle.rules.specs.Table.{noting_at, KnownAt};
 
 use crate::book::Fault;
+use crate::entry::Entry;
 use crate::record::Outcome;
 use crate::{book, bytes, field, record};
 
+// What becomes of a record, a reason being told by its number.
+pub type Shown = Result<Entry, u8>;
+
 // What is seen of a record: what becomes of it, or that the book has no such record, or why the bytes are no book.
-pub type Seen = Result<Option<Outcome>, Fault>;
+pub type Seen = Result<Option<Shown>, Fault>;
 
 // A book and the place of the next record in it.
 #[derive(Drop)]
@@ -43,7 +47,7 @@ pub fn look(book: &[u8], i: usize) -> Seen
 {
     let h = book::open(book)?;
     if i < h.n {
-        return Ok(Some(record::judge(book, h, i)));
+        return Ok(Some(number(record::judge(book, h, i))));
     }
     Ok(None)
 }
@@ -56,9 +60,19 @@ fn look_noted(book: &[u8], i: usize, table: &mut [u64]) -> Seen
 {
     let h = book::open(book)?;
     if i < h.n {
-        return Ok(Some(record::judge_next(book, h, i, book, book, table)));
+        return Ok(Some(number(record::judge_next(book, h, i, book, book, table))));
     }
     Ok(None)
+}
+
+#[tactic(auto, unfolding(crate::specs::Reader::numbered))]
+fn number(o: Outcome) -> Shown
+    ensures numbered { result ≡ numbered o }
+{
+    match o {
+        Ok(e) => Ok(e),
+        Err(reason) => Err(record::number_reason(reason)),
+    }
 }
 
 fn find_kind(book: &[u8], i: usize) -> u8

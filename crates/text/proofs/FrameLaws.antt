@@ -14,10 +14,9 @@ use Rattle.choice.specs.Tests.{choose}
 use Rattle.choice.proofs.Splitting.{if_test, if_eq}
 use Rattle.choice.proofs.TestsLaws.{also_t, also_f, choose_t, choose_f}
 use Rattle.rules.specs.declared.book.Fault.{Fault}
-use Rattle.rules.specs.Outcome.{Outcome}
 use Rattle.rules.specs.Bytes.{bytes_of}
 use Rattle.rules.specs.Book.{fault_number}
-use Rattle.rules.specs.Reader.{shown, sight}
+use Rattle.rules.specs.Reader.{Shown, shown, sight}
 use Rattle.rules.proofs.BytesLaws.{length-bytes_of}
 use Rattle.rules.proofs.ReaderLaws.{sight-refused, sight-missing, sight_record}
 use Rattle.text.specs.declared.frame.Broken.{Broken}
@@ -127,7 +126,7 @@ pub told_of-missing : {t : Told} → t ≡ uncounted 0 0 255 → t ≡ told_of (
 unfolding told_of
 told_of-missing d = d ∙ ap told_of (sym sight-missing)
 
-pub told_of_record : {t : Told} (o : Outcome) → t ≡ told_of (shown o) → t ≡ told_of (sight (Ok (Some o)))
+pub told_of_record : {t : Told} (o : Shown) → t ≡ told_of (shown o) → t ≡ told_of (sight (Ok (Some o)))
 told_of_record o d = d ∙ ap told_of (sym (sight_record o))
 
 -- ---- how long what is told of a broken frame is at most

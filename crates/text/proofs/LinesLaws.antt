@@ -11,9 +11,8 @@ use Rattle.rules.specs.declared.book.Fault.{Fault}
 use Rattle.rules.specs.declared.entry.Destination.{Destination}
 use Rattle.rules.specs.declared.entry.Destination.TheVariants.{Fossil, Biomass, Nowhere}
 use Rattle.rules.specs.declared.entry.Entry.{Entry}
-use Rattle.rules.specs.Outcome.{reason_number, Outcome}
 use Rattle.rules.specs.Book.{fault_number}
-use Rattle.rules.specs.Reader.{Sight, turned_away, missing, shown, sight}
+use Rattle.rules.specs.Reader.{Shown, Sight, turned_away, missing, shown, sight}
 use Rattle.rules.proofs.ReaderLaws.{sight-refused, sight-missing, sight_record}
 use Rattle.text.specs.Words.{ascii, newline, field}
 use Rattle.text.specs.Report.{refused_text}
@@ -35,19 +34,19 @@ module _ (k m : ℕ) where
   method_text-hour e other = choose_t _ (eq-eqb m 0 e) (choose_f _ (ne_eqb k 4 other) refl)
 
 -- ---- what was seen
-module _ (i k : ℕ) {r : Result (Option Outcome) Fault} where
+module _ (i k : ℕ) {r : Result (Option Shown) Fault} where
   pub line_text-refused : (x : Fault) → r ≡ Err x → line_text i k (sight r) ≡ refused_text (fault_number x) []
   unfolding line_text
-  line_text-refused x e = ap (λ (s : Result (Option Outcome) Fault). line_text i k (sight s)) e ∙ ap (line_text i k) (sight-refused x)
+  line_text-refused x e = ap (λ (s : Result (Option Shown) Fault). line_text i k (sight s)) e ∙ ap (line_text i k) (sight-refused x)
 
   pub line_text-missing : r ≡ Ok None → line_text i k (sight r) ≡ []
   unfolding line_text
-  line_text-missing e = ap (λ (s : Result (Option Outcome) Fault). line_text i k (sight s)) e ∙ ap (line_text i k) sight-missing
+  line_text-missing e = ap (λ (s : Result (Option Shown) Fault). line_text i k (sight s)) e ∙ ap (line_text i k) sight-missing
 
-  pub line_text_record : (o : Outcome) → r ≡ Ok (Some o)
+  pub line_text_record : (o : Shown) → r ≡ Ok (Some o)
       → line_text i k (sight r) ≡ field (ascii "record ") i ++ outcome_text k o ++ newline
   unfolding line_text
-  line_text_record o e = ap (λ (s : Result (Option Outcome) Fault). line_text i k (sight s)) e ∙ ap (line_text i k) (sight_record o)
+  line_text_record o e = ap (λ (s : Result (Option Shown) Fault). line_text i k (sight s)) e ∙ ap (line_text i k) (sight_record o)
 
 -- ---- how long a line is at most
 method_text-le : (k m : ℕ) → AtMost 28 (method_text k m)
@@ -68,9 +67,9 @@ masses_text-le e =
     append-le (append-le (field-le (ascii " co2-ug ") e.co2.0) (field-le (ascii " ch4-ng ") e.ch4.0))
     (field-le (ascii " n2o-ng ") e.n2o.0)
 
-outcome_text-le : (k : ℕ) (o : Outcome) → AtMost 120 (outcome_text k o)
+outcome_text-le : (k : ℕ) (o : Shown) → AtMost 120 (outcome_text k o)
 unfolding outcome_text
-outcome_text-le k (Err r) = wider (field-le (ascii " reason ") (reason_number r)) (omega arith)
+outcome_text-le k (Err r) = wider (field-le (ascii " reason ") r) (omega arith)
 outcome_text-le k (Ok e) =
     append-le (append-le (method_text-le k e.method) (ledger_text-le e.destination)) (masses_text-le e)
 

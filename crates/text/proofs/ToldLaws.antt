@@ -13,9 +13,8 @@ use Rattle.rules.specs.declared.book.Head.{Head}
 use Rattle.rules.specs.declared.entry.Destination.{Destination}
 use Rattle.rules.specs.declared.entry.Destination.TheVariants.{Fossil, Biomass, Nowhere}
 use Rattle.rules.specs.declared.entry.Entry.{Entry}
-use Rattle.rules.specs.Outcome.{reason_number, Outcome}
 use Rattle.rules.specs.Book.{Answer, refused, accepted, opened}
-use Rattle.rules.specs.Reader.{Sight, turned_away, missing, shown}
+use Rattle.rules.specs.Reader.{Shown, Sight, turned_away, missing, shown}
 use Rattle.job.specs.State.{first}
 use Rattle.job.specs.Reply.{Reply, reply}
 use Rattle.job.specs.Wake.{if_open}
@@ -184,9 +183,9 @@ plain_masses_text e =
     let ch4 = plain_field (ascii " ch4-ng ") e.ch4.0 (simp worked-out) in
     plain_append (plain_append co2 ch4) (plain_field (ascii " n2o-ng ") e.n2o.0 (simp worked-out))
 
-plain_outcome_text : (k : ℕ) (o : Outcome) → Plain (outcome_text k o)
+plain_outcome_text : (k : ℕ) (o : Shown) → Plain (outcome_text k o)
 unfolding outcome_text
-plain_outcome_text k (Err r) = plain_field (ascii " reason ") (reason_number r) (simp worked-out)
+plain_outcome_text k (Err r) = plain_field (ascii " reason ") r (simp worked-out)
 plain_outcome_text k (Ok e) =
     plain_append (plain_append (plain_method_text k e.method) (plain_ledger_text e.destination)) (plain_masses_text e)
 

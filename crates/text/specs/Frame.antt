@@ -31,7 +31,6 @@ use Rattle.std.specs.Prelude.{ℕ, ◌+◌, ◌%◌, Bool, true, false, List, []
 use Rattle.choice.specs.Tests.{choose, ◌also◌, ◌either◌}
 use Rattle.rules.specs.declared.entry.Destination.{Destination}
 use Rattle.rules.specs.declared.entry.Destination.TheVariants.{Fossil, Biomass, Nowhere}
-use Rattle.rules.specs.Outcome.{reason_number}
 use Rattle.rules.specs.Bytes.{word, zeros, bytes_of}
 use Rattle.rules.specs.Reader.{Sight, turned_away, missing, shown}
 use Rattle.text.specs.declared.frame.Frame.{Frame}
@@ -156,7 +155,7 @@ uncounted number reason method = record {
 unfoldable pub told_of : Sight → Told
 told_of (turned_away n) = uncounted n 0 0
 told_of missing = uncounted 0 0 255
-told_of (shown (Err k)) = uncounted 0 (reason_number k) 0
+told_of (shown (Err k)) = uncounted 0 k 0
 told_of (shown (Ok e)) = record {
   number = 0;
   reason = 0;

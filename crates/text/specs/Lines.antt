@@ -12,8 +12,7 @@ use Rattle.choice.specs.Tests.{choose}
 use Rattle.rules.specs.declared.entry.Destination.{Destination}
 use Rattle.rules.specs.declared.entry.Destination.TheVariants.{Fossil, Biomass, Nowhere}
 use Rattle.rules.specs.declared.entry.Entry.{Entry}
-use Rattle.rules.specs.Outcome.{reason_number, Outcome}
-use Rattle.rules.specs.Reader.{Sight, turned_away, missing, shown}
+use Rattle.rules.specs.Reader.{Shown, Sight, turned_away, missing, shown}
 use Rattle.text.specs.Words.{ascii, newline, field}
 use Rattle.text.specs.Report.{refused_text}
 
@@ -34,8 +33,8 @@ masses_text e =
     ++ field (ascii " ch4-ng ") e.ch4.0
     ++ field (ascii " n2o-ng ") e.n2o.0
 
-unfoldable pub outcome_text : ℕ → Outcome → List ℕ
-outcome_text k (Err r) = field (ascii " reason ") (reason_number r)
+unfoldable pub outcome_text : ℕ → Shown → List ℕ
+outcome_text k (Err r) = field (ascii " reason ") r
 outcome_text k (Ok e) = method_text k e.method ++ ledger_text e.destination ++ masses_text e
 
 unfoldable pub line_text : ℕ → ℕ → Sight → List ℕ

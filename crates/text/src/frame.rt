@@ -9,11 +9,10 @@ ghost use Rattle.text.specs.Frame.{argument_ok, head_ok, call_of, frame_in, aske
 use crate::page::Page;
 use crate::{number, page};
 use mass::{Ng, Ug};
+use rules::book;
 use rules::bytes::{are_zero, read_word};
 use rules::entry::{Destination, Entry};
-use rules::reader::Seen;
-use rules::record::Outcome;
-use rules::{book, record};
+use rules::reader::{Seen, Shown};
 
 // What a frame calls.
 #[derive(Clone, Copy)]
@@ -228,11 +227,11 @@ fn tell(seen: Seen) -> Told
     }
 }
 
-fn tell_outcome(o: Outcome) -> Told
+fn tell_outcome(o: Shown) -> Told
     ensures told { result ≡ told_of (shown o) }
 {
     match o {
-        Err(reason) => tell_uncounted(0, record::number_reason(reason) as u64, 0),
+        Err(reason) => tell_uncounted(0, reason as u64, 0),
         Ok(e) => tell_counted(e),
     }
 }

@@ -9,9 +9,7 @@ ghost use Rattle.text.specs.Lines.{method_text, ledger_text, masses_text, outcom
 use crate::page::Page;
 use crate::{number, page, report};
 use rules::entry::{Destination, Entry};
-use rules::reader::Seen;
-use rules::record;
-use rules::record::Outcome;
+use rules::reader::{Seen, Shown};
 
 // The method of an hour and of anodes.
 const NO_METHOD: u8 = 0;
@@ -34,7 +32,7 @@ fn say_seen(p: Page, i: usize, kind: u8, seen: Seen) -> Page
     }
 }
 
-fn say_record(p: Page, i: usize, kind: u8, o: Outcome) -> Page
+fn say_record(p: Page, i: usize, kind: u8, o: Shown) -> Page
     ensures said { result ≡ extended p (field (ascii "record ") i ++ outcome_text kind o ++ newline) }
 {
     let q = number::say_field(p, b"record ", i as u64);
@@ -42,11 +40,11 @@ fn say_record(p: Page, i: usize, kind: u8, o: Outcome) -> Page
     page::say(q, b"\n")
 }
 
-fn say_outcome(p: Page, kind: u8, o: Outcome) -> Page
+fn say_outcome(p: Page, kind: u8, o: Shown) -> Page
     ensures said { result ≡ extended p (outcome_text kind o) }
 {
     match o {
-        Err(reason) => number::say_field(p, b" reason ", record::number_reason(reason) as u64),
+        Err(reason) => number::say_field(p, b" reason ", reason as u64),
         Ok(e) => say_entry(p, kind, e),
     }
 }

@@ -4,8 +4,6 @@ use mathlib.Core.List.{List}
 use mathlib.Core.Path.{◌≡◌, sym, ap, ◌∙◌}
 use Rattle.std.specs.Prelude.{Ok, Err}
 use Rattle.rules.specs.declared.entry.Entry.{Entry}
-use Rattle.rules.specs.declared.record.Reason.{Reason}
-use Rattle.rules.specs.Outcome.{reason_number}
 use Rattle.rules.specs.Reader.{Sight, turned_away, missing, shown}
 use Rattle.wetherstep.specs.Face.{packed}
 use Rattle.wetherstep_record.specs.Face.{no_record, ledger_number, record_word, masses_of, masses_after}
@@ -28,10 +26,10 @@ module _ {x : Sight} (e : x ≡ missing) where
   unfolding masses_after
   masses_after-missing ms = ap (λ (x : Sight). masses_after x ms) e
 
-module _ {x : Sight} {k : Reason} (e : x ≡ shown (Err k)) where
-  pub record_word_aside : {w n : ℕ} → n ≡ reason_number k → w ≡ packed 0 n 0 0 0 → w ≡ record_word x
+module _ {x : Sight} {k : ℕ} (e : x ≡ shown (Err k)) where
+  pub record_word_aside : {w : ℕ} → w ≡ packed 0 k 0 0 0 → w ≡ record_word x
   unfolding record_word
-  record_word_aside q p = p ∙ ap (λ (n : ℕ). packed 0 n 0 0 0) q ∙ ap record_word (sym e)
+  record_word_aside p = p ∙ ap record_word (sym e)
 
   pub masses_after_aside : (ms : List ℕ) → masses_after x ms ≡ ms
   unfolding masses_after

@@ -13,15 +13,14 @@ use Rattle.choice.proofs.TestsLaws.{also_t, also_f, choose_t, choose_f}
 use Rattle.rules.specs.declared.entry.Destination.{Destination}
 use Rattle.rules.specs.declared.entry.Destination.TheVariants.{Fossil, Biomass, Nowhere}
 use Rattle.rules.specs.declared.entry.Entry.{Entry}
-use Rattle.rules.specs.declared.record.Reason.{Reason}
-use Rattle.rules.specs.Outcome.{reason_number, reason_numbered, Outcome}
-use Rattle.rules.specs.Reader.{turned_away, missing, shown, sight_at}
+use Rattle.rules.specs.Outcome.{reason_number, Outcome}
+use Rattle.rules.specs.Reader.{numbered, turned_away, missing, shown, sight_at}
 use Rattle.rules.specs.Bounds.{Bounded}
-use Rattle.rules.proofs.OutcomeLaws.{reason_number-within, reason_numbered-number}
 use Rattle.rules.proofs.ReaderLaws.{sight_at-each}
 use Rattle.wetherstep.specs.Face.{packed}
 use Rattle.wetherstep.proofs.FaceLaws.{packed_sum}
 use Rattle.wetherstep.proofs.ToldLaws.{told_number-packed, told_reason-packed}
+use Rattle.rules.specs.Record.{last_reason}
 use Rattle.wetherstep_record.specs.Face.{no_record, ledger_number, record_word, masses_of, masses_after}
 use Rattle.wetherstep_record.specs.Told.{told_method, told_ledger, told_counts, destination_told, entry_told, record_told}
 
@@ -57,12 +56,11 @@ told_counts-missing =
     told_counts-packed 0 0 no_record 0 (lit< tt) (lit< tt) (lit< tt)
     ∙ also_t (also_t refl refl) refl
 
-told_counts_aside : (k : Reason) → told_counts (record_word (shown (Err k))) ≡ false
+told_counts_aside : (k : ℕ) → 1 ≤ k → k ≤ last_reason → told_counts (record_word (shown (Err k))) ≡ false
 unfolding record_word
-told_counts_aside k =
-    let within = reason_number-within k in
-    told_counts-packed 0 (reason_number k) 0 0 (lit< tt) (omega arith) (lit< tt)
-    ∙ also_f _ (also_t refl (ne_eqb (reason_number k) 0 (λ z. omega arith)))
+told_counts_aside k l m =
+    told_counts-packed 0 k 0 0 (lit< tt) (omega arith) (lit< tt)
+    ∙ also_f _ (also_t refl (ne_eqb k 0 (λ z. omega arith)))
 
 told_counts-counted : (e : Entry) → e.method ≤ 4 → told_counts (record_word (shown (Ok e))) ≡ true
 unfolding record_word
@@ -96,7 +94,7 @@ entry_told-counted e l =
 -- ---- what was seen is read back
 pub record_told-record_word : (k : List ℕ) (i : ℕ) (ms : List ℕ)
     → record_told (record_word (sight_at k i)) (masses_after (sight_at k i) ms) ≡ sight_at k i
-unfolding record_word masses_after record_told
+unfolding record_word masses_after record_told numbered
 record_told-record_word k i ms =
     sight_at-each (λ x. record_told (record_word x) (masses_after x ms) ≡ x) k i
     (λ n l m.
@@ -110,17 +108,18 @@ record_told-record_word k i ms =
     refl)))
     at
   where
-    at : (o : Outcome) → Bounded o → record_told (record_word (shown o)) (masses_after (shown o) ms) ≡ shown o
+    at : (o : Outcome) → Bounded o →
+        let x = shown (numbered o) in
+        record_told (record_word x) (masses_after x ms) ≡ x
     at (Err r) w =
         let least = w.0 in
         let most = w.1 in
         let n = reason_number r in
         let told = told_reason-packed 0 n 0 0 0 (lit< tt) (omega arith) in
-        choose_f _ (told_counts_aside r)
+        choose_f _ (told_counts_aside n least most)
         (choose_f _ (ap (ltb 0) (told_number-packed 0 n 0 0 0 (lit< tt)))
         (choose_t _ (ap (ltb 0) told ∙ lt-ltb 0 n (omega arith))
-        (ap (λ (x : ℕ). shown (Err (reason_numbered x))) told
-        ∙ ap (λ (x : Reason). shown (Err x)) (reason_numbered-number r))))
+        (ap (λ (x : ℕ). shown (Err x)) told)))
     at (Ok e) w =
         choose_t _ (told_counts-counted e w.0)
         (ap (λ (x : Entry). shown (Ok x)) (entry_told-counted e w.0))
@@ -128,13 +127,15 @@ record_told-record_word k i ms =
 -- ---- a record that doesn't count leaves the masses as they were
 pub masses_after-told : (k : List ℕ) (i : ℕ) (ms : List ℕ) → told_counts (record_word (sight_at k i)) ≡ false
     → masses_after (sight_at k i) ms ≡ ms
-unfolding masses_after
+unfolding masses_after numbered
 masses_after-told k i ms =
     sight_at-each (λ x. told_counts (record_word x) ≡ false → masses_after x ms ≡ ms) k i
     (λ n l m p. refl)
     (λ p. refl)
     at
   where
-    at : (o : Outcome) → Bounded o → told_counts (record_word (shown o)) ≡ false → masses_after (shown o) ms ≡ ms
+    at : (o : Outcome) → Bounded o →
+        let x = shown (numbered o) in
+        told_counts (record_word x) ≡ false → masses_after x ms ≡ ms
     at (Err r) w p = refl
     at (Ok e) w p = absurd (subst T (sym (told_counts-counted e w.0) ∙ p) tt)

@@ -12,7 +12,6 @@ use Rattle.std.specs.Prelude.{ℕ, List, [], ◌∷◌, Ok, Err}
 use Rattle.rules.specs.declared.entry.Destination.{Destination}
 use Rattle.rules.specs.declared.entry.Destination.TheVariants.{Fossil, Biomass, Nowhere}
 use Rattle.rules.specs.declared.entry.Entry.{Entry}
-use Rattle.rules.specs.Outcome.{reason_number}
 use Rattle.rules.specs.Reader.{Sight, turned_away, missing, shown}
 use Rattle.wetherstep.specs.Face.{packed}
 
@@ -28,7 +27,7 @@ ledger_number Nowhere = 0
 unfoldable pub record_word : Sight → ℕ
 record_word (turned_away n) = packed n 0 0 0 0
 record_word missing = packed 0 0 no_record 0 0
-record_word (shown (Err k)) = packed 0 (reason_number k) 0 0 0
+record_word (shown (Err k)) = packed 0 k 0 0 0
 record_word (shown (Ok e)) = packed 0 0 e.method (ledger_number e.destination) 0
 
 abbrev pub masses_of : Entry → List ℕ

@@ -13,7 +13,6 @@ use Rattle.choice.specs.Tests.{◌also◌, choose}
 use Rattle.rules.specs.declared.entry.Destination.{Destination}
 use Rattle.rules.specs.declared.entry.Destination.TheVariants.{Fossil, Biomass, Nowhere}
 use Rattle.rules.specs.declared.entry.Entry.{Entry}
-use Rattle.rules.specs.Outcome.{reason_numbered}
 use Rattle.rules.specs.Reader.{Sight, turned_away, missing, shown}
 use Rattle.wetherstep.specs.Told.{told_number, told_reason}
 use Rattle.wetherstep_record.specs.Face.{no_record}
@@ -43,5 +42,5 @@ unfoldable pub record_told : ℕ → List ℕ → Sight
 record_told w ms =
     choose (told_counts w) (shown (Ok (entry_told w ms)))
     (choose (nat_lt 0 (told_number w)) (turned_away (told_number w))
-    (choose (nat_lt 0 (told_reason w)) (shown (Err (reason_numbered (told_reason w))))
+    (choose (nat_lt 0 (told_reason w)) (shown (Err (told_reason w)))
     missing))

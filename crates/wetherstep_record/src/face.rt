@@ -6,9 +6,8 @@ ghost use Rattle.wetherstep.specs.Face.{packed};
 ghost use Rattle.wetherstep_record.specs.Face.{ledger_number, record_word, masses_of, masses_after};
 
 use rules::entry::{Destination, Entry};
-use rules::reader::Seen;
-use rules::record::Outcome;
-use rules::{book, reader, record};
+use rules::reader::{Seen, Shown};
+use rules::{book, reader};
 
 // What one of each field is worth in a word.
 const REASON_UNIT: u64 = 256;
@@ -40,12 +39,12 @@ fn tell_record(x: Seen, masses: &mut [u64; 3]) -> u64
     }
 }
 
-fn tell_outcome(o: Outcome, masses: &mut [u64; 3]) -> u64
+fn tell_outcome(o: Shown, masses: &mut [u64; 3]) -> u64
     ensures word { result ≡ record_word (shown o) }
     ensures masses { masses.new ≡ masses_after (shown o) masses.old }
 {
     match o {
-        Err(reason) => pack(ACCEPTED, record::number_reason(reason), 0, 0),
+        Err(reason) => pack(ACCEPTED, reason, 0, 0),
         Ok(e) => tell_counted(e, masses),
     }
 }

@@ -4,7 +4,7 @@ use Rattle.std.proofs.Common.{sym, refl, ap, ◌∙◌, arith, lt-ltb, le-ltb}
 use Rattle.std.proofs.lemmas.Result.{err_from_is_err_and}
 use Rattle.choice.proofs.TestsLaws.{choose_t, choose_f}
 use Rattle.rules.specs.Book.{Answer}
-use Rattle.rules.specs.Reader.{shown, sight_by, sight_at, sight}
+use Rattle.rules.specs.Reader.{numbered, shown, sight_by, sight_at, sight}
 use Rattle.rules.specs.Table.{noting_by, noting_at}
 use Rattle.rules.proofs.BookLaws.{opened_open, opened_wrong}
 use Rattle.rules.proofs.reader.look_noted.Goals as goal
@@ -34,7 +34,7 @@ pub returns-then-i-h-clause-shown : goal.returns-then-i-h-clause-shown
 unfolding sight_at sight_by sight
 returns-then-i-h-clause-shown c =
     let answered = opened_open _ c.open.ensures.answered c.in_ok-h.was in
-    sym (choose_t _ (lt-ltb _ _ c.if-i-h.true) (ap shown (sym c.judge_next.ensures.outcome)))
+    sym (choose_t _ (lt-ltb _ _ c.if-i-h.true) (ap shown (sym (c.number.ensures.numbered ∙ ap numbered c.judge_next.ensures.outcome))))
     ∙ sym (ap (λ (x : Answer). sight_by x c.args.book.now c.args.i) answered)
 
 pub returns-then-i-h-clause-noted : goal.returns-then-i-h-clause-noted

@@ -5,7 +5,7 @@ use Rattle.wetherstep_record.proofs.FaceLaws.{record_word_aside, masses_after_as
 use Rattle.wetherstep_record.proofs.face.tell_outcome.Goals as goal
 
 pub returns-in-Err-clause-word : goal.returns-in-Err-clause-word
-returns-in-Err-clause-word c = record_word_aside (ap shown c.in-Err.is) c.number_reason.ensures.number c.pack.ensures.word
+returns-in-Err-clause-word c = record_word_aside (ap shown c.in-Err.is) c.pack.ensures.word
 
 pub returns-in-Err-clause-masses : goal.returns-in-Err-clause-masses
 returns-in-Err-clause-masses c = sym (masses_after_aside (ap shown c.in-Err.is) _)
