@@ -66,18 +66,32 @@ def public_functions(root, crate):
     return functions_of(root, crate) if is_library(root, crate) else []
 
 
+def module_of(source, file):
+    return [part for part in file.relative_to(source).with_suffix("").parts if part != "lib"]
+
+
+def homes_of(source):
+    """Gives the module in which each type of a crate is declared: its methods go by that, wherever they stand."""
+    return {name: module_of(source, file)
+            for file in sorted(source.rglob("*.rt"))
+            for name in re.findall(r"^(?:pub(?:\(crate\))? )?(?:struct|enum) (\w+)",
+                                   without_comments(read(file), "//"), re.M)}
+
+
 def functions_of(root, crate):
     """Gives the functions of a crate that are marked as public."""
     source = root / "crates" / crate / "src"
+    homes = homes_of(source)
     header = r'^( *)pub (?:extern "" )?fn (\w+)([^{]*?)(?=\s*\{|\s+(?:ghost|requires|ensures)\b)'
     for file in sorted(source.rglob("*.rt")):
         text = without_comments(read(file), "//")
-        module = [part for part in file.relative_to(source).with_suffix("").parts if part != "lib"]
+        module = module_of(source, file)
         for found in re.finditer(header, text, re.M):
             types = re.findall(r"^impl\b(?:<.*?>)? (\w+)", text[:found.start()], re.M)
             owner = types[-1:] if found[1] else []
             takes, _, result = found[3].partition("->")
-            name = "::".join([crate, *module, *owner, found[2]])
+            home = homes.get(owner[0], module) if owner else module
+            name = "::".join([crate, *home, *owner, found[2]])
             lent = len(re.findall(r"&(?:'\w+ )?mut\b", takes))
             clauses = clauses_at(text, found.end())
             takes = "".join(takes.split()).replace(",)", ")")

@@ -3,28 +3,12 @@ use Prim.Native.Nat.{ℕ, zero, suc, ◌+◌, ◌*◌, ◌/◌, ◌%◌, ◌^◌
 use mathlib.Core.List.{List, [], ◌∷◌, ◌++◌, append-nil, append_assoc}
 use mathlib.Core.Path.{◌≡◌, refl, ap, ap₂, sym, ◌∙◌, subst}
 use native.Mathlib.Nat.{add-zero, mul-zero, pow-suc, div-one, div-div-eq-div-mul, le_of_suc-le-suc}
-use Rattle.std.specs.Int.{bytes_low_first}
 use native.Mathlib.Omega.{arith}
 use lib.ListN.{length, get_or, take, drop, length-append, drop_of_length-le, replicate, length-replicate, get_or-replicate, get_or-append, get_or-eq_default}
 use lib.Seq.{paste, take_all, take_at, drop_at, drop-append-add, drop-drop}
 use Rattle.choice.proofs.Splitting.{if_lt}
 use Rattle.rules.specs.Bytes.{word, bytes_of}
 use Rattle.rules.proofs.BytesLaws.{word_same, word-nil, word-drop, length-bytes_of, word-bytes_of, bytes_of-add}
-
--- ---- what is left of a number
-div_bytes : (v i : ℕ) → v / 256 ^ i / 256 ≡ v / 256 ^ suc i
-div_bytes v i = div-div-eq-div-mul v (256 ^ i) 256 ∙ ap (λ (m : ℕ). v / m) (sym (pow-suc 256 i))
-
--- ---- the bytes of a number as Rattle's library has them
-low_from : (i k v : ℕ) → bytes_low_first i k v ≡ bytes_of k (v / 256 ^ i)
-unfolding bytes_of
-low_from i zero v = refl
-low_from zero (suc k) v = ap₂ ◌∷◌ (ap (λ (m : ℕ). m % 256) (sym (div-one v))) (low_from 1 k v ∙ ap (bytes_of k) (sym (div_bytes v 0)))
-low_from (suc i) (suc k) v =
-    ap (λ (l : List ℕ). v / 256 ^ suc i % 256 ∷ l) (low_from (suc (suc i)) k v ∙ ap (bytes_of k) (sym (div_bytes v (suc i))))
-
-pub bytes_of-low : (n v : ℕ) → bytes_low_first 0 n v ≡ bytes_of n v
-bytes_of-low n v = low_from 0 n v ∙ ap (bytes_of n) (div-one v)
 
 -- ---- one number: d has v put in its n bytes from `at` on
 pub put_all : (d : List ℕ) (at n v : ℕ) → paste d at (bytes_of n v) n ≡ take at d ++ bytes_of n v ++ drop (at + n) d

@@ -120,7 +120,7 @@ same_refl (x ∷ xs) = also_t (eq-eqb x x refl) (same_refl xs)
 
 -- `==` compares as `same` does.
 pub same-pointwise : (xs ys : List ℕ) → same xs ys ≡ pointwise eqb xs ys
-unfolding same ◌also◌
+unfolding same
 same-pointwise [] [] = refl
 same-pointwise [] (y ∷ ys) = refl
 same-pointwise (x ∷ xs) [] = refl

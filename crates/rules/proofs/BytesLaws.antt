@@ -1,9 +1,10 @@
 -- Words by their bytes and by their parts, the bytes of a part and of a number, and lines one by one.
 -- Assumes nothing.
 use Rattle.std.proofs.Common.{◌≡◌, ℕ, zero, suc, ◌+◌, ◌-◌, ◌*◌, ◌/◌, ◌%◌, ◌^◌, ◌<◌, ◌≤◌, Bool, false, eqb, List, [], ◌∷◌, ◌++◌, length, take, drop, sym, refl, ap, ◌∙◌, subst, ap₂, zero-le, lt_of_lt_of_le, le_of_suc-le-suc, mul-le-mul_right, mul_assoc, mul-le-mul_left, one-mul, mul-zero, zero-add, mul-suc, div-one, add-one, arith, lit<, length-take, get_or-drop, drop-cons, get_or-take, drop-drop, pow-add, eq-eqb, ne_eqb, get_or}
-use native.Mathlib.Nat.{sub-zero, div-div-eq-div-mul, pow-succ', pow-le-pow_right}
+use native.Mathlib.Nat.{sub-zero, div-div-eq-div-mul, pow-suc, pow-succ', pow-le-pow_right}
 use lib.Bits.{bit_or, or_add_and, and_le_l, and_le_r}
 use lib.ListN.{get_or-eq_default}
+use Rattle.std.specs.Int.{bytes_low_first}
 use Rattle.std.specs.Simd.{first_chunks}
 use Rattle.choice.specs.Tests.{◌also◌}
 use Rattle.choice.proofs.Splitting.{if_eq, if_lt}
@@ -242,6 +243,21 @@ word_wide P l k m j n w p q past =
     let some : 1 ≤ word l j n = omega arith in
     let rises = mul-le-mul_left (256 ^ m) some in
     past (word l k w) (omega arith) ∙ sym (also_fail (P (word l k m)) (ne_eqb (word l j n) 0 z)))
+
+-- ---- what is left of a number
+div_bytes : (v i : ℕ) → v / 256 ^ i / 256 ≡ v / 256 ^ suc i
+div_bytes v i = div-div-eq-div-mul v (256 ^ i) 256 ∙ ap (λ (m : ℕ). v / m) (sym (pow-suc 256 i))
+
+-- ---- the bytes of a number as Rattle's library has them
+low_from : (i k v : ℕ) → bytes_low_first i k v ≡ bytes_of k (v / 256 ^ i)
+unfolding bytes_of
+low_from i zero v = refl
+low_from zero (suc k) v = ap₂ ◌∷◌ (ap (λ (m : ℕ). m % 256) (sym (div-one v))) (low_from 1 k v ∙ ap (bytes_of k) (sym (div_bytes v 0)))
+low_from (suc i) (suc k) v =
+    ap (λ (l : List ℕ). v / 256 ^ suc i % 256 ∷ l) (low_from (suc (suc i)) k v ∙ ap (bytes_of k) (sym (div_bytes v (suc i))))
+
+pub bytes_of-low : (n v : ℕ) → bytes_low_first 0 n v ≡ bytes_of n v
+bytes_of-low n v = low_from 0 n v ∙ ap (bytes_of n) (div-one v)
 
 -- ---- lines
 pub line-take : (k : ℕ) (s : List ℕ) → line k s ≡ take 32 (drop (32 * k) s)

@@ -7,10 +7,11 @@ use Rattle.choice.proofs.TestsLaws.{choose_t, choose_f, if_choose, worked-out}
 use Rattle.rules.specs.declared.book.Head.{Head}
 use Rattle.rules.specs.declared.book.Fault.{Fault}
 use Rattle.rules.specs.declared.book.Fault.TheVariants.{Length, Trailer, Units, Fuels}
-use Rattle.rules.specs.Outcome.{Outcome}
+use Rattle.rules.specs.declared.entry.Entry.{Entry}
+use Rattle.rules.specs.Outcome.{reason_number, Outcome}
 use Rattle.rules.specs.Bytes.{line, lines}
 use Rattle.rules.specs.Book.{unit_lines, Answer, refused, accepted, opened, fault_number}
-use Rattle.rules.specs.Record.{outcome_at}
+use Rattle.rules.specs.Record.{last_reason, outcome_at}
 use Rattle.rules.specs.Bounds.{Bounded}
 use Rattle.rules.specs.Reader.{Shown, numbered, Sight, turned_away, missing, shown, sight_by, sight_at, sight, left_by, left_from, place_after}
 use Rattle.rules.specs.Table.{noting, noting_by, noting_at, Known, KnownAt}
@@ -46,10 +47,14 @@ sight_at-shown s h i e l =
 -- ---- what holds of every refusal, of no record, and of every outcome holds of every sight
 module _ (P : Sight → Type 0) (s : List ℕ) (i : ℕ) where
   pub sight_at-each : ((n : ℕ) → 20 ≤ n → n ≤ 23 → P (turned_away n)) → P missing
-      → ((o : Outcome) → Bounded o → P (shown (numbered o))) → P (sight_at s i)
-  unfolding sight_at sight_by
-  sight_at-each refuse none show = at (opened s) refl
+      → ((k : ℕ) → 1 ≤ k → k ≤ last_reason → P (shown (Err k))) → ((e : Entry) → Bounded (Ok e) → P (shown (Ok e)))
+      → P (sight_at s i)
+  unfolding sight_at sight_by numbered
+  sight_at-each refuse none aside count = at (opened s) refl
     where
+      show : (o : Outcome) → Bounded o → P (shown (numbered o))
+      show (Err k) w = aside (reason_number k) w.0 w.1
+      show (Ok e) w = count e w
       at : (a : Answer) → opened s ≡ a → P (sight_by a s i)
       at (refused n) e = let range = opened-number s n e in refuse n range.0 range.1
       at (accepted h) e =

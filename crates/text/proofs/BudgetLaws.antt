@@ -31,8 +31,11 @@ is_digit-digit d l = also_t (le-leb 48 (48 + d) (omega arith)) (le-leb (48 + d) 
 
 -- The same as of std.
 pub is_digit-ascii : (b : ℕ) → is_ascii_digit b ≡ is_digit b
-unfolding is_digit ◌also◌
-is_digit-ascii b = if_test (leb 48 b) (λ e. rw e) (λ e. rw e)
+unfolding is_digit
+is_digit-ascii b =
+    if_test (leb 48 b)
+    (λ e. rw e (sym (also_t refl refl)))
+    (λ e. rw e (sym (also_f (leb b 57) refl)))
 
 -- ---- what is left: the budget that the digits of v and then those of w say
 unfoldable pub budget_from : ℕ → List ℕ → Option ℕ

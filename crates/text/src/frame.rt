@@ -122,7 +122,6 @@ fn take_frame(head: &[u8]) -> Frame
 }
 
 // The call of this number, 1 to 4.
-#[tactic(auto, unfolding(crate::specs::Frame::call_of, choice::specs::Tests::choose))]
 fn take_call(number: u64) -> Call
     ensures call { result ≡ call_of number }
 {

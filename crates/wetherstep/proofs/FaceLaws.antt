@@ -11,7 +11,7 @@ use Rattle.choice.proofs.TestsLaws.{also_t, also_f, choose_t, choose_f}
 use Rattle.mass.specs.declared.figures.Figures.{Figures}
 use Rattle.job.specs.declared.reply.Refusal.{Refusal}
 use Rattle.job.specs.Reply.{Reply, reply, figure_values, started, woken}
-use Rattle.job.proofs.ReplyLaws.{figure_values_six}
+use Rattle.job.proofs.ReplyLaws.{started-refused, started-fresh, woken-refused, woken-moved, figure_values_six}
 use Rattle.wetherstep.specs.Face.{packed, word_of, figures_after}
 
 -- ---- the word of its fields
@@ -35,9 +35,9 @@ module _ {r : Reply} {w n : ℕ} where
 
 -- A start has no value, and its word is that of the count 0.
 pub word_of-started : (r : Result (Unit {0}) Refusal) → word_of (woken (result_and r (Ok 0))) ≡ word_of (started r)
-unfolding word_of woken started
-word_of-started (Err x) = refl
-word_of-started (Ok _) = refl
+unfolding word_of
+word_of-started (Err x) = ap word_of (woken-refused x ∙ sym (started-refused x))
+word_of-started (Ok _) = ap word_of (woken-moved 0) ∙ sym (ap word_of started-fresh)
 
 -- ---- figures are written, and nothing else is
 pub figures_after-kept : {r : Reply} {n : ℕ} {vs : List ℕ} (fs : List ℕ) → r ≡ reply n vs

@@ -13,9 +13,7 @@ use Rattle.choice.proofs.TestsLaws.{also_t, also_f, choose_t, choose_f}
 use Rattle.rules.specs.declared.entry.Destination.{Destination}
 use Rattle.rules.specs.declared.entry.Destination.TheVariants.{Fossil, Biomass, Nowhere}
 use Rattle.rules.specs.declared.entry.Entry.{Entry}
-use Rattle.rules.specs.Outcome.{reason_number, Outcome}
-use Rattle.rules.specs.Reader.{numbered, turned_away, missing, shown, sight_at}
-use Rattle.rules.specs.Bounds.{Bounded}
+use Rattle.rules.specs.Reader.{turned_away, missing, shown, sight_at}
 use Rattle.rules.proofs.ReaderLaws.{sight_at-each}
 use Rattle.wetherstep.specs.Face.{packed}
 use Rattle.wetherstep.proofs.FaceLaws.{packed_sum}
@@ -94,7 +92,7 @@ entry_told-counted e l =
 -- ---- what was seen is read back
 pub record_told-record_word : (k : List ℕ) (i : ℕ) (ms : List ℕ)
     → record_told (record_word (sight_at k i)) (masses_after (sight_at k i) ms) ≡ sight_at k i
-unfolding record_word masses_after record_told numbered
+unfolding record_word masses_after record_told
 record_told-record_word k i ms =
     sight_at-each (λ x. record_told (record_word x) (masses_after x ms) ≡ x) k i
     (λ n l m.
@@ -106,36 +104,23 @@ record_told-record_word k i ms =
     (choose_f _ (ap (ltb 0) (told_number-packed 0 0 no_record 0 0 (lit< tt)))
     (choose_f _ (ap (ltb 0) (told_reason-packed 0 0 no_record 0 0 (lit< tt) (lit< tt)))
     refl)))
-    at
-  where
-    at : (o : Outcome) → Bounded o →
-        let x = shown (numbered o) in
-        record_told (record_word x) (masses_after x ms) ≡ x
-    at (Err r) w =
-        let least = w.0 in
-        let most = w.1 in
-        let n = reason_number r in
-        let told = told_reason-packed 0 n 0 0 0 (lit< tt) (omega arith) in
-        choose_f _ (told_counts_aside n least most)
-        (choose_f _ (ap (ltb 0) (told_number-packed 0 n 0 0 0 (lit< tt)))
-        (choose_t _ (ap (ltb 0) told ∙ lt-ltb 0 n (omega arith))
-        (ap (λ (x : ℕ). shown (Err x)) told)))
-    at (Ok e) w =
-        choose_t _ (told_counts-counted e w.0)
-        (ap (λ (x : Entry). shown (Ok x)) (entry_told-counted e w.0))
+    (λ k l m.
+    let told = told_reason-packed 0 k 0 0 0 (lit< tt) (omega arith) in
+    choose_f _ (told_counts_aside k l m)
+    (choose_f _ (ap (ltb 0) (told_number-packed 0 k 0 0 0 (lit< tt)))
+    (choose_t _ (ap (ltb 0) told ∙ lt-ltb 0 k (omega arith))
+    (ap (λ (x : ℕ). shown (Err x)) told))))
+    (λ e w.
+    choose_t _ (told_counts-counted e w.0)
+    (ap (λ (x : Entry). shown (Ok x)) (entry_told-counted e w.0)))
 
 -- ---- a record that doesn't count leaves the masses as they were
 pub masses_after-told : (k : List ℕ) (i : ℕ) (ms : List ℕ) → told_counts (record_word (sight_at k i)) ≡ false
     → masses_after (sight_at k i) ms ≡ ms
-unfolding masses_after numbered
+unfolding masses_after
 masses_after-told k i ms =
     sight_at-each (λ x. told_counts (record_word x) ≡ false → masses_after x ms ≡ ms) k i
     (λ n l m p. refl)
     (λ p. refl)
-    at
-  where
-    at : (o : Outcome) → Bounded o →
-        let x = shown (numbered o) in
-        told_counts (record_word x) ≡ false → masses_after x ms ≡ ms
-    at (Err r) w p = refl
-    at (Ok e) w p = absurd (subst T (sym (told_counts-counted e w.0) ∙ p) tt)
+    (λ k l m p. refl)
+    (λ e w p. absurd (subst T (sym (told_counts-counted e w.0) ∙ p) tt))

@@ -3,7 +3,8 @@ use Rattle.std.proofs.Common.{◌∙◌, sym, arith}
 use Rattle.std.proofs.lemmas.Slice.{put_mid-paste}
 use Rattle.rules.specs.Bytes.{bytes_of}
 use Rattle.rules.proofs.BytesLaws.{length-bytes_of}
-use Rattle.job.proofs.PutLaws.{bytes_of-low, put_all}
+use Rattle.rules.proofs.BytesLaws.{bytes_of-low}
+use Rattle.job.proofs.PutLaws.{put_all}
 use Rattle.job.proofs.put.put.Goals as goal
 
 pub returns : goal.returns
