@@ -12,7 +12,6 @@ use lib.Dec.{T, eqb}
 use lib.ListN.{length, take, drop, length-drop, drop_of_length-le}
 use lib.Seq.{take_all}
 use borrow.Author.Tests.{eq-eqb, ne_eqb, eqb-true, ltb-true, ltb-false}
-use Rattle.choice.specs.Tests.{◌also◌}
 use Rattle.choice.proofs.Splitting.{if_test, if_eq}
 use Rattle.choice.proofs.TestsLaws.{choose_t, choose_f, also_t, also_f, both}
 use Rattle.roster.specs.Bytes.{span, front, rest, same}

@@ -55,6 +55,7 @@ module _ (P : Sight → Type 0) (s : List ℕ) (i : ℕ) where
       show : (o : Outcome) → Bounded o → P (shown (numbered o))
       show (Err k) w = aside (reason_number k) w.0 w.1
       show (Ok e) w = count e w
+
       at : (a : Answer) → opened s ≡ a → P (sight_by a s i)
       at (refused n) e = let range = opened-number s n e in refuse n range.0 range.1
       at (accepted h) e =
