@@ -24,8 +24,8 @@
  * WHAT A CALL TAKES. The library keeps no state between calls, allocates nothing and doesn't call
  * the operating system. It is re-entrant: calls may run at once, each with buffers of its own to
  * write to, and may read the same book. Of the C library memset alone is linked. A call's stack in
- * bytes, measured by bench/run and not proved: fresh 464, wake 114,048, report 232, left 120,
- * record 136. So much a wake takes only where it goes through many records with an hour or anodes
+ * bytes, measured by bench/run and not proved: fresh 232, wake 114,048, report 232, left 120,
+ * record 144. So much a wake takes only where it goes through many records with an hour or anodes
  * among them, else 13,376, and of one record 528: a thread of 128 KiB has room for each.
  */
 #ifndef WETHERSTEP_H
