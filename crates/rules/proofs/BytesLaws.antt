@@ -1,6 +1,6 @@
 -- Words by their bytes and by their parts, the bytes of a part and of a number, and lines one by one.
 -- Assumes nothing.
-use Rattle.std.proofs.Common.{◌≡◌, ℕ, zero, suc, ◌+◌, ◌-◌, ◌*◌, ◌/◌, ◌%◌, ◌^◌, ◌<◌, ◌≤◌, Bool, false, eqb, List, [], ◌∷◌, ◌++◌, length, take, drop, sym, refl, ap, ◌∙◌, subst, ap₂, zero-le, lt_of_lt_of_le, le_of_suc-le-suc, mul-le-mul_right, mul_assoc, mul-le-mul_left, one-mul, mul-zero, zero-add, mul-suc, div-one, add-one, arith, lit<, length-take, get_or-drop, drop-cons, get_or-take, drop-drop, pow-add, eq-eqb, ne_eqb, get_or}
+use Rattle.std.proofs.Common.{◌≡◌, ℕ, zero, suc, ◌+◌, ◌-◌, ◌*◌, ◌/◌, ◌%◌, ◌^◌, ◌<◌, ◌≤◌, Bool, false, eqb, List, [], ◌∷◌, ◌++◌, length, take, drop, sym, refl, ap, ◌∙◌, subst, ap₂, zero-le, lt_of_lt_of_le, mul-le-mul_right, mul_assoc, mul-le-mul_left, one-mul, mul-zero, zero-add, mul-suc, div-one, add-one, arith, lit<, length-take, get_or-drop, drop-cons, get_or-take, drop-drop, pow-add, eq-eqb, ne_eqb, get_or}
 use native.Mathlib.Nat.{sub-zero, div-div-eq-div-mul, pow-suc, pow-succ', pow-le-pow_right}
 use lib.Bits.{bit_or, or_add_and, and_le_l, and_le_r}
 use lib.ListN.{get_or-eq_default}
@@ -117,15 +117,6 @@ pub length-bytes_of : (n v : ℕ) → length (bytes_of n v) ≡ n
 unfolding bytes_of
 length-bytes_of zero v = refl
 length-bytes_of (suc n) v = ap suc (length-bytes_of n (v / 256))
-
-pub byte-bytes_of : (n v i : ℕ) → i < n → byte (bytes_of n v) i ≡ v / 256 ^ i % 256
-unfolding bytes_of
-byte-bytes_of zero v i h = omega arith
-byte-bytes_of (suc n) v zero h = ap (λ (m : ℕ). m % 256) (sym (div-one v))
-byte-bytes_of (suc n) v (suc i) h =
-    byte-bytes_of n (v / 256) i (le_of_suc-le-suc h)
-    ∙ ap (λ (m : ℕ). m % 256) (div-div-eq-div-mul v 256 (256 ^ i))
-    ∙ ap (λ (m : ℕ). v / m % 256) (sym (pow-succ' 256 i))
 
 pub word-bytes_of : (n v : ℕ) → v < 256 ^ n → word (bytes_of n v) 0 n ≡ v
 unfolding bytes_of

@@ -10,7 +10,7 @@ use Rattle.rules.specs.Bytes.{line, lines}
 use Rattle.rules.specs.Fields.{kind, flags, unit_number, fuel_number, period}
 use Rattle.rules.specs.Repeat.{is_of, stands, stands_among}
 use Rattle.rules.specs.Key.{key, Start, Keyed, stands_in}
-use Rattle.rules.proofs.BytesLaws.{line-take, lines_start}
+use Rattle.rules.proofs.BytesLaws.{line-take}
 use Rattle.rules.proofs.RepeatLaws.{is_of_is, is_is_of}
 
 masked : (k g u f w : ℕ) → k < 256 → g < 256 → u < 65536 → f < 65536 → w < 65536
@@ -132,9 +132,6 @@ module _ (l : List ℕ) where
 
 -- What is left of the first n lines of s, from line j on.
 module _ (l s : List ℕ) (n : ℕ) where
-  pub scan_start : stands_among l (lines n s) ≡ stands_in l 0 (n - 0) s
-  scan_start = ap (stands_among l) (lines_start n s)
-
   module _ (j m : ℕ) {r : Bool} (h : j + m ≤ n) (e : r ≡ stands_in l j m s) where
     left : stands_in l j (n - j) s ≡ (r either stands_in l (j + m) (n - (j + m)) s)
     left =
