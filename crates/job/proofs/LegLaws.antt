@@ -184,6 +184,3 @@ pub record Onward (p d u : ℕ) : Type 0 where
 
 pub onward : {p d u : ℕ} → p ≤ d → d < u → Onward p d u
 onward l m = record { from = omega arith; on = omega arith; less = omega arith; next = omega arith }
-
-pub next_le : {d u n : ℕ} → d < u → u ≤ n → d + 1 ≤ n
-next_le l m = omega arith

@@ -50,14 +50,6 @@ pub reported-given : (f : Figures) → reported (Ok (Given f)) ≡ reply 0 (figu
 unfolding reported
 reported-given f = refl
 
-pub remaining-refused : (x : Refusal) → remaining (Err x) ≡ reply (refusal_number x) []
-unfolding remaining
-remaining-refused x = refl
-
-pub remaining_left : (m : ℕ) → remaining (Ok m) ≡ reply 0 (m ∷ [])
-unfolding remaining
-remaining_left m = refl
-
 -- An answer that is `Ok`, by what is known of the report in it.
 pub report_known : {r : Result Report Refusal} {p q : Report} → r ≡ Ok p → p ≡ q → r ≡ Ok q
 report_known e f = e ∙ ap Ok f

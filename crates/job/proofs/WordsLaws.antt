@@ -198,9 +198,6 @@ module _ {m : ℕ} (w : List ℕ) (kept : Kept m w) (e : Entry) (b : Bounded (Ok
   kept-given = kept_more (given w e) (omega arith) (kept-added twice n2o e.n2o.0 (lit< tt) kept_twice (mass-lt b.3))
 
   module _ (l : m ≤ carries) where
-    pub room_co2 : Room w (co2_place e.destination) co2
-    room_co2 = room w _ co2 place_lt kept (omega arith) co2_lt
-
     pub room_ch4 : Room once ch4 e.ch4.0
     room_ch4 = room once ch4 e.ch4.0 (lit< tt) kept_once (omega arith) (mass-lt b.2)
 
