@@ -12,7 +12,7 @@ use Rattle.choice.proofs.Splitting.{if_lt}
 use Rattle.choice.proofs.TestsLaws.{choose_t, choose_f}
 use Rattle.std.specs.Prelude.{Option, Some, None, is_some}
 use Rattle.queue.specs.declared.slots.Queue.{Queue}
-use Rattle.queue.specs.Slots.{slot_count, empty_queue, slot_at, is_free, left_in, free_at, stored}
+use Rattle.queue.specs.Slots.{slot_count, empty_queue, slot_at, is_free, left_in, stored}
 
 -- ---- one slot
 pub is_free_left : (s : Option ℕ) → 0 < left_in s → is_free s ≡ false
@@ -46,10 +46,6 @@ slot_at_beyond q i m =
 pub slot_at-lt : (q : Queue) (i : ℕ) → is_free (slot_at q i) ≡ false → i < slot_count
 slot_at-lt q i taken =
     if_lt i slot_count (λ l. l) (λ l. absurd (true≢false (sym (ap is_free (slot_at_past q i l)) ∙ taken)))
-
-pub free_at-lt : (q : Queue) (i : ℕ) → free_at q i ≡ false → i < slot_count
-unfolding free_at
-free_at-lt = slot_at-lt
 
 slot_at-length : (q : Queue) (i : ℕ) → is_free (slot_at q i) ≡ false → i < length q.slots
 slot_at-length q i taken =
