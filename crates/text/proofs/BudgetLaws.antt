@@ -9,7 +9,7 @@ use native.Mathlib.Omega.{arith}
 use lib.Dec.{leb}
 use lib.ListN.{length, get_or, drop, length-append, drop_of_length-le}
 use lib.Seq.{drop-cons}
-use borrow.Author.Tests.{le-leb, lt-leb, leb-true}
+use borrow.Author.Tests.{le-leb, lt-leb}
 use Rattle.choice.specs.Tests.{choose, ◌also◌}
 use Rattle.choice.proofs.Splitting.{if_test, if_lt}
 use Rattle.choice.proofs.TestsLaws.{also_t, also_f, also_l, also_r, choose_t, choose_f}
@@ -20,11 +20,6 @@ use Rattle.text.specs.Budget.{highest, is_digit, all_digits, value_from, value_o
 use Rattle.text.proofs.WordsLaws.{decimal-few, decimal_many}
 
 -- ---- a digit
-pub is_digit→within : (b : ℕ) → is_digit b ≡ true → (48 ≤ b) × (b ≤ 57)
-unfolding is_digit
-is_digit→within b h =
-    (leb-true 48 b (also_l (leb 48 b) (leb b 57) h), leb-true b 57 (also_r (leb 48 b) (leb b 57) h))
-
 is_digit-digit : (d : ℕ) → d < 10 → is_digit (digit d) ≡ true
 unfolding is_digit
 is_digit-digit d l = also_t (le-leb 48 (48 + d) (omega arith)) (le-leb (48 + d) 57 (omega arith))

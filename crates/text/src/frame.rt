@@ -189,7 +189,7 @@ fn tell_change(before: [u64; 6], after: [u64; 6]) -> u64
 struct Told {
     // 20 to 23 where the book is refused.
     number: u64,
-    // 1 to 7 where the record was set aside.
+    // 1 to 8 where the record was set aside.
     reason: u64,
     // 0 for an hour, 255 where there is no such record.
     method: u64,
