@@ -10,8 +10,8 @@ use Rattle.std.specs.Result.{result_and}
 use Rattle.choice.proofs.TestsLaws.{also_t, also_f, choose_t, choose_f}
 use Rattle.mass.specs.declared.figures.Figures.{Figures}
 use Rattle.job.specs.declared.reply.Refusal.{Refusal}
-use Rattle.job.specs.Reply.{Reply, reply, figure_values, started, woken}
-use Rattle.job.proofs.ReplyLaws.{started-refused, started-fresh, woken-refused, woken-moved, figure_values_six}
+use Rattle.job.specs.Reply.{Reply, reply, figure_values, started, woken, remaining}
+use Rattle.job.proofs.ReplyLaws.{started-refused, started-fresh, woken-refused, woken-moved, woken_remaining, figure_values_six}
 use Rattle.wetherstep.specs.Face.{packed, word_of, figures_after}
 
 -- ---- the word of its fields
@@ -34,10 +34,14 @@ module _ {r : Reply} {w n : ℕ} where
   word_of_aside e p = p ∙ ap word_of (sym e)
 
 -- A start has no value, and its word is that of the count 0.
-pub word_of-started : (r : Result (Unit {0}) Refusal) → word_of (woken (result_and r (Ok 0))) ≡ word_of (started r)
+pub word_of_started : (r : Result (Unit {0}) Refusal) → word_of (woken (result_and r (Ok 0))) ≡ word_of (started r)
 unfolding word_of
-word_of-started (Err x) = ap word_of (woken-refused x ∙ sym (started-refused x))
-word_of-started (Ok _) = ap word_of (woken-moved 0) ∙ sym (ap word_of started-fresh)
+word_of_started (Err x) = ap word_of (woken-refused x ∙ sym (started-refused x))
+word_of_started (Ok _) = ap word_of (woken-moved 0) ∙ sym (ap word_of started-fresh)
+
+-- A count of the records left has the reply of a wake that went through as many.
+pub word_of_left : (r : Result ℕ Refusal) → word_of (woken r) ≡ word_of (remaining r)
+word_of_left r = ap word_of (woken_remaining r)
 
 -- ---- figures are written, and nothing else is
 pub figures_after-kept : {r : Reply} {n : ℕ} {vs : List ℕ} (fs : List ℕ) → r ≡ reply n vs

@@ -21,6 +21,7 @@ const UNFINISHED: u8 = 40;
 
 const RECORD_ASIDE: u8 = 41;
 
+#[tactic(auto, using(crate::proofs::FaceLaws::word_of_started))]
 pub fn wetherstep_fresh(book: &[u8], out: &mut [u8]) -> u64
     ensures word { result ≡ word_of (fresh_reply book.now out.old) }
     ensures bytes { out.new ≡ fresh_bytes book.now out.old }
@@ -42,6 +43,7 @@ pub fn wetherstep_report(book: &[u8], checkpoint: &[u8], figures: &mut [u64; 6])
     tell_report(report::report(book, checkpoint), figures)
 }
 
+#[tactic(auto, using(crate::proofs::FaceLaws::word_of_left))]
 pub fn wetherstep_left(book: &[u8], checkpoint: &[u8]) -> u64
     ensures word { result ≡ word_of (left_reply book.now checkpoint.now) }
 {
