@@ -1,7 +1,7 @@
 -- What is told of each mistake and of each verdict on a list, and how long it is at most. Assumes nothing.
 use Prim.Native.Nat.{ℕ, ◌+◌}
 use mathlib.Core.List.{List, [], ◌++◌}
-use mathlib.Core.Path.{◌≡◌}
+use mathlib.Core.Path.{◌≡◌, refl, sym, ap, ◌∙◌}
 use native.Mathlib.Omega.{arith}
 use Rattle.roster.specs.declared.mistake.Mistake.{Mistake}
 use Rattle.roster.specs.declared.mistake.Mistake.TheVariants.{Comment, Return, Space, Long, Form}
@@ -24,27 +24,45 @@ module _ (p : Page) where
   unfolding wrong_text
   wrong_text_said i l e d s = rw (← e, ← d) s
 
+-- What is told of each verdict.
+module _ (t : List ℕ) {x : Result ℕ Fault} where
+  pub fault_text-plants : {n : ℕ} → x ≡ Ok n → fault_text t x ≡ []
+  unfolding fault_text
+  fault_text-plants e = ap (fault_text t) e
+
+  pub fault_text_wrong : {l : List ℕ} (i : ℕ) → l ≡ line_at i t → x ≡ Err (Wrong i) → fault_text t x ≡ wrong_text i l
+  unfolding fault_text
+  fault_text_wrong i e d = ap (fault_text t) d ∙ ap (wrong_text i) (sym e)
+
+  pub fault_text_again : {i : ℕ} → x ≡ Err (Again i)
+      → fault_text t x ≡ field (ascii "line ") (i + 1) ++ ascii " names a checkpoint again\n"
+  unfolding fault_text
+  fault_text_again e = ap (fault_text t) e
+
+  pub fault_text_many : x ≡ Err Many → fault_text t x ≡ ascii "more than 16 plants\n"
+  unfolding fault_text
+  fault_text_many e = ap (fault_text t) e
+
+-- What a page has once it is said.
+module _ (p : Page) where
   pub fault_text_right : (t : List ℕ) (n : ℕ) → p ≡ extended p (fault_text t (Ok n))
   unfolding fault_text
   fault_text_right t n = extended_none p
 
-  pub fault_text_wrong : {q : Page} {l : List ℕ} (t : List ℕ) (i : ℕ) → l ≡ line_at i t
+  pub fault_said_wrong : {q : Page} {l : List ℕ} (t : List ℕ) (i : ℕ) → l ≡ line_at i t
       → q ≡ extended p (wrong_text i l) → q ≡ extended p (fault_text t (Err (Wrong i)))
-  unfolding fault_text
-  fault_text_wrong t i e s = rw (← e) s
+  fault_said_wrong t i e s = s ∙ ap (extended p) (sym (fault_text_wrong t i e refl))
 
-  pub fault_text_again : {q : Page} {x : Result ℕ Fault} {f : Fault} {i : ℕ} (t : List ℕ) → x ≡ Err f → f ≡ Again i
+  pub fault_said_again : {q : Page} {x : Result ℕ Fault} {f : Fault} {i : ℕ} (t : List ℕ) → x ≡ Err f → f ≡ Again i
       → q ≡ extended p (field (ascii "line ") (i + 1) ++ ascii " names a checkpoint again\n")
       → q ≡ extended p (fault_text t x)
-  unfolding fault_text
-  fault_text_again t e d s = rw (e, d) s
+  fault_said_again t e d s = s ∙ ap (extended p) (sym (fault_text_again t (e ∙ ap Err d)))
 
-  pub fault_text_many : {q : Page} {x : Result ℕ Fault} {f : Fault} (t : List ℕ) → x ≡ Err f → f ≡ Many
+  pub fault_said_many : {q : Page} {x : Result ℕ Fault} {f : Fault} (t : List ℕ) → x ≡ Err f → f ≡ Many
       → q ≡ extended p (ascii "more than 16 plants\n") → q ≡ extended p (fault_text t x)
-  unfolding fault_text
-  fault_text_many t e d s = rw (e, d) s
+  fault_said_many t e d s = s ∙ ap (extended p) (sym (fault_text_many t (e ∙ ap Err d)))
 
-pub ruleset fault_steps = (wrong_text_said, fault_text_right, fault_text_wrong)
+pub ruleset fault_steps = (wrong_text_said, fault_text_right, fault_said_wrong)
 
 -- ---- how long it is at most
 mistake_text-le : (x : Mistake) → AtMost 53 (mistake_text x)
