@@ -6,6 +6,7 @@ use native.Mathlib.Nat.{add-zero, mul-zero, zero-mul, lt_of_lt_of_le}
 use native.Mathlib.Omega.{arith}
 use lib.ListN.{length, get_or, replicate}
 use Rattle.std.specs.Prelude.{Ok, Err}
+use Rattle.choice.proofs.Splitting.{if_eq}
 use Rattle.mass.specs.Ledger.{records_foreseen}
 use Rattle.rules.specs.declared.book.Head.{Head}
 use Rattle.rules.specs.declared.entry.Entry.{Entry}
@@ -16,7 +17,9 @@ use Rattle.rules.specs.Book.{fuel_lines}
 use Rattle.rules.specs.Record.{outcome_at}
 use Rattle.rules.specs.Bounds.{Bounded}
 use Rattle.job.specs.declared.counts.Aside.{Aside}
+use Rattle.job.specs.declared.counts.Counts.{Counts}
 use Rattle.job.specs.State.{mass, each, State, ledgers, gives, counted, after, sum_to}
+use Rattle.job.specs.Bounds.{CountsFit}
 use Rattle.job.specs.Words.{carries, carries_each, mass_at, counts_at, state_in, given, Kept}
 use Rattle.job.specs.Shares.{leg_records, pour_most, worth_of, fuel_shares, shares_at, most_in, Held}
 use Rattle.job.specs.Leg.{Took, TookShare}
@@ -29,6 +32,9 @@ use Rattle.job.proofs.SharesLaws.{held_more, shares_at-none}
 -- ---- counts fit 32 bits
 pub aside_lt : {a p n : ℕ} → a ≤ p → p < n → n ≤ records_foreseen → a < 4294967295
 aside_lt l m f = omega arith
+
+pub reason_lt : (h : Head) (c : Counts) → CountsFit h c → c.reason < 256
+reason_lt h c f = if_eq c.aside 0 (λ z. omega (arith, (f.none_first z).1)) (λ z. omega (arith, (f.some_first z).2))
 
 -- ---- a record that is judged by the book's lines
 pub took_aside : (h : Head) (k : List ℕ) (p : ℕ) (a : Aside) (w : List ℕ) (b : Aside) (r : Reason) → outcome_at h k p ≡ Err r

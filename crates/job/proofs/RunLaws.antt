@@ -21,8 +21,9 @@ use Rattle.job.proofs.PutLaws.{word_blank}
 use Rattle.job.proofs.StateLaws.{run_done, run-run, fit_for_run}
 use Rattle.job.proofs.CheckpointLaws.{sound_for_sound, fit_for_sound}
 use Rattle.job.proofs.WordsLaws.{mass_at-blank, kept-blank}
-use Rattle.job.proofs.WakeLaws.{records_le}
+use Rattle.job.proofs.WakeLaws.{records_le, head_fits}
 use Rattle.job.proofs.AdmissionLaws.{admitted_for_so}
+use Rattle.job.proofs.LegLaws.{reason_lt}
 
 -- ---- there is a next record while i of n are done
 pub next_run : {x : State} (h : Head) (k : List ℕ) (s : State) (n i : ℕ) → opened k ≡ accepted h → FitFor h s
@@ -161,6 +162,10 @@ module _ (h : Head) (k f : List ℕ) (o : opened k ≡ accepted h) (a : admitted
   fit_for_gone l =
       let place = g.place in
       subst (FitFor h) (sym g.state) (fit_for_run h k (begun f) (c.done - done_in f) o (omega arith) (fit_for_begun h f fit_for_decode))
+
+  pub fits_gone : c.done ≤ h.n → (h.length < 4294967296) × (h.year < 65536) × (c.reason < 256)
+  unfolding state_in
+  fits_gone l = let fit = head_fits k h o in (fit.0, fit.1, reason_lt h c (fit_for_gone l).counts_fit)
 
   pub light_gone : c.done ≤ h.n → Light f w
   unfolding decode state_on masses_on
