@@ -3,7 +3,7 @@
 use Prim.Native.Nat.{ℕ, zero, suc, ◌<◌}
 use mathlib.Core.List.{List, [], ◌∷◌, append-nil}
 use mathlib.Core.Path.{◌≡◌, refl, sym, ap, ◌∙◌, subst}
-use Rattle.std.specs.Prelude.{Result, Ok, Err}
+use Rattle.std.specs.Prelude.{Result, Ok, Err, MatchResult, IsErrAnd}
 use native.Mathlib.Nat.{le_of_lt}
 use native.Mathlib.Omega.{arith}
 use lib.ListN.{length, length-take, take-append-drop}
@@ -21,7 +21,7 @@ use Rattle.files.specs.declared.kept.Due.{Due}
 use Rattle.files.specs.declared.kept.Stopped.{Stopped}
 use Rattle.files.specs.declared.kept.Stopped.TheVariants.{Refused, Failed}
 use Rattle.files.specs.Put.{front}
-use Rattle.files.specs.Kept.{replied, placed, counting, anew_reply, anew_bytes, Found, Begun, FoundBy}
+use Rattle.files.specs.Kept.{replied, placed, counting, anew_reply, anew_bytes, Found, Begun, FoundBy, Saved}
 use Rattle.files.proofs.PutLaws.{drop_past}
 
 -- ---- what is said of a place is said of no other
@@ -122,3 +122,10 @@ module _ {s : Result ℕ Refusal} {w : Reply} (p : woken s ≡ w) where
 
   pub reply-moved : {m : ℕ} → s ≡ Ok m → w ≡ reply 0 (m ∷ [])
   reply-moved {m} e = sym p ∙ ap woken e ∙ woken-moved m
+
+-- What is passed up of it: its count, or its refusal.
+pub saved_passed : (s : Result ℕ Refusal) (r : Result ℕ Stopped) {w : Reply} → woken s ≡ w
+    → MatchResult s (λ m. r ≡ Ok m) (λ x. IsErrAnd r (λ y. y ≡ Refused x)) → Saved r w
+saved_passed (Ok m) r p e = rw e (reply-moved p refl)
+saved_passed (Err x) (Err y) p e = rw e (reply-refused p refl)
+saved_passed (Err x) (Ok m) p e = absurd e

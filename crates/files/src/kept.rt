@@ -201,7 +201,7 @@ pub fn wake<R: Files + RandomSource + Complain>(
     ensures saved { Saved result (wake_reply book.now from.now budget saved.old) }
     ensures bytes { saved.new ≡ wake_bytes book.now from.now budget saved.old }
 {
-    let moved = job::wake::wake(book, from, budget, saved)?;
+    let moved = job::wake::wake(book, from, budget, saved).map_err(Stopped::Refused)?;
     settle(rt, due, whose, path, book)?;
     save::save(rt, whose, path, saved, b"")?;
     Ok(moved)
