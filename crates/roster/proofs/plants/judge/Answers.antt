@@ -1,5 +1,5 @@
 -- Each answer is told of the line at the head of what is left. Assumes nothing.
-use Rattle.std.proofs.Common.{rules, arith, sym, refl, ◌<◌}
+use Rattle.std.proofs.Common.{rules, arith, sym, refl, ◌∙◌, ◌<◌}
 use Rattle.roster.specs.Plants.{verdict_on}
 use Rattle.roster.proofs.BytesLaws.{rest_lt}
 use Rattle.roster.proofs.VerdictLaws.{verdict_on_end, verdict_on-unended, verdict_on_many, verdict_on_wrong, verdict_on_again, verdict_on_next}
@@ -19,7 +19,8 @@ returns-in_default c =
     let at = c.loop-left in
     record {
       verdict =
-          verdict_on-unended _ at.i at.left.now at.invariant.1 c.in_default.ensures.cut (search rules) (grind arith);
+          search rules
+          ∙ verdict_on-unended _ at.i at.left.now at.invariant.1 c.in_default.ensures.cut (search rules) (grind arith);
     }
 
 pub returns-then-not-is_plant : goal.returns-then-not-is_plant
